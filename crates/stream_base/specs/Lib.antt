@@ -1,0 +1,6 @@
+pub mod Key
+pub mod KeyCells
+pub mod Limits
+pub mod Outside
+pub mod Memory
+pub mod MemFile
