@@ -4,3 +4,4 @@ pub mod Limits
 pub mod Outside
 pub mod Memory
 pub mod MemFile
+pub mod Model
