@@ -5,3 +5,5 @@ pub mod Aggregates
 pub mod Shapes
 pub mod Bundled
 pub mod BundleLaws
+pub mod Pairs
+pub mod Flat

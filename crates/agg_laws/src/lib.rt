@@ -5,6 +5,8 @@
 //! value of each function, a queue or a tree is its list, and each combine is counted as one step.
 #![tactic(auto)]
 
+mod agg_queue;
+mod agg_tree;
 mod bundle;
 mod count;
 mod first;
@@ -19,8 +21,12 @@ mod probes;
 mod rises;
 mod steps;
 mod sum;
+#[cfg(test)]
+mod tests;
 mod trace;
 
+pub use agg_queue::AggQueue;
+pub use agg_tree::AggTree;
 pub use bundle::Bundle;
 pub use count::Count;
 pub use first::First;
