@@ -1,1 +1,2 @@
 pub mod LimitFacts
+pub mod Rising
