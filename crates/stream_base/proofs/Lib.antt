@@ -1,1 +1,3 @@
 pub mod LimitFacts
+pub mod Rising
+pub mod Growing

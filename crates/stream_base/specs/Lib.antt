@@ -6,3 +6,4 @@ pub mod Memory
 pub mod MemFile
 pub mod Model
 pub mod Examples
+pub mod Laws
