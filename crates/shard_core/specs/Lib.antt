@@ -1,2 +1,3 @@
 pub mod Shard
 pub mod Emission
+pub mod Folding

@@ -1,7 +1,7 @@
 //! Emissions of a tumbling window where the watermark moves.
 ghost use Rattle.std.specs.Prelude.{◌≡◌, ◌≤◌, ◌+◌, ◌++◌, ◌∷◌, [], IfOk, OnOk, All};
 ghost use Rattle.stream_base.specs.Model.Windows.{starts_of, interval, spans};
-ghost use Rattle.shard_core.specs.Emission.{AreTimely, emissions_due, intervals_from};
+ghost use Rattle.shard_core.specs.Emission.{AreTimely, emissions_due};
 
 use crate::fold::fold_within;
 use agg_laws::Steps;
@@ -26,6 +26,7 @@ pub struct Move {
 
 /// Appends an emission for each instance of a tumbling window that comes to stand by a move of the
 /// watermark, in the order of their starts.
+#[tactic(auto, using(crate::proofs::Folds::emitted_all))]
 pub fn emit_spans<L>(
     alloc: Global,
     owner: Owner,
@@ -72,6 +73,7 @@ fn emit_span<L>(
     Ok(())
 }
 
+#[tactic(auto, using(crate::proofs::Folds::all_starts, crate::proofs::Folds::start_below))]
 fn starts_of(alloc: Global, length: u64, kept: &[Kept]) -> Result<BTreeSet<u64>, NoMemory>
     requires some { 1 ≤ length }
     requires timely { AreTimely kept.now }

@@ -1,8 +1,9 @@
 //! The fold of what is kept in an interval.
-ghost use Rattle.std.specs.Prelude.{◌≡◌, length};
-ghost use Rattle.stream_base.specs.Model.Windows.{within, is_within};
+ghost use Rattle.std.specs.Prelude.{◌≡◌, ◌+◌, ◌<◌, ◌^◌, length};
+ghost use Rattle.stream_base.specs.Model.Windows.{within};
 ghost use Rattle.agg_laws.specs.Bundled.{bundle_of};
 ghost use Rattle.shard_core.specs.Emission.{values_of};
+ghost use Rattle.shard_core.specs.Folding.{with_tuple};
 
 use agg_laws::{Bundle, Lift, Monoid, Steps};
 use stream_base::Kept;
@@ -15,23 +16,27 @@ pub struct Folded {
 }
 
 /// Folds the tuples with `low <= time < high` in event order, one step for each.
+#[tactic(auto, using(crate::proofs::Folds::folded_all))]
 pub fn fold_within<L>(low: u64, high: u64, kept: &[Kept], steps: &mut Steps<L>) -> Folded
     ensures number { result.number ≡ length (within low high kept.now) }
     ensures bundle { result.bundle ≡ bundle_of (values_of (within low high kept.now)) }
 {
-    let mut number: u64 = 0;
-    let mut bundle = Bundle::unit();
+    let mut folded = Folded {
+        number: 0,
+        bundle: Bundle::unit(),
+    };
     for x in kept {
-        if is_within(low, high, x) {
-            number += 1;
-            bundle = bundle.combine(&Bundle::lift(x.value), steps);
-        }
+        add_within(&mut folded, low, high, x, steps);
     }
-    Folded { number, bundle }
+    folded
 }
 
-fn is_within(low: u64, high: u64, x: &Kept) -> bool
-    ensures { result ≡ is_within low high x.now }
+fn add_within<L>(folded: &mut Folded, low: u64, high: u64, x: &Kept, steps: &mut Steps<L>)
+    requires { folded.old.number + 1 < 2 ^ 64 }
+    ensures { folded.new ≡ with_tuple low high folded.old x.now }
 {
-    low <= x.time && x.time < high
+    if low <= x.time && x.time < high {
+        folded.number += 1;
+        folded.bundle = folded.bundle.combine(&Bundle::lift(x.value), steps);
+    }
 }

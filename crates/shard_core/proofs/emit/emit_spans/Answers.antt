@@ -1,8 +1,23 @@
-use Rattle.std.proofs.Common.{rules, ◌≡◌, ◌≤◌, ◌+◌, ◌++◌, ◌∷◌, [], IfOk, OnOk, All, ℕ, ◌-◌, ◌*◌, ◌<◌, length, ◌/◌, ◌%◌, Bool, true, false, nat_eq, nat_lt, List, slice_index_or, slice_set, bit_and, bit_or, Fits, w8, w32, w64, Bor, MutBor}
-use Rattle.stream_base.specs.Model.Windows.{starts_of, interval, spans}
-use Rattle.shard_core.specs.Emission.{AreTimely, emissions_due, intervals_from}
+-- Each start appends its emission.
+use Rattle.std.proofs.Common.{◌∙◌, ◌++◌, ◌≤◌, sym, ap, append-nil}
+use Rattle.std.proofs.lemmas.List.Elements.{All-tail}
+use Rattle.stream_base.specs.declared.limits.TheConstants.{TIME_MAX}
+use Rattle.std.specs.List.{flat_map}
+use Rattle.stream_base.specs.Model.Windows.{starts_of}
+use Rattle.shard_core.specs.Emission.{emission_at}
+use Rattle.shard_core.proofs.Folds.{append_step, emitted_all}
 use Rattle.shard_core.proofs.emit.emit_spans.Goals as goal
 
--- src/emit.rt:44:5
 pub loop-low-preserved : goal.loop-low-preserved
-loop-low-preserved g c = ?
+loop-low-preserved g c =
+    let f = emission_at c.args.owner.window c.args.owner.key.now c.args.owner.func c.args.length c.args.water.old c.args.water.new c.args.kept.now in
+    record {
+      all = append_step f c.loop-low.out.items c.emit_span.new.out.items c.in-Some.low.now c.next.new.self c.in_ok-emit_span.ensures ∙ ap (λ lows. c.loop-low.out.items ++ flat_map f lows) (sym c.in-Some.ensures.steps) ∙ c.loop-low.invariant.all;
+      timely = All-tail (λ low. low ≤ TIME_MAX) c.in-Some.low.now c.next.new.self (rw c.in-Some.ensures.steps at c.loop-low.invariant.timely);
+    }
+
+pub returns : goal.returns
+returns g c =
+    let f = emission_at c.args.owner.window c.args.owner.key.now c.args.owner.func c.args.length c.args.water.old c.args.water.new c.args.kept.now in
+    sym (append-nil c.loop-low.out.items) ∙ ap (λ lows. c.loop-low.out.items ++ flat_map f lows) (sym c.in-None.ensures.steps.0) ∙ c.loop-low.invariant.all
+    ∙ ap (λ bs. c.args.out.now.items ++ bs) (emitted_all c.args.owner.window c.args.owner.key.now c.args.owner.func c.args.length c.args.water.old c.args.water.new c.args.kept.now)

@@ -1,22 +1,16 @@
--- A tuple of the interval moves from what is left into the fold; another changes nothing.
-use Rattle.std.proofs.Common.{◌≡◌, ◌∙◌, ◌+◌, length, map, sym, ap, refl, arith, omega, Some, None, true, false}
-use Rattle.std.specs.List.{fold}
-use Rattle.stream_base.specs.declared.kept.Kept.{Kept}
-use Rattle.stream_base.specs.Model.Windows.{is_within, within}
-use Rattle.agg_laws.specs.Bundled.{bundle_of_number, bundles_combined}
-use Rattle.agg_laws.proofs.Bundles.{total_of_bundles}
+-- At the end nothing is left to fold.
+use Rattle.std.proofs.Common.{◌≡◌, ◌∙◌, sym, ap, length}
+use Rattle.stream_base.specs.Model.Windows.{within}
+use Rattle.agg_laws.specs.Bundled.{bundle_of}
 use Rattle.shard_core.specs.Emission.{values_of}
-use Rattle.shard_core.proofs.Parts.{filter_takes, filter_passes}
+use Rattle.shard_core.specs.Folding.{with_tuple}
+use Rattle.shard_core.proofs.Folds.{fold_end, folded_all}
 use Rattle.shard_core.proofs.fold.fold_within.Goals as goal
-use Rattle.shard_core.proofs.fold.fold_within.Goals.{then-is_within, else-is_within}
 
-pub loop-x-init : goal.loop-x-init
-loop-x-init g c = record {
-  few = omega arith;
-  number = omega arith;
-  bundle = rw c.unit-bundle.ensures (total_of_bundles (values_of (within c.args.low c.args.high c.args.kept.now)));
-}
+pub returns-clause-number : goal.returns-clause-number
+returns-clause-number g c =
+    ap (λ f. f.number) (sym (fold_end (with_tuple c.args.low c.args.high) c.loop-x.folded c.args.kept.now c.loop-x.x-index c.loop-x-test.false) ∙ c.loop-x.invariant.all ∙ folded_all c.args.low c.args.high c.args.kept.now)
 
-pub loop-x-preserved : goal.loop-x-preserved
-loop-x-preserved g c =
-    elim c.if-is_within.branch [ then-is_within w ↦ ? | else-is_within w ↦ ? ]
+pub returns-clause-bundle : goal.returns-clause-bundle
+returns-clause-bundle g c =
+    ap (λ f. f.bundle) (sym (fold_end (with_tuple c.args.low c.args.high) c.loop-x.folded c.args.kept.now c.loop-x.x-index c.loop-x-test.false) ∙ c.loop-x.invariant.all ∙ folded_all c.args.low c.args.high c.args.kept.now)

@@ -1,14 +1,11 @@
--- The tuples so far, with those that are left, are all of the interval.
-use Rattle.std.proofs.Common.{◌≡◌, ◌≤◌, ◌+◌, drop, length, map}
+-- What is folded so far, with the tuples that are left, is all.
+use Rattle.std.proofs.Common.{◌≡◌, ◌≤◌, drop}
 use Rattle.std.specs.List.{fold}
-use Rattle.stream_base.specs.Model.Windows.{within}
-use Rattle.agg_laws.specs.Bundled.{bundle_of_number, bundles_combined, bundle_of}
-use Rattle.shard_core.specs.Emission.{values_of}
+use Rattle.shard_core.specs.Folding.{none_folded, with_tuple}
 use Rattle.shard_core.proofs.fold.fold_within.Given as goal
 
 abbrev pub invariant-loop-x : goal.invariant-loop-x
 invariant-loop-x g l = record {
-  few : l.number ≤ l.x-index;
-  number : l.number + length (within l.low l.high (drop l.x-index l.kept)) ≡ length (within l.low l.high l.kept);
-  bundle : fold bundles_combined l.bundle (map bundle_of_number (values_of (within l.low l.high (drop l.x-index l.kept)))) ≡ bundle_of (values_of (within l.low l.high l.kept));
+  few : l.folded.number ≤ l.x-index;
+  all : fold (with_tuple l.low l.high) l.folded (drop l.x-index l.kept) ≡ fold (with_tuple l.low l.high) none_folded l.kept;
 }
