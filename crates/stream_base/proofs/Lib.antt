@@ -1,3 +1,5 @@
 pub mod LimitFacts
 pub mod Rising
 pub mod Growing
+pub mod Members
+pub mod Spans
