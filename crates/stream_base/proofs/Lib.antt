@@ -3,3 +3,4 @@ pub mod Rising
 pub mod Growing
 pub mod Members
 pub mod Spans
+pub mod Distinct
