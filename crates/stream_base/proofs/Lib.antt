@@ -4,3 +4,4 @@ pub mod Growing
 pub mod Members
 pub mod Spans
 pub mod Distinct
+pub mod ChangeFacts
