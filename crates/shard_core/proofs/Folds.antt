@@ -14,7 +14,8 @@ use Rattle.stream_base.specs.Model.Windows.{Instance, interval, is_within, withi
 use Rattle.agg_laws.specs.Bundled.{bundle_of, bundle_of_number, bundles_combined}
 use Rattle.agg_laws.proofs.Bundles.{total_of_bundles}
 use Rattle.shard_core.specs.declared.fold.Folded.{Folded}
-use Rattle.shard_core.specs.Emission.{values_of, emissions_due, emission_at, is_due}
+use Rattle.shard_core.specs.Emission.{values_of, emissions_due, emission_at}
+use Rattle.stream_base.specs.Laws.{becomes_complete}
 use Rattle.shard_core.specs.Folding.{none_folded, with_tuple, with_start}
 
 -- what tuples add to a fold
@@ -68,9 +69,9 @@ emitted_from : (window : ℕ) (key : List ℕ) (func : Func) (l old new : ℕ) (
 emitted_from window key func l old new kept [] = refl
 emitted_from window key func l old new kept (low ∷ lows) =
     let i = interval low (low + l) kept in
-    let others = filter (is_due old new) (map (λ a. interval a (a + l) kept) lows) in
+    let others = filter (becomes_complete old new) (map (λ a. interval a (a + l) kept) lows) in
     let rest : flat_map (emission_at window key func l old new kept) lows ≡ map (λ j. New (row_of window key func j)) others = emitted_from window key func l old new kept lows in
-    elim (is_due old new i) as (λ b. map (λ j. New (row_of window key func j)) (cond b (i ∷ []) []) ++ flat_map (emission_at window key func l old new kept) lows ≡ map (λ j. New (row_of window key func j)) (cond b (i ∷ others) others)) [
+    elim (becomes_complete old new i) as (λ b. map (λ j. New (row_of window key func j)) (cond b (i ∷ []) []) ++ flat_map (emission_at window key func l old new kept) lows ≡ map (λ j. New (row_of window key func j)) (cond b (i ∷ others) others)) [
       | true ↦ ap (λ r. New (row_of window key func i) ∷ r) rest
       | false ↦ rest
     ]

@@ -1,10 +1,11 @@
 -- What a move of the watermark emits.
-use Rattle.std.specs.Prelude.{◌≤◌, ◌+◌, ◌&&◌, ℕ, ℤ, Bool, List, [], ◌∷◌, All, map, filter, nat_lt, nat_le}
+use Rattle.std.specs.Prelude.{◌≤◌, ◌+◌, ℕ, ℤ, List, [], ◌∷◌, All, map, filter}
 use Rattle.stream_base.specs.declared.limits.TheConstants.{TIME_MAX}
 use Rattle.stream_base.specs.declared.change.Change.{Change}
 use Rattle.stream_base.specs.declared.change.Change.TheVariants.{New}
 use Rattle.stream_base.specs.declared.func.Func.{Func}
 use Rattle.stream_base.specs.declared.kept.Kept.{Kept}
+use Rattle.stream_base.specs.Laws.{becomes_complete}
 use Rattle.stream_base.specs.Model.Changes.{row_of}
 use Rattle.stream_base.specs.Model.Windows.{Instance, interval}
 
@@ -16,13 +17,9 @@ AreTimely kept = All (λ x. x.time ≤ TIME_MAX) kept
 abbrev pub values_of : List Kept → List ℤ
 values_of kept = map (λ x. x.value) kept
 
--- an instance comes to stand by a move of the watermark
-abbrev pub is_due : ℕ → ℕ → Instance → Bool
-is_due old new i = nat_lt old i.bound && nat_le i.bound new
-
 -- the emissions of the instances that come to stand
 abbrev pub emissions_due : ℕ → List ℕ → Func → ℕ → ℕ → List Instance → List Change
-emissions_due window key func old new instances = map (λ i. New (row_of window key func i)) (filter (is_due old new) instances)
+emissions_due window key func old new instances = map (λ i. New (row_of window key func i)) (filter (becomes_complete old new) instances)
 
 -- the emission of the interval from one start, where it comes to stand
 abbrev pub emission_at : ℕ → List ℕ → Func → ℕ → ℕ → ℕ → List Kept → ℕ → List Change

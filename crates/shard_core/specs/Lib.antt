@@ -1,3 +1,5 @@
 pub mod Shard
 pub mod Emission
 pub mod Folding
+pub mod Past
+pub mod PastInside

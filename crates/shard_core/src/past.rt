@@ -1,0 +1,137 @@
+//! What is known of the entries so far: the journal, which of them were on time, and the sources'
+//! watermarks.
+ghost use Rattle.std.specs.Prelude.{◌≡◌, ◌<◌, ◌≤◌, ◌++◌, ◌∷◌, [], ℕ, length, IfOk, OnOk, OnErr, true, false, min, fold, All, set};
+ghost use Rattle.std.specs.List.{list_any};
+ghost use Rattle.stream_base.specs.declared.limits.TheConstants.{FINAL, TIME_MAX};
+ghost use Rattle.stream_base.specs.Model.Journal.{has_ended, is_late, kept_of, keys_of, source_water, water_of, water_time, waters_of};
+ghost use Rattle.stream_base.specs.Model.Journals.{is_entry_within};
+ghost use Rattle.shard_core.specs.Past.{AreKnown, recorded_with};
+
+use crate::recall;
+use std::alloc::Global;
+use std::collections::BTreeSet;
+use std::marker::Model;
+use stream_base::{Entry, FINAL, Kept, KeyText, NoMemory, What};
+
+/// A journal, with the entries that were on time at their own place and each source's watermark.
+/// Contracts see the lateness, the number of sources and the journal.
+#[derive(Drop)]
+pub struct Past {
+    lateness: u64,
+    journal: Vec<Entry>,
+    on_time: Vec<(u64, Entry)>,
+    waters: Vec<u64>,
+}
+
+impl Model for Past {
+    ghost use Rattle.shard_core.specs.Past.{Recorded};
+
+    ghost Value = { Recorded };
+
+    ghost use Rattle.shard_core.specs.PastInside.{recorded, IsPast};
+
+    ghost view = { recorded };
+
+    ghost invariant = { IsPast };
+}
+
+impl Past {
+    /// Nothing yet, under a lateness and for so many sources.
+    pub fn new(alloc: Global, lateness: u64, sources: u16) -> Result<Past, NoMemory>
+        ensures { IfOk result (λ past. past ≡ record { lateness = lateness; sources = sources; journal = [] }) }
+    {
+        Ok(Past {
+            lateness,
+            journal: Vec::new(alloc),
+            on_time: Vec::new(alloc),
+            waters: vec![in alloc; 0; sources as usize]?,
+        })
+    }
+
+    /// The entries, in order.
+    pub fn journal(&self) -> &[Entry]
+        ensures value { result.now ≡ self.now.journal }
+        ensures known { AreKnown self.now }
+    {
+        &self.journal
+    }
+
+    /// Whether a source has ended.
+    pub fn has_ended(&self, source: u16) -> bool
+        requires { source < self.now.sources }
+        ensures { result ≡ has_ended source self.now.journal }
+    {
+        self.waters[source as usize] == FINAL
+    }
+
+    /// The watermark.
+    pub fn water(&self) -> u64
+        ensures { result ≡ water_of self.now.sources self.now.journal }
+    {
+        least(&self.waters)
+    }
+
+    /// Whether a tuple or mark would be late.
+    pub fn is_late(&self, what: &What) -> bool
+        ensures { result ≡ is_late self.now.lateness (water_of self.now.sources self.now.journal) what.now }
+    {
+        match *what {
+            What::Tuple { time, .. } | What::Mark { time, .. } => {
+                time.saturating_add(self.lateness) < self.water()
+            }
+            What::Water { .. } | What::End => false,
+        }
+    }
+
+    /// The keys, in the order of their bytes.
+    pub fn keys(&self, alloc: Global) -> Result<BTreeSet<KeyText>, NoMemory>
+        ensures { IfOk result (λ keys. keys.keys ≡ keys_of self.now.journal) }
+    {
+        recall::keys_of(alloc, &self.journal)
+    }
+
+    /// What is kept of a key, in event order.
+    pub fn kept(&self, alloc: Global, key: &KeyText) -> Result<Vec<Kept>, NoMemory>
+        ensures { IfOk result (λ kept. kept.items ≡ kept_of self.now.lateness self.now.sources key.now self.now.journal) }
+    {
+        recall::kept_of(alloc, &self.on_time, key)
+    }
+
+    /// One entry more.
+    pub fn push(&mut self, entry: &Entry) -> Result<(), NoMemory>
+        requires source { entry.now.source < self.old.sources }
+        requires within { is_entry_within entry.now ≡ true }
+        ensures ok { OnOk result (self.new ≡ recorded_with self.old entry.now) }
+        ensures err { OnErr result (self.new ≡ self.old) }
+    {
+        self.journal.reserve(1)?;
+        self.on_time.reserve(1)?;
+        if !self.is_late(&entry.what) {
+            self.on_time
+                .push((self.journal.len() as u64, *entry))
+                .unwrap();
+        }
+        let source = entry.source as usize;
+        self.waters[source] = raised(self.waters[source], &entry.what);
+        self.journal.push(*entry).unwrap();
+        Ok(())
+    }
+}
+
+fn least(waters: &[u64]) -> u64
+    ensures { result ≡ fold min FINAL waters.now }
+{
+    let mut least = FINAL;
+    for water in waters {
+        least = least.min(*water);
+    }
+    least
+}
+
+fn raised(water: u64, what: &What) -> u64 {
+    match *what {
+        What::Tuple { .. } | What::Mark { .. } => water,
+        What::Water { time } => water.max(time),
+        What::End => FINAL,
+    }
+}
