@@ -5,3 +5,4 @@ pub mod Members
 pub mod Spans
 pub mod Distinct
 pub mod ChangeFacts
+pub mod EventOrder

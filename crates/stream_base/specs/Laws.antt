@@ -1,7 +1,7 @@
 -- The words of the laws about journals, windows and changes.
 use Rattle.std.specs.Prelude.{◌&&◌, ℕ, Bool, List, [], ◌∷◌, length, map, filter, Option, None, if◌then◌else◌, nat_lt, nat_le}
-use Rattle.std.specs.List.Sorted.{IsStrictlySortedBy}
-use Rattle.std.specs.Ordering.{nat_cmp}
+use Rattle.std.specs.List.Sorted.{IsNonDecreasingBy, IsStrictlySortedBy}
+use Rattle.std.specs.Ordering.{nat_cmp, ordering_then}
 use Rattle.std.specs.declared.cmp.Ordering.{Ordering}
 use Rattle.stream_base.specs.declared.change.Change.{Change}
 use Rattle.stream_base.specs.declared.change.Change.TheVariants.{New}
@@ -43,3 +43,15 @@ becomes_complete old new i = nat_lt old i.bound && nat_le i.bound new
 abbrev pub completions : List ℕ → Moment → ℕ → ℕ × Def → List Change
 completions key m new (window, def) =
     map (λ i. New (row_of window key def.func i)) (filter (becomes_complete m.water new) (instances_of def.kind m.kept m.marks))
+
+-- two tuples compared by time, and then by position
+abbrev pub by_time_and_position : Kept → Kept → Ordering
+by_time_and_position x y = ordering_then (nat_cmp x.time y.time) (nat_cmp x.position y.position)
+
+-- the tuples are in event order: by time, then by position, each once
+abbrev pub AreInEventOrder : List Kept → Type 0
+AreInEventOrder kept = IsStrictlySortedBy by_time_and_position kept
+
+-- the times of the tuples don't fall
+abbrev pub TimesDoNotFall : List Kept → Type 0
+TimesDoNotFall kept = IsNonDecreasingBy (λ x. x.time) kept
