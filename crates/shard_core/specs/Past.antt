@@ -1,6 +1,9 @@
 -- What is known of the entries so far.
-use Rattle.std.specs.Prelude.{◌≡◌, ◌<◌, ◌++◌, ℕ, true, List, [], ◌∷◌, length, All}
+use Rattle.std.specs.Prelude.{◌≡◌, ◌<◌, ◌++◌, ℕ, true, max, List, [], ◌∷◌, length, All}
 use Rattle.stream_base.specs.declared.entry.Entry.{Entry}
+use Rattle.stream_base.specs.declared.limits.TheConstants.{FINAL}
+use Rattle.stream_base.specs.declared.what.What.{What}
+use Rattle.stream_base.specs.declared.what.What.TheVariants.{Tuple, Mark, Water, End}
 use Rattle.stream_base.specs.Model.Journals.{is_entry_within}
 
 -- a journal, under a lateness and for so many sources
@@ -17,3 +20,10 @@ recorded_with r e = record { lateness = r.lateness; sources = r.sources; journal
 pub record AreKnown (r : Recorded) : Type 0 where
   pub sources : All (λ e. e.source < r.sources) r.journal
   pub within : All (λ e. is_entry_within e ≡ true) r.journal
+
+-- the watermark of a source after one of its entries
+abbrev pub raised : ℕ → What → ℕ
+raised water (Tuple key time value) = water
+raised water (Mark key time) = water
+raised water (Water time) = max water time
+raised water End = FINAL

@@ -1,11 +1,9 @@
 //! What is known of the entries so far: the journal, which of them were on time, and the sources'
 //! watermarks.
-ghost use Rattle.std.specs.Prelude.{◌≡◌, ◌<◌, ◌≤◌, ◌++◌, ◌∷◌, [], ℕ, length, IfOk, OnOk, OnErr, true, false, min, fold, All, set};
-ghost use Rattle.std.specs.List.{list_any};
-ghost use Rattle.stream_base.specs.declared.limits.TheConstants.{FINAL, TIME_MAX};
-ghost use Rattle.stream_base.specs.Model.Journal.{has_ended, is_late, kept_of, keys_of, source_water, water_of, water_time, waters_of};
+ghost use Rattle.std.specs.Prelude.{◌≡◌, ◌<◌, ◌≤◌, ◌++◌, ◌∷◌, [], IfOk, OnOk, OnErr, true, min, fold, slice_index, slice_set as set, vec_len, vec_capacity, if◌then◌else◌};
+ghost use Rattle.stream_base.specs.Model.Journal.{has_ended, is_late, kept_of, keys_of, water_of};
 ghost use Rattle.stream_base.specs.Model.Journals.{is_entry_within};
-ghost use Rattle.shard_core.specs.Past.{AreKnown, recorded_with};
+ghost use Rattle.shard_core.specs.Past.{AreKnown, raised, recorded_with};
 
 use crate::recall;
 use std::alloc::Global;
@@ -65,8 +63,10 @@ impl Past {
     }
 
     /// The watermark.
+    #[tactic(auto, unfolding(stream_base::specs::Model::Journal::water_of))]
     pub fn water(&self) -> u64
-        ensures { result ≡ water_of self.now.sources self.now.journal }
+        ensures value { result ≡ water_of self.now.sources self.now.journal }
+        ensures small { result ≤ FINAL }
     {
         least(&self.waters)
     }
@@ -91,6 +91,7 @@ impl Past {
     }
 
     /// What is kept of a key, in event order.
+    #[tactic(auto, unfolding(stream_base::specs::Model::Journal::kept_of))]
     pub fn kept(&self, alloc: Global, key: &KeyText) -> Result<Vec<Kept>, NoMemory>
         ensures { IfOk result (λ kept. kept.items ≡ kept_of self.now.lateness self.now.sources key.now self.now.journal) }
     {
@@ -104,22 +105,20 @@ impl Past {
         ensures ok { OnOk result (self.new ≡ recorded_with self.old entry.now) }
         ensures err { OnErr result (self.new ≡ self.old) }
     {
+        let late = self.is_late(&entry.what);
         self.journal.reserve(1)?;
         self.on_time.reserve(1)?;
-        if !self.is_late(&entry.what) {
-            self.on_time
-                .push((self.journal.len() as u64, *entry))
-                .unwrap();
-        }
-        let source = entry.source as usize;
-        self.waters[source] = raised(self.waters[source], &entry.what);
-        self.journal.push(*entry).unwrap();
+        let position = self.journal.len() as u64;
+        note_on_time(&mut self.on_time, position, entry, late);
+        raise(&mut self.waters, entry);
+        self.journal.push_reserved(*entry);
         Ok(())
     }
 }
 
 fn least(waters: &[u64]) -> u64
-    ensures { result ≡ fold min FINAL waters.now }
+    ensures value { result ≡ fold min FINAL waters.now }
+    ensures small { result ≤ FINAL }
 {
     let mut least = FINAL;
     for water in waters {
@@ -128,7 +127,26 @@ fn least(waters: &[u64]) -> u64
     least
 }
 
-fn raised(water: u64, what: &What) -> u64 {
+fn note_on_time(on_time: &mut Vec<(u64, Entry)>, position: u64, entry: &Entry, late: bool)
+    requires { vec_len on_time.old < vec_capacity on_time.old }
+    ensures { on_time.new.items ≡ on_time.old.items ++ (if late then [] else (position, entry.now) ∷ []) }
+{
+    if !late {
+        on_time.push_reserved((position, *entry));
+    }
+}
+
+fn raise(waters: &mut Vec<u64>, entry: &Entry)
+    requires { entry.now.source < vec_len waters.old }
+    ensures { waters.new.items ≡ set waters.old.items entry.now.source (raised (slice_index waters.old.items entry.now.source) entry.now.what) }
+{
+    let source = entry.source as usize;
+    waters[source] = raised(waters[source], &entry.what);
+}
+
+fn raised(water: u64, what: &What) -> u64
+    ensures { result ≡ raised water what.now }
+{
     match *what {
         What::Tuple { .. } | What::Mark { .. } => water,
         What::Water { time } => water.max(time),
