@@ -1,3 +1,8 @@
+pub mod ReadBackLines
+pub mod ReadBackWords
+pub mod ReadBackEntry
+pub mod ReadBack
+pub mod ReadBackChanges
 pub mod LimitFacts
 pub mod Rising
 pub mod Growing
