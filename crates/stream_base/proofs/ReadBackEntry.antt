@@ -45,12 +45,9 @@ source_line source End = simp append_assoc
 pub entry_line-is : (e : Entry) → entry_line e ≡ entry_text e ++ 10 ∷ []
 entry_line-is e = ap (λ (text : List ℕ). 106 ∷ 32 ∷ text) (source_line e.source e.what)
 
-pub header_line-is : (k : ℕ) → line_of (codes "shard" ∷ decimal k ∷ []) ≡ header_text k ++ 10 ∷ []
-header_line-is k = refl
-
 -- an entry's time is small, and its key has no line feed
-time_small : (time : ℕ) (more : Bool) → (leb time 1000000000000000 && more) ≡ true → time < 2 ^ 64
-time_small time more h = let l : time ≤ 1000000000000000 = leb-true time 1000000000000000 (and_parts _ _ h).0 in omega arith
+time_small : (time : ℕ) (more : Bool) → (leb time TIME_MAX && more) ≡ true → time < 2 ^ 64
+time_small time more h = let l : time ≤ TIME_MAX = leb-true time TIME_MAX (and_parts _ _ h).0 in omega arith
 
 no_line_feed : (key : List ℕ) → list_any is_control key ≡ false → Lacks 10 key
 no_line_feed [] h = tt

@@ -30,14 +30,14 @@ pub record AreOtherLines (text : List ℕ) : Type 0 where
   pub whole : is_whole text ≡ true
   pub other : All (λ line. is_other_line line ≡ true) (lines_of text)
 
+-- under each of the entries behind `before` stand other lines
+abbrev pub AreOtherLinesUnder : (List Entry → Entry → List ℕ) → List Entry → List Entry → Type 0
+AreOtherLinesUnder under before [] = Unit {0}
+AreOtherLinesUnder under before (e ∷ es) = AreOtherLines (under before e) × AreOtherLinesUnder under (before ++ e ∷ []) es
+
 -- the key of a change, where it has one, is a key
 abbrev pub is_change_within : Change → Bool
 is_change_within (Gone window key low high) = is_key key
 is_change_within (New row) = is_key row.key
 is_change_within (Again row) = is_key row.key
 is_change_within Dropped = true
-
--- under each of the entries behind `before` stand other lines
-abbrev pub AreOtherLinesUnder : (List Entry → Entry → List ℕ) → List Entry → List Entry → Type 0
-AreOtherLinesUnder under before [] = Unit {0}
-AreOtherLinesUnder under before (e ∷ es) = AreOtherLines (under before e) × AreOtherLinesUnder under (before ++ e ∷ []) es
