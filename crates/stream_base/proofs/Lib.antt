@@ -1,3 +1,9 @@
+pub mod ReadBackLines
+pub mod ReadBackWords
+pub mod ReadBackEntry
+pub mod ReadBack
+pub mod ReadBackChanges
+pub mod ReadBackExact
 pub mod LimitFacts
 pub mod Rising
 pub mod Growing

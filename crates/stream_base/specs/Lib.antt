@@ -7,3 +7,4 @@ pub mod MemFile
 pub mod Model
 pub mod Examples
 pub mod Laws
+pub mod ReadBack
