@@ -3,3 +3,4 @@ pub mod Emission
 pub mod Folding
 pub mod Past
 pub mod PastInside
+pub mod ShardInside
