@@ -6,3 +6,5 @@ pub mod Spans
 pub mod Distinct
 pub mod ChangeFacts
 pub mod EventOrder
+pub mod Pieces
+pub mod Selecting
