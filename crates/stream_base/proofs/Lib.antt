@@ -8,3 +8,4 @@ pub mod ChangeFacts
 pub mod EventOrder
 pub mod Pieces
 pub mod Selecting
+pub mod ChangeList

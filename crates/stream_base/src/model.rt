@@ -2,3 +2,4 @@
 //! computes and in laws, each as the contract of a function that does nothing.
 
 pub mod examples;
+pub mod laws;
