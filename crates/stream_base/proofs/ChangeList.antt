@@ -43,7 +43,7 @@ module _ {X Y : Type 0} (h : X → Option Y) where
       behind None d = d
       behind (Some w) d = Contains-tail w (filter_map h xs) y d
 
-enumerate_places : {X : Type 0} (n : ℕ) (xs : List X) (w : ℕ × X) → Contains (enumerate_from n xs) w → (j : ℕ) × (w.0 ≡ n + j) × (slice_get xs j ≡ Some w.1)
+pub enumerate_places : {X : Type 0} (n : ℕ) (xs : List X) (w : ℕ × X) → Contains (enumerate_from n xs) w → (j : ℕ) × (w.0 ≡ n + j) × (slice_get xs j ≡ Some w.1)
 enumerate_places n [] w c = absurd (none_in_nil w c)
 enumerate_places {X} n (x ∷ xs) w c =
     ⊎_elim
@@ -137,7 +137,7 @@ positions_same_tuples (x ∷ xs) (y ∷ ys) h =
     and_from (eqb x.position y.position) (are_same_tuples xs ys) (eq-eqb x.position y.position first) (positions_same_tuples xs ys rest)
 
 -- ---- one window
-retraction_says : (window : ℕ) (key : List ℕ) (now : List Instance) (i : Instance) (c : Change) → retraction window key now i ≡ Some c → (c ≡ Gone window key i.low i.high) × (¬ HasInstance now i.low i.high)
+pub retraction_says : (window : ℕ) (key : List ℕ) (now : List Instance) (i : Instance) (c : Change) → retraction window key now i ≡ Some c → (c ≡ Gone window key i.low i.high) × (¬ HasInstance now i.low i.high)
 retraction_says window key now i c e = by (list_any (is_same i) now) refl e
   where
     by : (b : Bool) → list_any (is_same i) now ≡ b → cond b None (Some (Gone window key i.low i.high)) ≡ Some c → (c ≡ Gone window key i.low i.high) × (¬ HasInstance now i.low i.high)
@@ -148,7 +148,7 @@ retraction_given : (window : ℕ) (key : List ℕ) (now : List Instance) (i : In
 retraction_given window key now i h = ap (λ b. cond b None (Some (Gone window key i.low i.high))) (false_from_ne_true (list_any (is_same i) now) (λ e. h (has_from_any now i e)))
 
 -- an emission is new or an update
-emission_cases : (window : ℕ) (key : List ℕ) (func : Func) (before : List Instance) (i : Instance) (c : Change) → emission window key func before i ≡ Some c
+pub emission_cases : (window : ℕ) (key : List ℕ) (func : Func) (before : List Instance) (i : Instance) (c : Change) → emission window key func before i ≡ Some c
     → ((c ≡ New (row_of window key func i)) × (¬ HasInstance before i.low i.high)) ⊎ ((old : Instance) × Contains before old × (old.low ≡ i.low) × (old.high ≡ i.high) × (positions_of old ≢ positions_of i) × (c ≡ Again (row_of window key func i)))
 emission_cases window key func before i c e = by (find (is_same i) before) refl e
   where

@@ -9,3 +9,4 @@ pub mod EventOrder
 pub mod Pieces
 pub mod Selecting
 pub mod ChangeList
+pub mod ChangeOrder
