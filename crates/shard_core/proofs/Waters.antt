@@ -98,18 +98,18 @@ past_push l journal longer timely noted waters raised_waters e late position is_
     let n = length waters in
     let same : length raised_waters ≡ n = ap length raised_is ∙ length-set waters e.source (raised (get_or waters e.source 0) e.what) in
     let noted_at : noted ≡ on_time l n (journal ++ e ∷ []) =
-      noted_is
-      ∙ (λ i. is_timely i ++ cond (is_late_is i) [] ((at i, e) ∷ []))
-      ∙ sym (on_time_push l n journal e) in
+    noted_is
+    ∙ (λ i. is_timely i ++ cond (is_late_is i) [] ((at i, e) ∷ []))
+    ∙ sym (on_time_push l n journal e) in
     let raised_at : raised_waters ≡ waters_of n (journal ++ e ∷ []) =
-      raised_is
-      ∙ ap (λ ws. set ws e.source (raised (get_or ws e.source 0) e.what)) are_waters
-      ∙ waters_raised n journal e within source in
+    raised_is
+    ∙ ap (λ ws. set ws e.source (raised (get_or ws e.source 0) e.what)) are_waters
+    ∙ waters_raised n journal e within source in
     let known_at : AreKnown (record { lateness = l; sources = n; journal = journal ++ e ∷ [] }) = record {
       sources = All-push (λ x. x.source < n) journal e known.sources source;
       within = All-push (λ x. is_entry_within x ≡ true) journal e known.within within;
-    } in
-    ( noted_at ∙ (λ i. on_time l (sym same i) (sym longer_is i))
-    , raised_at ∙ (λ i. waters_of (sym same i) (sym longer_is i))
-    , subst (λ (p : ℕ × List Entry). AreKnown (record { lateness = l; sources = p.0; journal = p.1 })) (λ i. (sym same i, sym longer_is i)) known_at
+    } in (
+      noted_at ∙ (λ i. on_time l (sym same i) (sym longer_is i)),
+      raised_at ∙ (λ i. waters_of (sym same i) (sym longer_is i)),
+      subst (λ (p : ℕ × List Entry). AreKnown (record { lateness = l; sources = p.0; journal = p.1 })) (λ i. (sym same i, sym longer_is i)) known_at,
     )

@@ -8,7 +8,7 @@ use crate::emit::{Move, Owner, emit_spans};
 use crate::past::Past;
 use agg_laws::Steps;
 use std::alloc::Global;
-use stream_base::{Change, Def, Defs, Entry, FINAL, KeyText, Kept, Kind, NoMemory, What};
+use stream_base::{Change, Def, Defs, Entry, FINAL, Kept, KeyText, Kind, NoMemory, What};
 
 /// The changes that an entry behind the past causes. A late tuple or mark is dropped; one that is
 /// on time changes nothing yet, since each instance that it enters ends above the watermark; what

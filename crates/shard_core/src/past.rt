@@ -71,6 +71,18 @@ impl Past {
         least(&self.waters)
     }
 
+    /// What the watermark would be after one entry more.
+    #[tactic(auto, unfolding(stream_base::specs::Model::Journal::water_of))]
+    pub fn water_after(&self, alloc: Global, entry: &Entry) -> Result<u64, NoMemory>
+        requires source { entry.now.source < self.now.sources }
+        requires within { is_entry_within entry.now ≡ true }
+        ensures { IfOk result (λ water. water ≡ water_of self.now.sources (self.now.journal ++ entry.now ∷ [])) }
+    {
+        let mut waters = Vec::from_slice(alloc, &self.waters)?;
+        raise(&mut waters, entry.source, &entry.what);
+        Ok(least(&waters))
+    }
+
     /// Whether a tuple or mark would be late.
     pub fn is_late(&self, what: &What) -> bool
         ensures { result ≡ is_late self.now.lateness (water_of self.now.sources self.now.journal) what.now }

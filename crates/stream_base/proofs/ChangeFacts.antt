@@ -126,7 +126,7 @@ emitted_at_water window key func is old new s le =
     never i c h = and_right (nat_lt old i.bound) (nat_le i.bound new) h
 
 -- ---- all windows of a key
-enumerate_members : {X : Type 0} (n : ℕ) (xs : List X) (w : ℕ × X) → Contains (enumerate_from n xs) w → Contains xs w.1
+pub enumerate_members : {X : Type 0} (n : ℕ) (xs : List X) (w : ℕ × X) → Contains (enumerate_from n xs) w → Contains xs w.1
 enumerate_members n [] w c = absurd (none_in_nil w c)
 enumerate_members {X} n (x ∷ xs) w c =
     ⊎_elim

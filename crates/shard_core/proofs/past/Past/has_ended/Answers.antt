@@ -9,4 +9,4 @@ returns c =
     let known : c.args.source < length c.self.inside.waters.items = rw (← c.self.view_is) at c.requires in
     rw (← c.self.view_is)
     (ap (λ w. nat_eq w FINAL) (c.index.ensures ∙ ap (λ ws. get_or ws c.args.source c.index.result.now) c.self.invariant.waters ∙ water_at (length c.self.inside.waters.items) c.args.source c.index.result.now c.self.inside.journal.items known)
-      ∙ final_at_end c.args.source c.self.inside.journal.items c.self.invariant.known.within)
+    ∙ final_at_end c.args.source c.self.inside.journal.items c.self.invariant.known.within)

@@ -13,5 +13,5 @@ invariant_of-self-2 c =
     let longer : c.push_reserved.new.self.items ≡ a.journal.items ++ c.args.entry.now ∷ [] = c.push_reserved.ensures.items ∙ ap (λ js. js ++ c.args.entry.now ∷ []) c.reserve.ensures.items in
     let source : (c.args.entry.now).source < length a.waters.items = rw (← c.self.view_is) at c.requires.source in
     let p = past_push a.lateness a.journal.items c.push_reserved.new.self.items a.on_time.items c.note_on_time.new.on_time.items a.waters.items c.raise.new.waters.items c.args.entry.now (is_late a.lateness c.water-water.result (c.args.entry.now).what) c.len-position.result
-        c.self.invariant.on_time c.self.invariant.waters c.self.invariant.known late at noted c.raise.ensures longer source c.requires.within in
+    c.self.invariant.on_time c.self.invariant.waters c.self.invariant.known late at noted c.raise.ensures longer source c.requires.within in
     record { on_time = p.0; waters = p.1; known = p.2 }
