@@ -4,3 +4,4 @@ pub mod Folding
 pub mod Past
 pub mod PastInside
 pub mod ShardInside
+pub mod Effect
