@@ -10,3 +10,4 @@ pub mod Pieces
 pub mod Selecting
 pub mod ChangeList
 pub mod ChangeOrder
+pub mod ChangesAfter
