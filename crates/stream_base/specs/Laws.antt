@@ -10,6 +10,8 @@ use Rattle.stream_base.specs.declared.change.Change.TheVariants.{Gone, New, Agai
 use Rattle.stream_base.specs.declared.def.Def.{Def}
 use Rattle.stream_base.specs.declared.entry.Entry.{Entry}
 use Rattle.stream_base.specs.declared.kept.Kept.{Kept}
+use Rattle.stream_base.specs.declared.kind.Kind.{Kind}
+use Rattle.stream_base.specs.declared.kind.Kind.TheVariants.{Tumbling, Sliding, Session, Marks, Events}
 use Rattle.stream_base.specs.declared.row.Row.{Row}
 use Rattle.stream_base.specs.declared.what.What.{What}
 use Rattle.stream_base.specs.declared.what.What.TheVariants.{Tuple, Mark, Water, End}
@@ -148,3 +150,11 @@ is_water_or_end (Tuple key time value) = false
 is_water_or_end (Mark key time) = false
 is_water_or_end (Water time) = true
 is_water_or_end End = true
+
+-- whether a window is tumbling or sliding
+abbrev pub is_timed : Kind → Bool
+is_timed (Tumbling length) = true
+is_timed (Sliding length slide) = true
+is_timed (Session gap) = false
+is_timed Marks = false
+is_timed (Events count) = false
