@@ -72,7 +72,7 @@ same_tie a b h = grind (arith, nat_tests)
 key_tie : (k l : List ℕ) → k ≡ l → slice_cmp nat_cmp k l ≡ Equal
 key_tie k l e = ap (λ m. slice_cmp nat_cmp m l) e ∙ tied_itself nat_list_cmp_total l
 
-less_at_key : (a b : Change) → slice_cmp nat_cmp (place_of a).key (place_of b).key ≡ Less → by_place a b ≡ Less
+pub less_at_key : (a b : Change) → slice_cmp nat_cmp (place_of a).key (place_of b).key ≡ Less → by_place a b ≡ Less
 less_at_key a b h = first_decides (slice_cmp nat_cmp (place_of a).key (place_of b).key) _ h
 
 less_at_comes : (a b : Change) → (place_of a).key ≡ (place_of b).key → (place_of a).comes < (place_of b).comes → by_place a b ≡ Less

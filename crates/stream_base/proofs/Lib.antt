@@ -16,3 +16,4 @@ pub mod Pieces
 pub mod Selecting
 pub mod ChangeList
 pub mod ChangeOrder
+pub mod ChangesAfter

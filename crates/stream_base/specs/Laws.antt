@@ -1,7 +1,7 @@
 -- The words of the laws about journals, windows and changes.
-use Rattle.std.specs.Prelude.{◌≡◌, ◌≢◌, ◌++◌, ◌&&◌, ℕ, Bool, List, [], ◌∷◌, length, map, filter, Option, None, Some, slice_get, if◌then◌else◌, nat_lt, nat_le}
+use Rattle.std.specs.Prelude.{◌≡◌, ◌≢◌, ◌++◌, ◌&&◌, ℕ, Bool, true, false, List, [], ◌∷◌, length, map, filter, Option, None, Some, slice_get, if◌then◌else◌, nat_lt, nat_le}
 use Rattle.std.specs.Cmp.Lexicographic.{slice_cmp}
-use Rattle.std.specs.List.{Contains}
+use Rattle.std.specs.List.{Contains, enumerate_from, flat_map}
 use Rattle.std.specs.List.Sorted.{IsNonDecreasingBy, IsStrictlySortedBy}
 use Rattle.std.specs.Ordering.{nat_cmp, ordering_then}
 use Rattle.std.specs.declared.cmp.Ordering.{Ordering}
@@ -10,7 +10,11 @@ use Rattle.stream_base.specs.declared.change.Change.TheVariants.{Gone, New, Agai
 use Rattle.stream_base.specs.declared.def.Def.{Def}
 use Rattle.stream_base.specs.declared.entry.Entry.{Entry}
 use Rattle.stream_base.specs.declared.kept.Kept.{Kept}
+use Rattle.stream_base.specs.declared.kind.Kind.{Kind}
+use Rattle.stream_base.specs.declared.kind.Kind.TheVariants.{Tumbling, Sliding, Session, Marks, Events}
 use Rattle.stream_base.specs.declared.row.Row.{Row}
+use Rattle.stream_base.specs.declared.what.What.{What}
+use Rattle.stream_base.specs.declared.what.What.TheVariants.{Tuple, Mark, Water, End}
 use Rattle.stream_base.specs.Limits.{Definitions}
 use Rattle.stream_base.specs.Model.Changes.{Moment, moment_of, row_of, standing_at}
 use Rattle.stream_base.specs.Model.Journal.{is_late, keys_of, mark_in, tuple_in, water_of}
@@ -134,3 +138,23 @@ by_place c d =
 -- the changes are in their order, each once
 abbrev pub AreInOrder : List Change → Type 0
 AreInOrder changes = IsStrictlySortedBy by_place changes
+
+-- the completions of all keys where an entry behind a journal moves the watermark alone
+abbrev pub completions_after : Definitions → ℕ → List Entry → Entry → List Change
+completions_after d sources before e =
+    flat_map (λ key. flat_map (completions key (moment_of d sources key before) (water_of sources (before ++ e ∷ []))) (enumerate_from 0 d.windows)) (keys_of before)
+
+-- whether an entry is a watermark or the end of a source
+abbrev pub is_water_or_end : What → Bool
+is_water_or_end (Tuple key time value) = false
+is_water_or_end (Mark key time) = false
+is_water_or_end (Water time) = true
+is_water_or_end End = true
+
+-- whether a window is tumbling or sliding
+abbrev pub is_timed : Kind → Bool
+is_timed (Tumbling length) = true
+is_timed (Sliding length slide) = true
+is_timed (Session gap) = false
+is_timed Marks = false
+is_timed (Events count) = false
