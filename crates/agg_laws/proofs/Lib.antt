@@ -1,3 +1,4 @@
 pub mod Totals
 pub mod Bundles
 pub mod RisingPairs
+pub mod Places
