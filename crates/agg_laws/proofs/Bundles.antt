@@ -52,3 +52,12 @@ bundle_of-append xs ys hx hy =
 -- the bundle of one number
 pub bundle_of_one : (v : ℤ) → FitsSigned w64 v → bundle_of (v ∷ []) ≡ bundle_of_number v
 bundle_of_one v h = bundle_laws.left_unit (bundle_of_number v) (bundle_lifts v h)
+
+-- what combines the bundles of two lists is the bundle of both lists together
+pub joined_bundles : (b x y : Bundled) → b ≡ bundles_combined x y → (xs ys : List ℤ) → All (FitsSigned w64) xs → All (FitsSigned w64) ys → x ≡ bundle_of xs → y ≡ bundle_of ys → b ≡ bundle_of (xs ++ ys)
+joined_bundles b x y e xs ys hx hy ex ey =
+    e ∙ ap (λ l. bundles_combined l y) ex ∙ ap (bundles_combined (bundle_of xs)) ey ∙ bundle_of-append xs ys hx hy
+
+-- what is one number's bundle is the bundle of the list that has this number alone
+pub lifted_bundle : (b : Bundled) (v : ℤ) → b ≡ bundle_of_number v → FitsSigned w64 v → b ≡ bundle_of (v ∷ [])
+lifted_bundle b v e h = e ∙ sym (bundle_of_one v h)
