@@ -76,9 +76,12 @@ split_at_written (y ∷ xs) zero x l = refl
 split_at_written (y ∷ xs) (suc i) x l = ap (λ rest. y ∷ rest) (split_at_written xs i x (omega arith))
 
 -- the pair with the key, around which the list falls apart
-module _ {M : Type 0} (key at : ℕ) (ps : List (ℕ × M)) (p : ℕ × M) (rising : AreRising ps) (inside : at < length ps) (read : p ≡ get_or ps at p) (same : p.0 ≡ key) where
+module _ {M : Type 0} (key at : ℕ) (ps : List (ℕ × M)) (p : ℕ × M) (rising : AreRising ps) (stands : StandsAt key at ps) (read : p ≡ get_or ps at p) where
+  same : p.0 ≡ key
+  same = ap (λ q. q.0) read ∙ stands.key p
+
   parts : ps ≡ take at ps ++ (key, p.1) ∷ drop (suc at) ps
-  parts = split_at_read ps at p inside read ∙ ap (λ k. take at ps ++ (k, p.1) ∷ drop (suc at) ps) same
+  parts = split_at_read ps at p stands.within read ∙ ap (λ k. take at ps ++ (k, p.1) ∷ drop (suc at) ps) same
 
   parts_rise : AreRising (take at ps ++ (key, p.1) ∷ drop (suc at) ps)
   parts_rise = subst AreRising parts rising
@@ -100,7 +103,7 @@ module _ {M : Type 0} (key at : ℕ) (ps : List (ℕ × M)) (p : ℕ × M) (risi
 
   pub found_replaced : (value : M) → replaced key value ps ≡ set ps at (key, value)
   found_replaced value =
-      ap (replaced key value) parts ∙ replaced-middle key (take at ps) (drop (suc at) ps) lower upper p.1 value ∙ sym (split_at_written ps at (key, value) inside)
+      ap (replaced key value) parts ∙ replaced-middle key (take at ps) (drop (suc at) ps) lower upper p.1 value ∙ sym (split_at_written ps at (key, value) stands.within)
 
 -- one value more, in the order of keys
 pub total_values_more : {M : Type 0} (empty : M) (op : M → M → M) (ps : List (ℕ × M)) (i : ℕ) (d : ℕ × M) → i < length ps → total empty op (values_of (take (i + 1) ps)) ≡ op (total empty op (values_of (take i ps))) (get_or ps i d).1

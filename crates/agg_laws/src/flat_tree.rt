@@ -59,17 +59,12 @@ impl<M: Monoid> AggTree<M> for FlatTree<M> {
     }
 
     fn remove<L>(&mut self, key: u64, _probes: &mut Probes, _steps: &mut Steps<L>) -> Option<M> {
-        match index_of(&self.pairs, key) {
-            Some(at) => Some(self.pairs.remove(at).1),
-            None => None,
-        }
+        let at = index_of(&self.pairs, key)?;
+        Some(self.pairs.remove(at).1)
     }
 
     fn first_key(&self) -> Option<u64> {
-        match self.pairs.first() {
-            Some(pair) => Some(pair.0),
-            None => None,
-        }
+        self.pairs.first().map(|pair| pair.0)
     }
 
     fn fold_range<L>(&self, low: u64, high: u64, _probes: &mut Probes, steps: &mut Steps<L>) -> M {

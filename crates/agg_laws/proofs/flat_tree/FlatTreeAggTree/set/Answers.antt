@@ -8,13 +8,15 @@ use Rattle.agg_laws.proofs.flat_tree.FlatTreeAggTree.set.Goals as goal
 pub returns-in-Some-clause-replaced : goal.returns-in-Some-clause-replaced
 returns-in-Some-clause-replaced g c =
     let pairs = c.self.inside.pairs.items in
-    let stands : StandsAt c.args.key c.in-Some.at pairs = search rules in
-    let changed = found_replaced c.args.key c.in-Some.at pairs (get_or pairs c.in-Some.at (c.args.key, c.args.value)) c.self.invariant stands.within (read_at pairs c.in-Some.at (c.args.key, c.args.value) stands.within) (stands.key (c.args.key, c.args.value)) c.args.value in
+    let at = c.in-Some.at in
+    let stands : StandsAt c.args.key at pairs = search rules in
+    let changed = found_replaced c.args.key at pairs (get_or pairs at (c.args.key, c.args.value)) c.self.invariant stands (read_at pairs at (c.args.key, c.args.value) stands.within) c.args.value in
     rw (← c.self.view_is) (sym changed)
 
 pub returns-in-Some-clause-rising : goal.returns-in-Some-clause-rising
 returns-in-Some-clause-rising g c =
     let pairs = c.self.inside.pairs.items in
-    let stands : StandsAt c.args.key c.in-Some.at pairs = search rules in
-    let changed = found_replaced c.args.key c.in-Some.at pairs (get_or pairs c.in-Some.at (c.args.key, c.args.value)) c.self.invariant stands.within (read_at pairs c.in-Some.at (c.args.key, c.args.value) stands.within) (stands.key (c.args.key, c.args.value)) c.args.value in
+    let at = c.in-Some.at in
+    let stands : StandsAt c.args.key at pairs = search rules in
+    let changed = found_replaced c.args.key at pairs (get_or pairs at (c.args.key, c.args.value)) c.self.invariant stands (read_at pairs at (c.args.key, c.args.value) stands.within) c.args.value in
     subst AreRising changed (rising-replaced c.args.key c.args.value pairs c.self.invariant)
