@@ -5,7 +5,7 @@ use Rattle.std.specs.Int.{w64}
 use Rattle.std.specs.List.{All}
 use Rattle.std.proofs.lemmas.List.{map-append}
 use Rattle.std.proofs.lemmas.List.Elements.{All-map, All-weaker}
-use Rattle.stream_base.specs.Model.Functions.{Aggregate, counting, summing, least, greatest, averaging, earliest, latest, rising, tracing, fold_of}
+use Rattle.stream_base.specs.Model.Functions.{counting, summing, least, greatest, averaging, earliest, latest, rising, tracing}
 use Rattle.agg_laws.specs.Laws.{total}
 use Rattle.agg_laws.specs.Bundled.{Bundled, IsBundle, bundle_of, bundle_of_number, empty_bundle, bundles_combined}
 use Rattle.agg_laws.specs.BundleLaws.{bundle_laws, bundle_lifts}

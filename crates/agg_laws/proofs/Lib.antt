@@ -2,3 +2,4 @@ pub mod Totals
 pub mod Bundles
 pub mod RisingPairs
 pub mod Places
+pub mod Examples

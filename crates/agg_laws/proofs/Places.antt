@@ -1,19 +1,19 @@
 -- Places in a sorted vector of pairs.
-use Rattle.std.proofs.Common.{◌≡◌, ◌<◌, ◌≤◌, ◌+◌, ◌-◌, ℕ, zero, Bool, true, false, cond, ◌&&◌, List, [], ◌∷◌, ◌++◌, Some, None, length, get_or, take, drop, set, suc, sym, ap, subst, refl, ◌∙◌, arith, ⊎_elim, drop-cons}
-use Rattle.std.specs.Prelude.{nat_lt, nat_le, fold, map, filter}
-use Rattle.std.specs.List.{All, AllWithin, HoldsAt, remove}
+use Rattle.std.proofs.Common.{◌≡◌, ◌<◌, ◌≤◌, ◌+◌, ◌-◌, ℕ, zero, Bool, true, false, cond, ◌&&◌, List, [], ◌∷◌, ◌++◌, Some, length, get_or, take, drop, set, suc, sym, ap, subst, refl, ◌∙◌, arith, ⊎_elim, drop-cons}
+use Rattle.std.specs.Prelude.{nat_lt, nat_le, filter}
+use Rattle.std.specs.List.{All, AllWithin, remove}
 use Rattle.std.specs.List.Sorted.{IsPartitionPoint, IsNonDecreasingBy}
 use Rattle.std.proofs.Math.Seq.{take-length}
 use Rattle.std.proofs.lemmas.List.Kept.{AllPairs-filter}
 use Rattle.std.proofs.Math.Nat.{eq-or-lt_of_le}
 use Rattle.std.proofs.lemmas.Bool.Decides.{nat_tests}
-use Rattle.std.proofs.lemmas.List.{get_or-take, get_or-drop, length-take, length-drop, take-append-drop, take-set, drop-set-lt, take_more}
+use Rattle.std.proofs.lemmas.List.{get_or-take, get_or-drop, length-take, length-drop, take-append-drop}
 use Rattle.std.proofs.lemmas.List.Elements.{All-weaker, All-head, All-cons}
 use Rattle.std.proofs.lemmas.List.Folds.{fold-map}
 use Rattle.std.proofs.lemmas.List.Sums.{fold_more, length-filter, count_by-le-length}
 use Rattle.agg_laws.specs.Laws.{total}
-use Rattle.agg_laws.specs.Pairs.{AreRising, StandsAt, has_key, pairs_below, pairs_from, within, inserted, replaced, without, value_at, values_of}
-use Rattle.agg_laws.proofs.RisingPairs.{pairs_below-parts, pairs_from-parts, rising_below, rising_above, has_key-between, has_key-middle, value_at-middle, without-middle, replaced-middle, within-parts, all_below, all_from}
+use Rattle.agg_laws.specs.Pairs.{AreRising, StandsAt, has_key, pairs_below, pairs_from, within, replaced, without, value_at, values_of}
+use Rattle.agg_laws.proofs.RisingPairs.{pairs_below-parts, pairs_from-parts, rising_below, rising_above, has_key-between, has_key-middle, value_at-middle, without-middle, replaced-middle, all_below, all_from}
 
 -- what holds of each element before a place holds of the front, and what holds from it on, of the rest
 module _ {X : Type 0} (P : X → Type 0) (xs : List X) (i : ℕ) where

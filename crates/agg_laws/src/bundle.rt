@@ -22,7 +22,7 @@ use stream_base::{Func, Shown};
 
 /// All nine functions of the same values at once. To combine two bundles is one step. Contracts
 /// see what each function keeps.
-#[derive(Clone, Copy)]
+#[derive(Clone, Copy, Debug)]
 pub struct Bundle {
     count: Count,
     summed: Sum,

@@ -12,7 +12,7 @@ use stream_base::NoMemory;
 
 /// The plain tree of aggregates: a vector of pairs, sorted by key. It has no nodes and so no
 /// height; its reach is its length.
-#[derive(Drop)]
+#[derive(Debug, Drop)]
 pub struct FlatTree<M> {
     pairs: Vec<(u64, M)>,
 }

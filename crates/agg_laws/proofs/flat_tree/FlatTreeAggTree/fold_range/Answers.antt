@@ -1,5 +1,5 @@
 -- A range is at most all pairs, and each takes one step.
-use Rattle.std.proofs.Common.{◌≤◌, ◌+◌, length, arith, rules}
+use Rattle.std.proofs.Common.{◌≤◌, ◌+◌, length, arith}
 use Rattle.agg_laws.specs.Pairs.{within}
 use Rattle.agg_laws.proofs.Places.{length-within}
 use Rattle.agg_laws.proofs.flat_tree.FlatTreeAggTree.fold_range.Goals as goal
