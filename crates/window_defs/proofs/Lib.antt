@@ -1,0 +1,3 @@
+pub mod CutFacts
+pub mod TableFacts
+pub mod WindowFacts

@@ -1,0 +1,4 @@
+pub mod Document
+pub mod Tables
+pub mod Windows
+pub mod Reading
