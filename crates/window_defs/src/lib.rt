@@ -21,3 +21,4 @@ mod window;
 pub use cut::{cut_between, cuts_between_decides};
 pub use defs_fault::DefsFault;
 pub use read::{BYTES_MAX, read_defs};
+pub use window::first_in_trouble_is_named;

@@ -1,10 +1,13 @@
 //! How an element of the array of windows reads as a window.
-ghost use Rattle.std.specs.Prelude.{◌≡◌, ◌≤◌, length, map};
+ghost use Rattle.std.specs.Prelude.{◌≡◌, ◌≤◌, ◌↔◌, List, length, map, Err};
 ghost use Rattle.stream_base.specs.Limits.{is_kind_within};
+ghost use Rattle.toml.specs.Data.{Data};
 ghost use Rattle.toml.specs.View.{view, table_view};
 ghost use Rattle.window_defs.specs.Tables.{has_other};
 ghost use Rattle.window_defs.specs.Windows.{kind_named, func_named, is_number_key, is_window_key, raw_kind_of, raw_window_of, natural, within_limits, kind_of, def_of};
 ghost use Rattle.window_defs.specs.Reading.{Gives, window_at, windows_from};
+ghost use Rattle.window_defs.specs.Trouble.{IsOfFirstInTrouble};
+ghost use Rattle.window_defs.specs.declared.defs_fault.DefsFault.{DefsFault};
 
 use crate::defs_fault::DefsFault;
 use crate::kind_name::KindName;
@@ -27,6 +30,12 @@ pub fn windows_of(alloc: Global, values: &[Value]) -> Result<Vec<Def>, DefsFault
     }
     Ok(windows)
 }
+
+/// A law: the elements are refused with a fault exactly where it is the fault of an element in trouble
+/// and no element before that one is in trouble.
+pub fn first_in_trouble_is_named()
+    ensures named { (elements : List Data) (fault : DefsFault) → (windows_from 0 elements ≡ Err fault) ↔ IsOfFirstInTrouble elements fault }
+{}
 
 fn window_at(i: u32, value: &Value) -> Result<Def, DefsFault>
     ensures { Gives (λ window. window) result (window_at i (view value.now)) }
