@@ -89,6 +89,7 @@ abbrev pub natural : ℤ → Option ℕ
 natural (pos n) = Some n
 natural (negsuc n) = None
 
+-- a kind whose numbers are within its limits
 abbrev pub within_limits : Kind → Option Kind
 within_limits kind = if is_kind_within kind then Some kind else None
 

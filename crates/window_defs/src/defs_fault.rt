@@ -5,8 +5,9 @@ use std::alloc::{AllocError, AllocFailed};
 use std::error::Error;
 use std::fmt;
 
-/// Why bytes are no window definitions. The first that holds is answered, in the order in which they
-/// are told here; of two windows in trouble the first is named, whichever its trouble is.
+/// Why bytes are no window definitions. The first that holds is answered, in this order: the length,
+/// the document, the shape of its top, the number of windows, the limits of its top, and then the
+/// first window in trouble, where a wrong shape is told before a limit.
 #[derive(Clone, Copy, Debug, PartialEq, Eq)]
 pub enum DefsFault {
     /// There are more than 1,048,576 bytes.

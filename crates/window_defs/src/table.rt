@@ -17,20 +17,14 @@ fn at<'a>(table: &'a Table, key: &str) -> Option<&'a Value>
 pub fn text_at<'a>(table: &'a Table, key: &str) -> Option<&'a str>
     ensures { option_copied result ≡ text_at key.now (table_view table.now) }
 {
-    match at(table, key) {
-        Some(value) => value.as_str(),
-        None => None,
-    }
+    at(table, key)?.as_str()
 }
 
 /// The integer at a key.
 pub fn integer_at(table: &Table, key: &str) -> Option<i64>
     ensures { result ≡ integer_at key.now (table_view table.now) }
 {
-    match at(table, key) {
-        Some(value) => value.as_integer(),
-        None => None,
-    }
+    at(table, key)?.as_integer()
 }
 
 /// The integer at a key, and 0 where the key is missing.
