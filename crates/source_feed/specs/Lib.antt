@@ -1,0 +1,4 @@
+pub mod Record
+pub mod RecordsLeft
+pub mod Told
+pub mod Rows

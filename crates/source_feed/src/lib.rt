@@ -1,0 +1,24 @@
+//! The way from a source's bytes to its entries, and from an entry's key to its shard.
+//!
+//! *From* the bytes of a source of the outside, *to* the entries that the machine works on. *Stands on*
+//! `stream_base` for keys, entries and sources, and on `csv` for records. *Promise*: a source's
+//! entries are those that the definition reads from its bytes, with the watermarks that are made
+//! and the last end, or those before the first refusal, with its record number and reason.
+#![tactic(auto)]
+
+mod feed_fault;
+mod numbers;
+mod record;
+mod records;
+mod row_fault;
+mod row_why;
+mod shard;
+mod whole;
+mod whole_fault;
+
+pub use feed_fault::FeedFault;
+pub use row_fault::RowFault;
+pub use row_why::RowWhy;
+pub use shard::route;
+pub use whole::read_whole;
+pub use whole_fault::WholeFault;
