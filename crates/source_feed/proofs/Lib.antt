@@ -1,1 +1,4 @@
 pub mod CsvSteps
+pub mod Made
+pub mod Saying
+pub mod Giving

@@ -8,10 +8,13 @@
 
 mod feed_fault;
 mod numbers;
+mod pace;
 mod record;
 mod records;
 mod row_fault;
 mod row_why;
+mod rows;
+mod said;
 mod shard;
 mod whole;
 mod whole_fault;
@@ -19,6 +22,7 @@ mod whole_fault;
 pub use feed_fault::FeedFault;
 pub use row_fault::RowFault;
 pub use row_why::RowWhy;
+pub use rows::Rows;
 pub use shard::route;
 pub use whole::read_whole;
 pub use whole_fault::WholeFault;

@@ -1,4 +1,4 @@
-ghost use Rattle.std.specs.Prelude.{◌≡◌};
+ghost use Rattle.std.specs.Prelude.{◌≡◌, ◌≤◌, IfOk};
 ghost use Rattle.source_feed.specs.Record.{number_in, time_in, value_in, from_zero, below_zero};
 
 use crate::row_why::RowWhy;
@@ -6,7 +6,8 @@ use stream_base::TIME_MAX;
 
 // A time: a number of at most 10^15.
 pub fn time_in(text: &[u8]) -> Result<u64, RowWhy>
-    ensures { result ≡ time_in text.now }
+    ensures value { result ≡ time_in text.now }
+    ensures within { IfOk result (λ time. time ≤ 1000000000000000) }
 {
     match number_in(text) {
         Some(number) if number <= TIME_MAX => Ok(number),

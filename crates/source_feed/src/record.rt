@@ -1,5 +1,6 @@
-ghost use Rattle.std.specs.Prelude.{◌≡◌};
+ghost use Rattle.std.specs.Prelude.{◌≡◌, ◌≤◌, false, IfOk};
 ghost use Rattle.csv.specs.Records.{fields_of};
+ghost use Rattle.source_feed.specs.Told.{is_end, time_of};
 ghost use Rattle.source_feed.specs.Record.{field, is_header, key_in, mark_of, tuple_of, water_of, what_of};
 
 use crate::numbers::{time_in, value_in};
@@ -20,7 +21,9 @@ pub fn is_header(row: &ByteRecord) -> bool
 
 // What a record says, or its first fault.
 pub fn what_of(row: &ByteRecord) -> Result<What, RowWhy>
-    ensures { result ≡ what_of (fields_of row.now) }
+    ensures value { result ≡ what_of (fields_of row.now) }
+    ensures within { IfOk result (λ what. time_of what ≤ 1000000000000000) }
+    ensures inner { IfOk result (λ what. is_end what ≡ false) }
 {
     match field(row, 0) {
         b"t" => tuple_of(row),
@@ -31,7 +34,9 @@ pub fn what_of(row: &ByteRecord) -> Result<What, RowWhy>
 }
 
 fn tuple_of(row: &ByteRecord) -> Result<What, RowWhy>
-    ensures { result ≡ tuple_of (fields_of row.now) }
+    ensures value { result ≡ tuple_of (fields_of row.now) }
+    ensures within { IfOk result (λ what. time_of what ≤ 1000000000000000) }
+    ensures inner { IfOk result (λ what. is_end what ≡ false) }
 {
     if row.len() != 4 {
         return Err(RowWhy::Fields);
@@ -43,7 +48,9 @@ fn tuple_of(row: &ByteRecord) -> Result<What, RowWhy>
 }
 
 fn mark_of(row: &ByteRecord) -> Result<What, RowWhy>
-    ensures { result ≡ mark_of (fields_of row.now) }
+    ensures value { result ≡ mark_of (fields_of row.now) }
+    ensures within { IfOk result (λ what. time_of what ≤ 1000000000000000) }
+    ensures inner { IfOk result (λ what. is_end what ≡ false) }
 {
     if row.len() != 4 || !field(row, 2).is_empty() {
         return Err(RowWhy::Fields);
@@ -54,7 +61,9 @@ fn mark_of(row: &ByteRecord) -> Result<What, RowWhy>
 }
 
 fn water_of(row: &ByteRecord) -> Result<What, RowWhy>
-    ensures { result ≡ water_of (fields_of row.now) }
+    ensures value { result ≡ water_of (fields_of row.now) }
+    ensures within { IfOk result (λ what. time_of what ≤ 1000000000000000) }
+    ensures inner { IfOk result (λ what. is_end what ≡ false) }
 {
     let is_short = row.len() == 2;
     let is_padded = row.len() == 4 && field(row, 2).is_empty() && field(row, 3).is_empty();

@@ -1,3 +1,6 @@
+ghost use Rattle.std.specs.Prelude.{◌≡◌};
+ghost use Rattle.source_feed.specs.declared.row_fault.RowFault.TheVariants.{NoMemory as MemoryFault};
+
 use crate::row_why::RowWhy;
 use std::error::Error;
 use std::fmt;
@@ -13,6 +16,8 @@ pub enum RowFault {
 }
 
 impl From<NoMemory> for RowFault {
+    ghost from_gives = { λ _ fault. fault ≡ MemoryFault };
+
     fn from(_error: NoMemory) -> RowFault {
         RowFault::NoMemory
     }
