@@ -6,3 +6,6 @@ pub mod Coming
 pub mod Pace
 pub mod SaidLeft
 pub mod RowsLeft
+pub mod FeedFault
+pub mod Feeding
+pub mod FeedState

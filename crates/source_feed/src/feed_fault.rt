@@ -1,6 +1,13 @@
+ghost use Rattle.std.specs.Prelude.{◌≡◌};
+ghost use Rattle.source_feed.specs.FeedFault.{feed_fault, whole_fault};
+ghost use Rattle.source_feed.specs.declared.feed_fault.FeedFault.TheVariants.{NoMemory as MemoryFault};
+
+use crate::row_fault::RowFault;
 use crate::row_why::RowWhy;
+use crate::whole_fault::WholeFault;
 use std::error::Error;
 use std::fmt;
+use stream_base::NoMemory;
 
 /// Why a feed gives no further entry.
 #[derive(Clone, Copy, Debug, PartialEq, Eq)]
@@ -13,6 +20,37 @@ pub enum FeedFault {
     Row { number: u64, why: RowWhy },
     /// An allocation was refused.
     NoMemory,
+}
+
+impl From<RowFault> for FeedFault {
+    ghost from_gives = { λ fault given. given ≡ feed_fault fault };
+
+    fn from(fault: RowFault) -> FeedFault {
+        match fault {
+            RowFault::Refused { number, why } => FeedFault::Row { number, why },
+            RowFault::NoMemory => FeedFault::NoMemory,
+        }
+    }
+}
+
+impl From<WholeFault> for FeedFault {
+    ghost from_gives = { λ fault given. given ≡ whole_fault fault };
+
+    fn from(fault: WholeFault) -> FeedFault {
+        match fault {
+            WholeFault::Read => FeedFault::Read,
+            WholeFault::TooLong => FeedFault::TooLong,
+            WholeFault::NoMemory => FeedFault::NoMemory,
+        }
+    }
+}
+
+impl From<NoMemory> for FeedFault {
+    ghost from_gives = { λ _ given. given ≡ MemoryFault };
+
+    fn from(_error: NoMemory) -> FeedFault {
+        FeedFault::NoMemory
+    }
 }
 
 impl fmt::Display for FeedFault {

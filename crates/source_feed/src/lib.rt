@@ -6,7 +6,9 @@
 //! and the last end, or those before the first refusal, with its record number and reason.
 #![tactic(auto)]
 
+mod feed;
 mod feed_fault;
+mod file_feed;
 mod numbers;
 mod pace;
 mod record;
@@ -19,7 +21,9 @@ mod shard;
 mod whole;
 mod whole_fault;
 
+pub use feed::Feed;
 pub use feed_fault::FeedFault;
+pub use file_feed::{FileFeed, SOURCE_MAX};
 pub use row_fault::RowFault;
 pub use row_why::RowWhy;
 pub use rows::Rows;
