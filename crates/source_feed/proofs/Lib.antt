@@ -1,4 +1,5 @@
+pub mod Closing
 pub mod CsvSteps
+pub mod Giving
 pub mod Made
 pub mod Saying
-pub mod Giving

@@ -8,6 +8,7 @@ use Rattle.source_feed.specs.RecordsLeft.{IsReadable, records_left, text_left}
 use Rattle.source_feed.specs.Rows.{Said, said_by, said_from}
 use Rattle.source_feed.specs.Coming.{Coming}
 use Rattle.source_feed.specs.Told.{Told, bad_row, nothing_left, only_refused, time_of}
+use Rattle.source_feed.specs.declared.pace.Pace.{Pace}
 use Rattle.source_feed.specs.declared.row_fault.RowFault.{RowFault}
 use Rattle.source_feed.specs.declared.row_fault.RowFault.TheVariants.{Refused, NoMemory}
 use Rattle.source_feed.specs.declared.rows.Stage.{Stage}
@@ -15,14 +16,14 @@ use Rattle.source_feed.specs.declared.rows.Stage.TheVariants.{Open, Ended, Stopp
 use Rattle.source_feed.specs.declared.rows.Rows.TheInside.{Inside}
 use Rattle.source_feed.specs.SaidLeft.{said_after}
 
--- what is told at a stage
-abbrev pub told_at : Inside → Stage → Option Told
-told_at a Open =
-    Some (with_water a.pace.source a.made (told_from a.pace (said_after a.number (records_left text_left a.reader))))
-told_at a Ended = Some nothing_left
-told_at a (Stopped (Refused number why)) = Some (only_refused (bad_row number why))
-told_at a (Stopped NoMemory) = None
+-- what is told at a stage by a source that is so far, with a made watermark that waits, and what its records still say
+abbrev pub told_at : Pace → Option ℕ → Said → Stage → Option Told
+told_at pace made said Open = Some (with_water pace.source made (told_from pace said))
+told_at pace made said Ended = Some nothing_left
+told_at pace made said (Stopped (Refused number why)) = Some (only_refused (bad_row number why))
+told_at pace made said (Stopped NoMemory) = None
 
+-- the end was given
 abbrev pub is_ended : Stage → Bool
 is_ended Ended = true
 is_ended _ = false
@@ -35,7 +36,12 @@ fault_of _ = None
 -- what is to come, by the fields
 abbrev pub coming_of : Inside → Coming
 coming_of a =
-    record { source = a.pace.source; told = told_at a a.stage; ended = is_ended a.stage; answered = fault_of a.stage }
+    record {
+      source = a.pace.source;
+      told = told_at a.pace a.made (said_after a.number (records_left text_left a.reader)) a.stage;
+      ended = is_ended a.stage;
+      answered = fault_of a.stage;
+    }
 
 -- the fact holds while records are read
 abbrev pub WhileOpen : Stage → Type 0 → Type 0

@@ -41,6 +41,10 @@ pub trait Feed {
         ensures end { IfOk result (λ next. IfSome next (λ entry. ended self.new ≡ is_end entry.what)) }
         ensures nothing { result ≡ Ok None → (ended self.new ≡ true) × StaysTold (told self.old) (told self.new) }
 
+        // What is told closes with the end, or with a refusal; once the end was given, nothing is told.
+        ensures whole { IfSome (told self.old) (IsWhole (source self.old) (ended self.old)) }
+        ensures whole_after { IfSome (told self.new) (IsWhole (source self.new) (ended self.new)) }
+
         // A refusal is the one that was told, behind the last entry; a failed read is counted.
         ensures refused { IfErr result (λ fault. ShowsRefusal fault (told self.old) (told self.new)) }
         ensures read { IsErrOf result FeedFault.Read → (answered self.old ≡ Some FeedFault.Read) ⊎ Rose (faults self.old) (faults self.new) }

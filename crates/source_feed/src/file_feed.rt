@@ -3,7 +3,7 @@ ghost use Rattle.stream_base.specs.Outside.{Rose};
 ghost use Rattle.source_feed.specs.Coming.{Coming};
 ghost use Rattle.source_feed.specs.FeedFault.{Ends, ShowsRefusal, feed_fault, refusal_of};
 ghost use Rattle.source_feed.specs.Feeding.{told_in, told_of, ended_of, answered_of, unread};
-ghost use Rattle.source_feed.specs.Told.{IsOf, StaysTold, is_end, only_refused, with_first};
+ghost use Rattle.source_feed.specs.Told.{IsOf, IsWhole, StaysTold, is_end, only_refused, with_first};
 
 use crate::feed::Feed;
 use crate::feed_fault::FeedFault;
@@ -50,7 +50,8 @@ impl<S: Source> FileFeed<S> {
     /// The feed of this source, which has this number; the definitions say when its watermarks are
     /// made.
     pub fn new(alloc: Global, source: S, index: u16, defs: &Defs) -> FileFeed<S>
-        ensures { result ≡ record { from = source; source = index; every = defs.now.every; disorder = defs.now.disorder; reading = unread } }
+        ensures whole { IfSome (S.rest source) (λ bytes. IsWhole index false (told_in index defs.now.every defs.now.disorder bytes)) }
+        ensures value { result ≡ record { from = source; source = index; every = defs.now.every; disorder = defs.now.disorder; reading = unread } }
     {
         FileFeed {
             alloc,
@@ -145,6 +146,8 @@ fn next_row(rows: &mut Rows) -> Result<Option<Entry>, FeedFault>
     ensures ended { (result ≡ Ok None) ↔ (rows.old.ended ≡ true) }
     ensures end { IfOk result (λ next. IfSome next (λ entry. rows.new.ended ≡ is_end entry.what)) }
     ensures nothing { result ≡ Ok None → rows.new ≡ rows.old }
+    ensures whole { IfSome rows.old.told (IsWhole rows.old.source rows.old.ended) }
+    ensures whole_after { IfSome rows.new.told (IsWhole rows.new.source rows.new.ended) }
     ensures refused { IfErr result (λ fault. ShowsRefusal fault rows.old.told rows.new.told) }
     ensures not_read { IfErr result (λ fault. fault ≢ FeedFault.Read) }
     ensures fault { IfErr result (λ fault. (option_map feed_fault rows.new.answered ≡ Some fault) × (rows.new.ended ≡ rows.old.ended)) }

@@ -85,6 +85,8 @@ impl Rows {
         ensures ended { (result ≡ Ok None) ↔ (self.old.ended ≡ true) }
         ensures nothing { result ≡ Ok None → self.new ≡ self.old }
         ensures end { IfOk result (λ next. IfSome next (λ entry. self.new.ended ≡ is_end entry.what)) }
+        ensures whole { IfSome self.old.told (IsWhole self.old.source self.old.ended) }
+        ensures whole_after { IfSome self.new.told (IsWhole self.new.source self.new.ended) }
         ensures refused { IfErr result (λ fault. ShowsRefused fault self.old.told self.new.told) }
         ensures fault { IfErr result (λ fault. (self.new.answered ≡ Some fault) × (self.new.ended ≡ self.old.ended)) }
         ensures again { IfSome self.old.answered (λ fault. (result ≡ Err fault) × (self.new ≡ self.old)) }

@@ -1,6 +1,7 @@
 use Rattle.std.proofs.Common.{sym, ◌∙◌}
 use Rattle.source_feed.specs.RecordsLeft.{records_left, text_left}
 use Rattle.source_feed.specs.SaidLeft.{said_after}
+use Rattle.source_feed.proofs.Closing.{whole_at}
 use Rattle.source_feed.proofs.Giving.{fault_shown, gave_end, gave_what}
 use Rattle.source_feed.proofs.rows.Rows.next.Goals as goal
 
@@ -35,3 +36,28 @@ returns-in-Err-clause-refused c =
     rw (← c.self.view_is, c.in-Open.is)
     (fault_shown text_left c.self.inside.number c.next_said.new.number c.self.inside.reader c.next_said.new.reader c.self.inside.pace c.self.inside.made c.in-Err.fault
     (sym c.take.ensures.value ∙ c.in_default.is) c.in-Err.ensures)
+
+-- what was told closes rightly, and so does what is told now
+pub returns-in-Some-clause-whole : goal.returns-in-Some-clause-whole
+returns-in-Some-clause-whole c =
+    rw (← c.self.view_is) (whole_at c.self.inside.pace c.self.inside.made c.self.inside.number (records_left text_left c.self.inside.reader) c.self.inside.stage)
+
+pub returns-in-Some-clause-whole_after : goal.returns-in-Some-clause-whole_after
+returns-in-Some-clause-whole_after c =
+    whole_at c.self.inside.pace c.take.new.self c.self.inside.number (records_left text_left c.self.inside.reader) c.self.inside.stage
+
+pub returns-in-Ok-Some-clause-whole : goal.returns-in-Ok-Some-clause-whole
+returns-in-Ok-Some-clause-whole c =
+    rw (← c.self.view_is) (whole_at c.self.inside.pace c.self.inside.made c.self.inside.number (records_left text_left c.self.inside.reader) c.self.inside.stage)
+
+pub returns-in-Ok-Some-clause-whole_after : goal.returns-in-Ok-Some-clause-whole_after
+returns-in-Ok-Some-clause-whole_after c =
+    whole_at c.take_in-self-inside.new.self c.take_in-self-inside.result c.next_said.new.number (records_left text_left c.next_said.new.reader) c.self.inside.stage
+
+pub returns-in-Ok-None-clause-whole : goal.returns-in-Ok-None-clause-whole
+returns-in-Ok-None-clause-whole c =
+    rw (← c.self.view_is) (whole_at c.self.inside.pace c.self.inside.made c.self.inside.number (records_left text_left c.self.inside.reader) c.self.inside.stage)
+
+pub returns-in-Err-clause-whole : goal.returns-in-Err-clause-whole
+returns-in-Err-clause-whole c =
+    rw (← c.self.view_is) (whole_at c.self.inside.pace c.self.inside.made c.self.inside.number (records_left text_left c.self.inside.reader) c.self.inside.stage)
