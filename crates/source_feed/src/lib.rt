@@ -18,6 +18,8 @@ mod row_why;
 mod rows;
 mod said;
 mod shard;
+#[cfg(test)]
+mod tests;
 mod whole;
 mod whole_fault;
 
