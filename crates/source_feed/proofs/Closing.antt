@@ -10,7 +10,7 @@ use Rattle.stream_base.specs.declared.entry.Entry.{Entry}
 use Rattle.stream_base.specs.declared.what.What.{What}
 use Rattle.stream_base.specs.declared.what.What.TheVariants.{Tuple, Mark, Water, End}
 use Rattle.source_feed.specs.Feeding.{Feeding, ended_of, told_in, told_of, unread}
-use Rattle.source_feed.specs.declared.file_feed.TheConstants.{SOURCE_MAX}
+use Rattle.source_feed.specs.declared.whole.TheConstants.{SOURCE_MAX}
 use Rattle.source_feed.specs.Pace.{as_waters, made_by, paced, told_from, with_made_from, with_water}
 use Rattle.source_feed.specs.Record.{◌>>=◌, field, is_empty, is_header, key_in, mark_of, time_in, tuple_of, value_in, water_of, what_of}
 use Rattle.source_feed.specs.Rows.{Said, ending, rows_of, said_by, said_from, told_by, with_record}

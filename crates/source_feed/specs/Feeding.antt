@@ -5,7 +5,7 @@ use Rattle.source_feed.specs.FeedFault.{feed_fault, refusal_of}
 use Rattle.source_feed.specs.Rows.{rows_of}
 use Rattle.source_feed.specs.Told.{Told, only_refused, too_long}
 use Rattle.source_feed.specs.declared.feed_fault.FeedFault.{FeedFault}
-use Rattle.source_feed.specs.declared.file_feed.TheConstants.{SOURCE_MAX}
+use Rattle.source_feed.specs.declared.whole.TheConstants.{SOURCE_MAX}
 
 -- how far the reading is: the source wasn't read, its rows are given, or it couldn't be read
 pub data Reading : Type 0 where

@@ -8,13 +8,10 @@ ghost use Rattle.source_feed.specs.Told.{IsOf, IsWhole, StaysTold, is_end, only_
 use crate::feed::Feed;
 use crate::feed_fault::FeedFault;
 use crate::rows::Rows;
-use crate::whole::read_whole;
+use crate::whole::{SOURCE_MAX, read_whole};
 use std::alloc::Global;
 use std::marker::Model;
 use stream_base::{Defs, Entry, Source};
-
-/// The most bytes of a source.
-pub const SOURCE_MAX: u64 = 268_435_456;
 
 // How far the reading of a source is.
 #[derive(Drop)]

@@ -25,10 +25,10 @@ mod whole_fault;
 
 pub use feed::Feed;
 pub use feed_fault::FeedFault;
-pub use file_feed::{FileFeed, SOURCE_MAX};
+pub use file_feed::FileFeed;
 pub use row_fault::RowFault;
 pub use row_why::RowWhy;
 pub use rows::Rows;
 pub use shard::route;
-pub use whole::read_whole;
+pub use whole::{SOURCE_MAX, read_whole};
 pub use whole_fault::WholeFault;

@@ -7,7 +7,7 @@ use stream_base::TIME_MAX;
 // A time: a number of at most 10^15.
 pub fn time_in(text: &[u8]) -> Result<u64, RowWhy>
     ensures value { result ≡ time_in text.now }
-    ensures within { IfOk result (λ time. time ≤ 1000000000000000) }
+    ensures within { IfOk result (λ time. time ≤ TIME_MAX) }
 {
     match number_in(text) {
         Some(number) if number <= TIME_MAX => Ok(number),

@@ -6,7 +6,7 @@ ghost use Rattle.source_feed.specs.Record.{field, is_header, key_in, mark_of, tu
 use crate::numbers::{time_in, value_in};
 use crate::row_why::RowWhy;
 use csv::ByteRecord;
-use stream_base::{KeyText, What};
+use stream_base::{KeyText, TIME_MAX, What};
 
 // Whether a record names the fields of the records after it.
 pub fn is_header(row: &ByteRecord) -> bool
@@ -22,7 +22,7 @@ pub fn is_header(row: &ByteRecord) -> bool
 // What a record says, or its first fault.
 pub fn what_of(row: &ByteRecord) -> Result<What, RowWhy>
     ensures value { result ≡ what_of (fields_of row.now) }
-    ensures within { IfOk result (λ what. time_of what ≤ 1000000000000000) }
+    ensures within { IfOk result (λ what. time_of what ≤ TIME_MAX) }
     ensures inner { IfOk result (λ what. is_end what ≡ false) }
 {
     match field(row, 0) {
@@ -35,7 +35,7 @@ pub fn what_of(row: &ByteRecord) -> Result<What, RowWhy>
 
 fn tuple_of(row: &ByteRecord) -> Result<What, RowWhy>
     ensures value { result ≡ tuple_of (fields_of row.now) }
-    ensures within { IfOk result (λ what. time_of what ≤ 1000000000000000) }
+    ensures within { IfOk result (λ what. time_of what ≤ TIME_MAX) }
     ensures inner { IfOk result (λ what. is_end what ≡ false) }
 {
     if row.len() != 4 {
@@ -49,7 +49,7 @@ fn tuple_of(row: &ByteRecord) -> Result<What, RowWhy>
 
 fn mark_of(row: &ByteRecord) -> Result<What, RowWhy>
     ensures value { result ≡ mark_of (fields_of row.now) }
-    ensures within { IfOk result (λ what. time_of what ≤ 1000000000000000) }
+    ensures within { IfOk result (λ what. time_of what ≤ TIME_MAX) }
     ensures inner { IfOk result (λ what. is_end what ≡ false) }
 {
     if row.len() != 4 || !field(row, 2).is_empty() {
@@ -62,7 +62,7 @@ fn mark_of(row: &ByteRecord) -> Result<What, RowWhy>
 
 fn water_of(row: &ByteRecord) -> Result<What, RowWhy>
     ensures value { result ≡ water_of (fields_of row.now) }
-    ensures within { IfOk result (λ what. time_of what ≤ 1000000000000000) }
+    ensures within { IfOk result (λ what. time_of what ≤ TIME_MAX) }
     ensures inner { IfOk result (λ what. is_end what ≡ false) }
 {
     let is_short = row.len() == 2;

@@ -5,6 +5,9 @@ use crate::whole_fault::WholeFault;
 use std::alloc::Global;
 use stream_base::Source;
 
+/// The most bytes of a source.
+pub const SOURCE_MAX: u64 = 268_435_456;
+
 // How many bytes one read of the source may give.
 const PIECE: usize = 32_768;
 
@@ -18,7 +21,7 @@ pub fn read_whole<S: Source>(
     source: &mut S,
     limit: u64,
 ) -> Result<Vec<u8>, WholeFault>
-    requires { limit ≤ 268435456 }
+    requires { limit ≤ SOURCE_MAX }
     ensures whole { IfOk result (λ bytes. S.rest source.old ≡ with_front bytes.items (S.rest source.new)) }
     ensures ends { OnOk result (IfSome (S.rest source.new) (λ left. left ≡ [])) }
     ensures within { IfOk result (λ bytes. length bytes.items ≤ limit) }
