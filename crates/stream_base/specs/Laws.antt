@@ -1,5 +1,5 @@
 -- The words of the laws about journals, windows and changes.
-use Rattle.std.specs.Prelude.{◌≡◌, ◌≢◌, ◌++◌, ◌&&◌, ℕ, Bool, true, false, List, [], ◌∷◌, length, map, filter, Option, None, Some, slice_get, if◌then◌else◌, nat_lt, nat_le}
+use Rattle.std.specs.Prelude.{◌≡◌, ◌≢◌, ◌≤◌, ◌<◌, ◌+◌, ◌*◌, ◌++◌, ◌&&◌, ℕ, Bool, true, false, List, [], ◌∷◌, length, map, filter, Option, None, Some, slice_get, if◌then◌else◌, nat_lt, nat_le}
 use Rattle.std.specs.Cmp.Lexicographic.{slice_cmp}
 use Rattle.std.specs.List.{Contains, enumerate_from, flat_map}
 use Rattle.std.specs.List.Sorted.{IsNonDecreasingBy, IsStrictlySortedBy}
@@ -158,3 +158,12 @@ is_timed (Sliding length slide) = true
 is_timed (Session gap) = false
 is_timed Marks = false
 is_timed (Events count) = false
+
+-- the multiple of the slide is the start of an interval that holds a kept tuple
+abbrev pub HoldsKept : ℕ → ℕ → List Kept → ℕ → Type 0
+HoldsKept length slide kept low =
+    (k : ℕ) × (x : Kept) × Contains kept x × (low ≡ k * slide) × (low ≤ x.time) × (x.time < low + length)
+
+-- what the instances select
+abbrev pub selections_of : List Instance → List (List Kept)
+selections_of instances = map (λ i. i.chosen) instances
