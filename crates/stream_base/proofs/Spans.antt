@@ -13,7 +13,7 @@ use Rattle.stream_base.specs.declared.kept.Kept.{Kept}
 use Rattle.stream_base.specs.declared.kind.Kind.TheVariants.{Tumbling, Sliding}
 use Rattle.stream_base.specs.Model.Journal.{put_in_order}
 use Rattle.stream_base.specs.Model.Windows.{is_within, within, interval, starts_holding, starts_of, spans, instances_of, is_complete, standing_of}
-use Rattle.stream_base.specs.Laws.{HoldsKept}
+use Rattle.stream_base.specs.Laws.{HoldsKept, HoldsTime}
 use Rattle.stream_base.proofs.Rising.{nat_rising_increases, Contains-from_rising, Contains-rising, nat_rising_is_sorted, same_members_same_list}
 use Rattle.stream_base.proofs.Members.{range_members, range_has, map_members, map_has, map_same, flat_map_members, flat_map_has, filter_members, filter_has, filter_insert_refused, filter_map_of, Contains-insert_cases, Contains-insert_old, Contains-insert_new}
 
@@ -157,3 +157,13 @@ starts_hold_kept length slide kept a moves overlaps = (
 
 pub starts_increase : (length slide : ℕ) (kept : List Kept) → IsStrictlyIncreasing (starts_of length slide kept)
 starts_increase length slide kept = nat_rising_increases (flat_map (λ x. starts_holding length slide x.time) kept)
+
+-- one tuple more brings the starts of the intervals that hold it
+pub starts_after_put : (length slide : ℕ) (kept : List Kept) (x : Kept) (a : ℕ) → 1 ≤ slide → slide ≤ length → Contains (starts_of length slide (put_in_order kept x)) a ↔ (Contains (starts_of length slide kept) a ⊎ HoldsTime length slide x.time a)
+starts_after_put length slide kept x a moves overlaps = (
+  λ c. ⊎_elim (λ d. inl d) (λ d. inr (starts_holding_members length slide moves overlaps x.time a d)) (starts_of_put_cases length slide kept x a c),
+  λ h. ⊎_elim (λ d. starts_of_put_old length slide kept x a d)
+      (λ t. let low : t.0 * slide ≤ x.time = omega (arith, t.1, t.2) in let high : x.time < t.0 * slide + length = omega (arith, t.1, t.3) in
+      subst (Contains (starts_of length slide (put_in_order kept x))) (sym t.1) (starts_of_put_new length slide kept x (t.0 * slide) (starts_holding_has length slide moves overlaps x.time t.0 low high)))
+      h,
+)

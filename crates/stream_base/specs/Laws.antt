@@ -108,10 +108,10 @@ IsChangeOf windows key old new (New row) = IsEmitted windows key old new row
 IsChangeOf windows key old new (Again row) = IsUpdated windows key old new row
 IsChangeOf windows key old new Dropped = ⊥
 
--- the change is one that an entry causes that is not late
+-- the change is one of some key's, from before an entry to behind it
 abbrev pub IsCausedBy : Definitions → ℕ → List Entry → Entry → Change → Type 0
 IsCausedBy d sources before e change =
-    (key : List ℕ) × Contains (keys_of (before ++ e ∷ [])) key × IsChangeOf d.windows key (moment_of d sources key before) (moment_of d sources key (before ++ e ∷ [])) change
+    (key : List ℕ) × IsChangeOf d.windows key (moment_of d sources key before) (moment_of d sources key (before ++ e ∷ [])) change
 
 -- where a change stands in a list: its key, whether it is an emission or update, its window, and its start and end
 pub record Place : Type 0 where
@@ -158,6 +158,10 @@ is_timed (Sliding length slide) = true
 is_timed (Session gap) = false
 is_timed Marks = false
 is_timed (Events count) = false
+
+-- the multiple of the slide is the start of an interval that holds the time
+abbrev pub HoldsTime : ℕ → ℕ → ℕ → ℕ → Type 0
+HoldsTime length slide time low = (k : ℕ) × (low ≡ k * slide) × (low ≤ time) × (time < low + length)
 
 -- the multiple of the slide is the start of an interval that holds a kept tuple
 abbrev pub HoldsKept : ℕ → ℕ → List Kept → ℕ → Type 0

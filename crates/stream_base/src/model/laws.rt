@@ -16,8 +16,8 @@ ghost use Rattle.stream_base.specs.declared.limits.TheConstants.{FINAL};
 ghost use Rattle.stream_base.specs.Limits.{Definitions, AreWithinLimits, IsKindWithin};
 ghost use Rattle.stream_base.specs.Model.Changes.{changes_after, changes_of_key, is_same};
 ghost use Rattle.stream_base.specs.Model.Journal.{is_end, is_late, key_in, keys_of, kept_of, marks_of, on_time, put_in_order, rising, source_water, tuple_in, tuples_in, water_of, water_time, waters_of};
-ghost use Rattle.stream_base.specs.Model.Windows.{Instance, instances_of, pieces_of, sessions, starts_of, within};
-ghost use Rattle.stream_base.specs.Laws.{accepted_mark, accepted_tuple, on_time_entry, is_timed, is_water_or_end, completions_after, selections_of, AreInEventOrder, AreInOrder, HoldsKept, IsCausedBy, RiseByStart, TimesDoNotFall};
+ghost use Rattle.stream_base.specs.Model.Windows.{Instance, instances_of, pieces_of, sessions, standing_of, starts_of, within};
+ghost use Rattle.stream_base.specs.Laws.{accepted_mark, accepted_tuple, on_time_entry, is_timed, is_water_or_end, completions_after, selections_of, AreInEventOrder, AreInOrder, HoldsKept, HoldsTime, IsCausedBy, RiseByStart, TimesDoNotFall};
 
 /// `rising` gives the elements of a list in their order, each once; numbers and keys have the same
 /// members as before.
@@ -28,10 +28,11 @@ pub fn rising_lists_each_element_once()
     ensures keys_stay { (keys : List (List ℕ)) (key : List ℕ) → Contains (rising (slice_cmp nat_cmp) keys) key ↔ Contains keys key }
 {}
 
-/// The watermark never falls as a journal grows.
-#[tactic(auto, using(crate::proofs::Growing::water_rises_over))]
+/// The watermark never falls as a journal grows, and is never above the final one.
+#[tactic(auto, using(crate::proofs::Growing::water_rises_over, crate::proofs::Growing::water_below_final))]
 pub fn watermark_never_falls()
-    ensures { (sources : ℕ) (journal more : List Entry) → water_of sources journal ≤ water_of sources (journal ++ more) }
+    ensures bounded { (sources : ℕ) (journal : List Entry) → water_of sources journal ≤ FINAL }
+    ensures rises { (sources : ℕ) (journal more : List Entry) → water_of sources journal ≤ water_of sources (journal ++ more) }
 {}
 
 /// One entry more moves the watermark of its own source alone: its end makes it final, and a
@@ -86,10 +87,11 @@ pub fn intervals_hold_a_kept_tuple()
     ensures rising { (length slide : ℕ) (kept : List Kept) → IsStrictlyIncreasing (starts_of length slide kept) }
 {}
 
-/// A tuple changes no selection of an interval that doesn't hold it.
-#[tactic(auto, using(crate::proofs::Spans::within_put))]
+/// One tuple more brings the intervals that hold it, and changes no selection of another interval.
 pub fn tuple_changes_the_intervals_that_hold_it()
-    ensures { (low high : ℕ) (kept : List Kept) (x : Kept) → (x.time < low) ⊎ (high ≤ x.time)
+    ensures starts { (length slide : ℕ) (kept : List Kept) (x : Kept) (low : ℕ) → 1 ≤ slide → slide ≤ length
+        → Contains (starts_of length slide (put_in_order kept x)) low ↔ (Contains (starts_of length slide kept) low ⊎ HoldsTime length slide x.time low) }
+    ensures selections { (low high : ℕ) (kept : List Kept) (x : Kept) → (x.time < low) ⊎ (high ≤ x.time)
         → within low high (put_in_order kept x) ≡ within low high kept }
 {}
 
@@ -136,12 +138,18 @@ pub fn late_entry_is_dropped()
         → is_late d.lateness (water_of sources before) e.what ≡ true → changes_after d sources before e ≡ Dropped ∷ [] }
 {}
 
-/// An entry that isn't late causes these changes and no others: for each key of the journal, a
-/// retraction of each instance that stood and stands no longer, an emission of each that newly stands,
-/// and an update of each that stood, stands, and selects other positions.
+/// An entry that isn't late causes these changes and no others: for each key a retraction of each
+/// instance that stood and stands no longer, an emission of each that newly stands, and an update of
+/// each that stood, stands, and selects other positions.
 pub fn changes_are_those_of_the_instances()
     ensures { (d : Definitions) (sources : ℕ) (before : List Entry) (e : Entry) (change : Change) → AreWithinLimits d
         → is_late d.lateness (water_of sources before) e.what ≡ false → Contains (changes_after d sources before e) change ↔ IsCausedBy d sources before e change }
+{}
+
+/// Of a key that no tuple or mark of a journal has, nothing is kept and nothing stands.
+pub fn absent_key_has_nothing()
+    ensures kept { (lateness sources : ℕ) (key : List ℕ) (journal : List Entry) → ¬ Contains (keys_of journal) key → kept_of lateness sources key journal ≡ [] }
+    ensures stands { (kind : Kind) (marks : List ℕ) (water : ℕ) → standing_of kind [] marks water ≡ [] }
 {}
 
 /// The changes that an entry causes come each once, ordered by the bytes of their keys, then
