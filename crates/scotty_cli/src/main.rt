@@ -1,0 +1,6 @@
+//! The program.
+#![tactic(auto)]
+
+mod feeding;
+
+fn main(_rt: HostRuntime) {}
