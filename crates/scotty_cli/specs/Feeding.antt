@@ -1,5 +1,6 @@
 -- How far a shard has taken in the entries of a source.
-use Rattle.std.specs.Prelude.{◌≡◌, ◌<◌, ◌||◌, ℕ, Bool, true, false, List, [], length}
+use Rattle.std.specs.Prelude.{◌≡◌, ◌<◌, ◌++◌, Bool, true, false, List, length, Option, Some}
+use Rattle.source_feed.specs.Told.{Told}
 use Rattle.std.specs.List.{list_any}
 use Rattle.stream_base.specs.declared.limits.TheConstants.{JOURNAL_MAX}
 use Rattle.stream_base.specs.declared.entry.Entry.{Entry}
@@ -25,3 +26,12 @@ HasTaken taken Applying journal = (has_mark taken ≡ false) × (journal ≡ tak
 HasTaken taken Marked journal = has_mark taken ≡ true
 HasTaken taken Full journal = (has_mark taken ≡ false) × (JOURNAL_MAX < length taken)
 HasTaken taken Starved journal = Unit {0}
+
+-- of the entries that a source told at the start, these were taken in, and what is told now is left
+pub record Takes (start : Told) (now : Option Told) (progress : Progress) (journal : List Entry) : Type 0 where
+  pub left : Told
+  pub told : now ≡ Some left
+  pub taken : List Entry
+  pub all : start.entries ≡ taken ++ left.entries
+  pub refusal : start.refusal ≡ left.refusal
+  pub made : HasTaken taken progress journal

@@ -4,10 +4,10 @@ ghost use Rattle.stream_base.specs.Outside.{Rose};
 ghost use Rattle.stream_base.specs.declared.entry.Entry.{Entry};
 ghost use Rattle.stream_base.specs.Model.Journal.{has_ended};
 ghost use Rattle.stream_base.specs.Model.Journals.{is_entry_within};
-ghost use Rattle.source_feed.specs.Told.{Told, is_end};
+ghost use Rattle.source_feed.specs.Told.{Told, time_of};
 ghost use Rattle.source_feed.specs.FeedFault.{refusal_of};
 ghost use Rattle.scotty_cli.specs.Feeding.{HasTaken, is_mark};
-ghost use Rattle.stream_base.specs.declared.limits.TheConstants.{JOURNAL_MAX};
+ghost use Rattle.stream_base.specs.declared.limits.TheConstants.{JOURNAL_MAX, TIME_MAX};
 
 use agg_laws::Steps;
 use shard_core::{ApplyFault, Shard};
@@ -49,12 +49,35 @@ pub fn feed_shard<F: Feed, G: Gate, L>(
 {
     let mut progress = Progress::Applying;
     for _ in 0..u64::MAX {
-        match feed.next()? {
-            None => return Ok(progress),
-            Some(entry) => progress = take_in(progress, shard, &entry, gate, steps),
+        match feed.next() {
+            Err(fault) => return Err(fault),
+            Ok(None) => return Ok(progress),
+            Ok(Some(entry)) => {
+                vouch(&entry);
+                progress = take_in(progress, shard, &entry, gate, steps);
+            }
         }
     }
-    Ok(Progress::Starved)
+    // No memory holds so many entries.
+    Err(FeedFault::NoMemory)
+}
+
+// Tells that an entry of a feed is within the limits.
+fn vouch(entry: &Entry)
+    requires { time_of (entry.now).what ≤ TIME_MAX }
+    ensures { is_entry_within entry.now ≡ true }
+{
+    let _source = entry.source;
+    match entry.what {
+        What::Tuple { key, value, .. } => {
+            let _value = value;
+            let _bytes = key.bytes();
+        }
+        What::Mark { key, .. } => {
+            let _bytes = key.bytes();
+        }
+        What::Water { .. } | What::End => {}
+    }
 }
 
 // One entry more.
