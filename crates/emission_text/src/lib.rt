@@ -1,0 +1,13 @@
+//! The text of reports and of fault lines, written to a sink.
+//!
+//! *From* shards and faults *to* bytes. *Stands on* the base crate, and on the sinks of its outside.
+//! *Promise*: exactly the text of the definitions is appended to the sink. A failure is answered only
+//! where a write of the sink failed, and then a front of the text went out. No memory is taken.
+#![tactic(auto)]
+
+mod line;
+mod pending;
+mod sink_fault;
+mod writing;
+
+pub use sink_fault::SinkFault;
