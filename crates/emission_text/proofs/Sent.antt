@@ -118,3 +118,36 @@ sends-taken {text = text} {old = old} {new = new} rest n within first written =
       splits = first.splits ∙ ap (λ bytes. first.front ++ bytes) (sym (take-append-drop n rest)) ∙ sym (append_assoc first.front (take n rest) (drop n rest));
       written = written ∙ ap (λ told. with_back (take n rest) told) first.written ∙ with_back-twice first.front (take n rest) old;
     })
+
+-- the same, of an element that is named
+pub sends-item : {X : Type 0} {text left : List ℕ} {old mid new : Option (List ℕ)} (f : X → List ℕ) (xs : List X) (i : ℕ) (x : X) (pending : List ℕ) → i < length xs → x ≡ get_or xs i x
+    → Sends text (pending ++ flat_map f (drop i xs)) old mid → Sends (pending ++ f x) left mid new
+    → Sends text (left ++ flat_map f (drop (i + 1) xs)) old new
+sends-item {left = left} {mid = mid} {new = new} f xs i x pending within is first second =
+    sends-element f xs i x pending within first (subst (λ item. Sends (pending ++ f item) left mid new) is second)
+
+pub sends-front-item : {X : Type 0} {text : List ℕ} {old mid new : Option (List ℕ)} (f : X → List ℕ) (xs : List X) (i : ℕ) (x : X) (pending : List ℕ) → i < length xs → x ≡ get_or xs i x
+    → Sends text (pending ++ flat_map f (drop i xs)) old mid → SendsFront (pending ++ f x) mid new → SendsFront text old new
+sends-front-item {mid = mid} {new = new} f xs i x pending within is first second =
+    sends-front-element f xs i x pending within first (subst (λ item. SendsFront (pending ++ f item) mid new) is second)
+
+-- two parts one behind the other: both went
+pub both-added : {left last : List ℕ} {old mid new : Option (List ℕ)} (pending part more : List ℕ)
+    → Sends (pending ++ part) left old mid → Sends (left ++ more) last mid new → Sends (pending ++ (part ++ more)) last old new
+both-added {left = left} {last = last} {old = old} pending part more first second = record {
+  front = first.front ++ second.front;
+  splits = sym (append_assoc pending part more) ∙ ap (λ bytes. bytes ++ more) first.splits ∙ append_assoc first.front left more ∙ ap (λ bytes. first.front ++ bytes) second.splits ∙ sym (append_assoc first.front second.front last);
+  written = second.written ∙ ap (λ told. with_back second.front told) first.written ∙ with_back-twice first.front second.front old;
+}
+
+-- the second part failed
+pub second-refused : {left : List ℕ} {old mid new : Option (List ℕ)} (pending part more : List ℕ)
+    → Sends (pending ++ part) left old mid → SendsFront (left ++ more) mid new → SendsFront (pending ++ (part ++ more)) old new
+second-refused {left = left} {old = old} pending part more first second =
+    let gone = take second.count (left ++ more) in
+    sends-front (both-added pending part more first (record { front = gone; splits = sym (take-append-drop second.count (left ++ more)); written = second.written }))
+
+-- the first part failed
+pub first-refused : {old new : Option (List ℕ)} (pending part more : List ℕ) → SendsFront (pending ++ part) old new → SendsFront (pending ++ (part ++ more)) old new
+first-refused {old = old} {new = new} pending part more some =
+    subst (λ text. SendsFront text old new) (append_assoc pending part more) (pending-front (pending ++ part) more some)

@@ -5,8 +5,10 @@
 //! where a write of the sink failed, and then a front of the text went out. No memory is taken.
 #![tactic(auto)]
 
-mod line;
+mod change_line;
+mod entry_line;
 mod pending;
+mod pieces;
 mod sink_fault;
 mod writing;
 

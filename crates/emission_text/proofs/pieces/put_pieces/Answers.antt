@@ -1,7 +1,7 @@
 -- Each piece is one part more.
 use Rattle.std.proofs.Common.{◌∙◌}
 use Rattle.emission_text.proofs.Sent.{on-err, sends-element, sends-front-element}
-use Rattle.emission_text.proofs.line.put_pieces.Goals as goal
+use Rattle.emission_text.proofs.pieces.put_pieces.Goals as goal
 
 pub returns-in_err-add-clause-refused : goal.returns-in_err-add-clause-refused
 returns-in_err-add-clause-refused g c = on-err c.from_residual.result

@@ -1,4 +1,4 @@
-//! Lines, put behind what is pending.
+//! Pieces of text, put behind what is pending.
 ghost use Rattle.std.specs.Prelude.{◌≡◌, ◌++◌, OnOk, OnErr};
 ghost use Rattle.std.specs.List.{flat_map};
 ghost use Rattle.stream_base.specs.Outside.{Rose};
