@@ -1,7 +1,6 @@
 -- What folds come to.
 use Rattle.std.proofs.Common.{◌≡◌, ◌∙◌, ◌≤◌, ◌+◌, ◌*◌, ◌/◌, ◌-◌, suc, ◌<◌, ℕ, ℤ, Bool, true, false, cond, List, [], ◌∷◌, ◌++◌, length, get_or, drop, map, ap, sym, refl, arith, append_assoc}
 use Rattle.std.proofs.lemmas.List.{drop_more, drop_all}
-use Rattle.std.proofs.Math.Nat.{mul_comm}
 use Rattle.std.specs.List.{fold, filter, flat_map, range_with_len}
 use Rattle.std.specs.Ordering.{nat_cmp}
 use Rattle.std.specs.BTreeSet.{insert_key}
@@ -61,9 +60,6 @@ starts_from l starts (x ∷ xs) =
 
 pub all_starts : (l : ℕ) (kept : List Kept) → fold (with_start l) [] kept ≡ starts_of l l kept
 all_starts l kept = starts_from l [] kept
-
-pub start_below : (l t m : ℕ) → 1 ≤ l → t ≤ m → t / l * l ≤ m
-start_below l t m h b = rw (mul_comm (t / l) l) (omega arith)
 
 emitted_from : (window : ℕ) (key : List ℕ) (func : Func) (l old new : ℕ) (kept : List Kept) (starts : List ℕ) → flat_map (emission_at window key func l old new kept) starts ≡ emissions_due window key func old new (map (λ low. interval low (low + l) kept) starts)
 emitted_from window key func l old new kept [] = refl

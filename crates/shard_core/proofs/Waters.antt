@@ -1,20 +1,21 @@
 -- The sources' watermarks as they are kept.
-use Rattle.std.proofs.Common.{◌≡◌, ◌∙◌, ◌≤◌, ◌<◌, ◌+◌, ◌&&◌, ◌||◌, ◌==◌, ℕ, Bool, true, false, cond, max, List, [], ◌∷◌, ◌++◌, length, get_or, set, map, replicate, ap, sym, refl, arith, eqb}
+use Rattle.std.proofs.Common.{◌≡◌, ◌∙◌, ◌≤◌, ◌<◌, ◌+◌, ◌&&◌, ◌||◌, ◌==◌, ℕ, zero, suc, Bool, true, false, cond, max, List, [], ◌∷◌, ◌++◌, length, get_or, set, map, replicate, ap, subst, sym, refl, arith, eqb}
 use Rattle.std.proofs.lemmas.Bool.Decides.{nat_tests}
+use Rattle.std.proofs.Math.ListN.{length-set}
 use Rattle.std.proofs.lemmas.List.FromFn.{get_or-map-range_with_len}
-use Rattle.std.proofs.lemmas.List.Elements.{All-head, All-tail}
+use Rattle.std.proofs.lemmas.List.Elements.{All-head, All-tail, All-push}
 use Rattle.std.specs.List.{All, fold, list_any, range_with_len}
 use Rattle.stream_base.specs.declared.limits.TheConstants.{FINAL, TIME_MAX}
 use Rattle.stream_base.specs.declared.entry.Entry.{Entry}
 use Rattle.stream_base.specs.declared.what.What.{What}
 use Rattle.stream_base.specs.declared.what.What.TheVariants.{Tuple, Mark, Water, End}
-use Rattle.stream_base.specs.Model.Journal.{has_ended, is_end, latest_water, on_time, on_time_after, source_water, water_time, waters_of}
+use Rattle.stream_base.specs.Model.Journal.{has_ended, is_end, is_late, latest_water, water_of, on_time, on_time_after, source_water, water_time, waters_of}
 use Rattle.stream_base.specs.Model.Journals.{is_entry_within}
-use Rattle.stream_base.proofs.Growing.{source_water_own, source_water_end, waters_of_push}
-use Rattle.shard_core.specs.Past.{raised}
+use Rattle.stream_base.proofs.Growing.{on_time_push, source_water_own, source_water_end, waters_of_push}
+use Rattle.shard_core.specs.Past.{AreKnown, raised}
 
-pub water_at : (sources s : ℕ) (journal : List Entry) → s < sources → get_or (waters_of sources journal) s 0 ≡ source_water s journal
-water_at sources s journal h = get_or-map-range_with_len (λ k. source_water k journal) 0 sources s s 0 h (omega arith)
+pub water_at : (sources s d : ℕ) (journal : List Entry) → s < sources → get_or (waters_of sources journal) s d ≡ source_water s journal
+water_at sources s d journal h = get_or-map-range_with_len (λ k. source_water k journal) 0 sources s s d h (omega arith)
 
 -- an entry within its limits has a time within the limit
 time_within : (e : Entry) → is_entry_within e ≡ true → water_time e.what ≤ TIME_MAX
@@ -64,7 +65,7 @@ source_water_raised journal e h = by e.what refl
 -- one entry more raises its source's watermark, and no other
 pub waters_raised : (sources : ℕ) (journal : List Entry) (e : Entry) → is_entry_within e ≡ true → e.source < sources → set (waters_of sources journal) e.source (raised (get_or (waters_of sources journal) e.source 0) e.what) ≡ waters_of sources (journal ++ e ∷ [])
 waters_raised sources journal e h l =
-    ap (λ w. set (waters_of sources journal) e.source (raised w e.what)) (water_at sources e.source journal l)
+    ap (λ w. set (waters_of sources journal) e.source (raised w e.what)) (water_at sources e.source 0 journal l)
     ∙ ap (set (waters_of sources journal) e.source) (sym (source_water_raised journal e h))
     ∙ sym (waters_of_push sources journal e)
 
@@ -79,3 +80,36 @@ waters_of_nil n = zeros 0 n
 pub on_time_nil : (lateness sources : ℕ) → on_time lateness sources [] ≡ []
 unfolding on_time_after
 on_time_nil lateness sources = refl
+
+-- what is kept of a past, one entry on: its watermarks, the entries on time, and what is known of all
+pub past_push : (l : ℕ) (journal longer : List Entry) (timely noted : List (ℕ × Entry)) (waters raised_waters : List ℕ) (e : Entry) (late : Bool) (position : ℕ)
+    → timely ≡ on_time l (length waters) journal
+    → waters ≡ waters_of (length waters) journal
+    → AreKnown (record { lateness = l; sources = length waters; journal = journal })
+    → late ≡ is_late l (water_of (length waters) journal) e.what
+    → position ≡ length journal
+    → noted ≡ timely ++ cond late [] ((position, e) ∷ [])
+    → raised_waters ≡ set waters e.source (raised (get_or waters e.source 0) e.what)
+    → longer ≡ journal ++ e ∷ []
+    → e.source < length waters
+    → is_entry_within e ≡ true
+    → (noted ≡ on_time l (length raised_waters) longer) × (raised_waters ≡ waters_of (length raised_waters) longer) × AreKnown (record { lateness = l; sources = length raised_waters; journal = longer })
+past_push l journal longer timely noted waters raised_waters e late position is_timely are_waters known is_late_is at noted_is raised_is longer_is source within =
+    let n = length waters in
+    let same : length raised_waters ≡ n = ap length raised_is ∙ length-set waters e.source (raised (get_or waters e.source 0) e.what) in
+    let noted_at : noted ≡ on_time l n (journal ++ e ∷ []) =
+    noted_is
+    ∙ (λ i. is_timely i ++ cond (is_late_is i) [] ((at i, e) ∷ []))
+    ∙ sym (on_time_push l n journal e) in
+    let raised_at : raised_waters ≡ waters_of n (journal ++ e ∷ []) =
+    raised_is
+    ∙ ap (λ ws. set ws e.source (raised (get_or ws e.source 0) e.what)) are_waters
+    ∙ waters_raised n journal e within source in
+    let known_at : AreKnown (record { lateness = l; sources = n; journal = journal ++ e ∷ [] }) = record {
+      sources = All-push (λ x. x.source < n) journal e known.sources source;
+      within = All-push (λ x. is_entry_within x ≡ true) journal e known.within within;
+    } in (
+      noted_at ∙ (λ i. on_time l (sym same i) (sym longer_is i)),
+      raised_at ∙ (λ i. waters_of (sym same i) (sym longer_is i)),
+      subst (λ (p : ℕ × List Entry). AreKnown (record { lateness = l; sources = p.0; journal = p.1 })) (λ i. (sym same i, sym longer_is i)) known_at,
+    )

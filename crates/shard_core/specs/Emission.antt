@@ -1,6 +1,5 @@
 -- What a move of the watermark emits.
-use Rattle.std.specs.Prelude.{◌≤◌, ◌+◌, ℕ, ℤ, List, [], ◌∷◌, All, map, filter}
-use Rattle.stream_base.specs.declared.limits.TheConstants.{TIME_MAX}
+use Rattle.std.specs.Prelude.{◌+◌, ℕ, ℤ, List, [], ◌∷◌, map, filter}
 use Rattle.stream_base.specs.declared.change.Change.{Change}
 use Rattle.stream_base.specs.declared.change.Change.TheVariants.{New}
 use Rattle.stream_base.specs.declared.func.Func.{Func}
@@ -8,10 +7,6 @@ use Rattle.stream_base.specs.declared.kept.Kept.{Kept}
 use Rattle.stream_base.specs.Laws.{becomes_complete}
 use Rattle.stream_base.specs.Model.Changes.{row_of}
 use Rattle.stream_base.specs.Model.Windows.{Instance, interval}
-
--- no time is beyond the limit
-abbrev pub AreTimely : List Kept → Type 0
-AreTimely kept = All (λ x. x.time ≤ TIME_MAX) kept
 
 -- the values of tuples
 abbrev pub values_of : List Kept → List ℤ

@@ -3,3 +3,5 @@ pub mod Emission
 pub mod Folding
 pub mod Past
 pub mod PastInside
+pub mod ShardInside
+pub mod Effect

@@ -9,6 +9,7 @@
 #![tactic(auto)]
 
 mod applied;
+mod effect;
 mod emit;
 mod fold;
 mod past;
@@ -16,3 +17,4 @@ mod recall;
 mod shard;
 
 pub use applied::{Applied, ApplyFault};
+pub use shard::Shard;

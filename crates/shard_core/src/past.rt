@@ -71,16 +71,23 @@ impl Past {
         least(&self.waters)
     }
 
+    /// What the watermark would be after one entry more.
+    #[tactic(auto, unfolding(stream_base::specs::Model::Journal::water_of))]
+    pub fn water_after(&self, alloc: Global, entry: &Entry) -> Result<u64, NoMemory>
+        requires source { entry.now.source < self.now.sources }
+        requires within { is_entry_within entry.now ≡ true }
+        ensures { IfOk result (λ water. water ≡ water_of self.now.sources (self.now.journal ++ entry.now ∷ [])) }
+    {
+        let mut waters = Vec::from_slice(alloc, &self.waters)?;
+        raise(&mut waters, entry.source, &entry.what);
+        Ok(least(&waters))
+    }
+
     /// Whether a tuple or mark would be late.
     pub fn is_late(&self, what: &What) -> bool
         ensures { result ≡ is_late self.now.lateness (water_of self.now.sources self.now.journal) what.now }
     {
-        match *what {
-            What::Tuple { time, .. } | What::Mark { time, .. } => {
-                time.saturating_add(self.lateness) < self.water()
-            }
-            What::Water { .. } | What::End => false,
-        }
+        is_late(self.lateness, self.water(), what)
     }
 
     /// The keys, in the order of their bytes.
@@ -105,12 +112,12 @@ impl Past {
         ensures ok { OnOk result (self.new ≡ recorded_with self.old entry.now) }
         ensures err { OnErr result (self.new ≡ self.old) }
     {
-        let late = self.is_late(&entry.what);
+        let water = self.water();
         self.journal.reserve(1)?;
         self.on_time.reserve(1)?;
         let position = self.journal.len() as u64;
-        note_on_time(&mut self.on_time, position, entry, late);
-        raise(&mut self.waters, entry);
+        note_on_time(&mut self.on_time, (position, *entry), self.lateness, water);
+        raise(&mut self.waters, entry.source, &entry.what);
         self.journal.push_reserved(*entry);
         Ok(())
     }
@@ -127,21 +134,35 @@ fn least(waters: &[u64]) -> u64
     least
 }
 
-fn note_on_time(on_time: &mut Vec<(u64, Entry)>, position: u64, entry: &Entry, late: bool)
-    requires { vec_len on_time.old < vec_capacity on_time.old }
-    ensures { on_time.new.items ≡ on_time.old.items ++ (if late then [] else (position, entry.now) ∷ []) }
+fn is_late(lateness: u64, water: u64, what: &What) -> bool
+    requires { water ≤ FINAL }
+    ensures { result ≡ is_late lateness water what.now }
 {
-    if !late {
-        on_time.push_reserved((position, *entry));
+    match *what {
+        What::Tuple { time, .. } | What::Mark { time, .. } => {
+            time.saturating_add(lateness) < water
+        }
+        What::Water { .. } | What::End => false,
     }
 }
 
-fn raise(waters: &mut Vec<u64>, entry: &Entry)
-    requires { entry.now.source < vec_len waters.old }
-    ensures { waters.new.items ≡ set waters.old.items entry.now.source (raised (slice_index waters.old.items entry.now.source) entry.now.what) }
+fn note_on_time(on_time: &mut Vec<(u64, Entry)>, numbered: (u64, Entry), lateness: u64, water: u64)
+    requires room { vec_len on_time.old < vec_capacity on_time.old }
+    requires water { water ≤ FINAL }
+    ensures { on_time.new.items ≡ on_time.old.items ++ (if is_late lateness water (numbered.1).what then [] else numbered ∷ []) }
 {
-    let source = entry.source as usize;
-    waters[source] = raised(waters[source], &entry.what);
+    let late = is_late(lateness, water, &numbered.1.what);
+    if !late {
+        on_time.push_reserved(numbered);
+    }
+}
+
+fn raise(waters: &mut Vec<u64>, source: u16, what: &What)
+    requires { source < vec_len waters.old }
+    ensures { waters.new.items ≡ set waters.old.items source (raised (slice_index waters.old.items source) what.now) }
+{
+    let place = source as usize;
+    waters[place] = raised(waters[place], what);
 }
 
 fn raised(water: u64, what: &What) -> u64

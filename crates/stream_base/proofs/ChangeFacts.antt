@@ -126,7 +126,7 @@ emitted_at_water window key func is old new s le =
     never i c h = and_right (nat_lt old i.bound) (nat_le i.bound new) h
 
 -- ---- all windows of a key
-enumerate_members : {X : Type 0} (n : ℕ) (xs : List X) (w : ℕ × X) → Contains (enumerate_from n xs) w → Contains xs w.1
+pub enumerate_members : {X : Type 0} (n : ℕ) (xs : List X) (w : ℕ × X) → Contains (enumerate_from n xs) w → Contains xs w.1
 enumerate_members n [] w c = absurd (none_in_nil w c)
 enumerate_members {X} n (x ∷ xs) w c =
     ⊎_elim
@@ -134,12 +134,12 @@ enumerate_members {X} n (x ∷ xs) w c =
     (λ d. Contains-tail x xs w.1 (enumerate_members (n + 1) xs w d))
     (Contains-cons_cases (n, x) (enumerate_from (n + 1) xs) w c)
 
-flat_map_none : {X Y : Type 0} (f : X → List Y) (xs : List X) → ((x : X) → Contains xs x → f x ≡ []) → flat_map f xs ≡ []
+pub flat_map_none : {X Y : Type 0} (f : X → List Y) (xs : List X) → ((x : X) → Contains xs x → f x ≡ []) → flat_map f xs ≡ []
 flat_map_none f [] h = refl
 flat_map_none f (x ∷ xs) h =
     ap (λ l. l ++ flat_map f xs) (h x (Contains-head x xs)) ∙ flat_map_none f xs (λ y c. h y (Contains-tail x xs y c))
 
-flat_map_same : {X Y : Type 0} (f g : X → List Y) (xs : List X) → ((x : X) → Contains xs x → f x ≡ g x) → flat_map f xs ≡ flat_map g xs
+pub flat_map_same : {X Y : Type 0} (f g : X → List Y) (xs : List X) → ((x : X) → Contains xs x → f x ≡ g x) → flat_map f xs ≡ flat_map g xs
 flat_map_same f g [] h = refl
 flat_map_same f g (x ∷ xs) h =
     let first : f x ≡ g x = h x (Contains-head x xs) in

@@ -31,10 +31,10 @@ All_from_members P xs h k d l = h (get_or xs k d) (Contains-get_or xs k d l)
 pub by_start_total : IsTotalOrder by_start
 by_start_total = on_total (λ (i : Instance). i.low) nat_cmp_total
 
-less_from_lt : (a b : ℕ) → a < b → nat_cmp a b ≡ Less
+pub less_from_lt : (a b : ℕ) → a < b → nat_cmp a b ≡ Less
 less_from_lt a b h = grind (arith, nat_tests)
 
-lt_from_less : (a b : ℕ) → nat_cmp a b ≡ Less → a < b
+pub lt_from_less : (a b : ℕ) → nat_cmp a b ≡ Less → a < b
 lt_from_less a b h = grind (arith, nat_tests)
 
 -- a list stays in order through a function that keeps it

@@ -12,3 +12,8 @@ pub mod Spans
 pub mod Distinct
 pub mod ChangeFacts
 pub mod EventOrder
+pub mod Pieces
+pub mod Selecting
+pub mod ChangeList
+pub mod ChangeOrder
+pub mod ChangesAfter

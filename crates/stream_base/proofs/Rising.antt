@@ -105,7 +105,7 @@ module _ {K : Type 0} {cmp : K → K → Ordering} (o : IsTotalOrder cmp) where
   flipped : (x y : K) → cmp x y ≡ Greater → cmp y x ≡ Less
   flipped x y e = o.antisymm y x ∙ ap ordering_reverse e
 
-  not_below_itself : (x : K) → cmp x x ≡ Less → ⊥
+  pub not_below_itself : (x : K) → cmp x x ≡ Less → ⊥
   not_below_itself x e = let t : cmp x x ≡ Equal = tied_itself o x in cc
 
   not_both : (x y : K) → cmp x y ≡ Less → cmp y x ≡ Less → ⊥

@@ -1,15 +1,23 @@
 -- The words of the laws about journals, windows and changes.
-use Rattle.std.specs.Prelude.{◌&&◌, ℕ, Bool, List, [], ◌∷◌, length, map, filter, Option, None, if◌then◌else◌, nat_lt, nat_le}
+use Rattle.std.specs.Prelude.{◌≡◌, ◌≢◌, ◌++◌, ◌&&◌, ℕ, Bool, true, false, List, [], ◌∷◌, length, map, filter, Option, None, Some, slice_get, if◌then◌else◌, nat_lt, nat_le}
+use Rattle.std.specs.Cmp.Lexicographic.{slice_cmp}
+use Rattle.std.specs.List.{Contains, enumerate_from, flat_map}
 use Rattle.std.specs.List.Sorted.{IsNonDecreasingBy, IsStrictlySortedBy}
 use Rattle.std.specs.Ordering.{nat_cmp, ordering_then}
 use Rattle.std.specs.declared.cmp.Ordering.{Ordering}
 use Rattle.stream_base.specs.declared.change.Change.{Change}
-use Rattle.stream_base.specs.declared.change.Change.TheVariants.{New}
+use Rattle.stream_base.specs.declared.change.Change.TheVariants.{Gone, New, Again, Dropped}
 use Rattle.stream_base.specs.declared.def.Def.{Def}
 use Rattle.stream_base.specs.declared.entry.Entry.{Entry}
 use Rattle.stream_base.specs.declared.kept.Kept.{Kept}
-use Rattle.stream_base.specs.Model.Changes.{Moment, row_of}
-use Rattle.stream_base.specs.Model.Journal.{is_late, mark_in, tuple_in, water_of}
+use Rattle.stream_base.specs.declared.kind.Kind.{Kind}
+use Rattle.stream_base.specs.declared.kind.Kind.TheVariants.{Tumbling, Sliding, Session, Marks, Events}
+use Rattle.stream_base.specs.declared.row.Row.{Row}
+use Rattle.stream_base.specs.declared.what.What.{What}
+use Rattle.stream_base.specs.declared.what.What.TheVariants.{Tuple, Mark, Water, End}
+use Rattle.stream_base.specs.Limits.{Definitions}
+use Rattle.stream_base.specs.Model.Changes.{Moment, moment_of, row_of, standing_at}
+use Rattle.stream_base.specs.Model.Journal.{is_late, keys_of, mark_in, tuple_in, water_of}
 use Rattle.stream_base.specs.Model.Windows.{Instance, instances_of}
 
 -- the tuple of a key that an entry behind a journal is, if it is one and not late
@@ -55,3 +63,98 @@ AreInEventOrder kept = IsStrictlySortedBy by_time_and_position kept
 -- the times of the tuples don't fall
 abbrev pub TimesDoNotFall : List Kept → Type 0
 TimesDoNotFall kept = IsNonDecreasingBy (λ x. x.time) kept
+
+-- one of the instances starts and ends so
+abbrev pub HasInstance : List Instance → ℕ → ℕ → Type 0
+HasInstance instances low high = (i : Instance) × Contains instances i × (i.low ≡ low) × (i.high ≡ high)
+
+-- the positions of the tuples that an instance selects
+abbrev pub positions_of : Instance → List ℕ
+positions_of i = map (λ x. x.position) i.chosen
+
+-- an instance of a window stood with this start and end, and none does now
+pub record IsRetracted (windows : List Def) (old new : Moment) (window low high : ℕ) : Type 0 where
+  pub def : Def
+  pub of_window : slice_get windows window ≡ Some def
+  pub stood : HasInstance (standing_at def old) low high
+  pub stands_no_longer : ¬ HasInstance (standing_at def new) low high
+
+-- the row is that of an instance that stands, where none stood with its start and end
+pub record IsEmitted (windows : List Def) (key : List ℕ) (old new : Moment) (row : Row) : Type 0 where
+  pub def : Def
+  pub of_window : slice_get windows row.window ≡ Some def
+  pub now : Instance
+  pub stands : Contains (standing_at def new) now
+  pub did_not_stand : ¬ HasInstance (standing_at def old) now.low now.high
+  pub shows : row ≡ row_of row.window key def.func now
+
+-- the row is that of an instance that stands, where one stood with its start and end and selected other positions
+pub record IsUpdated (windows : List Def) (key : List ℕ) (old new : Moment) (row : Row) : Type 0 where
+  pub def : Def
+  pub of_window : slice_get windows row.window ≡ Some def
+  pub before : Instance
+  pub stood : Contains (standing_at def old) before
+  pub now : Instance
+  pub stands : Contains (standing_at def new) now
+  pub same_start : before.low ≡ now.low
+  pub same_end : before.high ≡ now.high
+  pub selects_others : positions_of before ≢ positions_of now
+  pub shows : row ≡ row_of row.window key def.func now
+
+-- the change is one of a key's from one moment to the next
+abbrev pub IsChangeOf : List Def → List ℕ → Moment → Moment → Change → Type 0
+IsChangeOf windows key old new (Gone window of low high) = (of ≡ key) × IsRetracted windows old new window low high
+IsChangeOf windows key old new (New row) = IsEmitted windows key old new row
+IsChangeOf windows key old new (Again row) = IsUpdated windows key old new row
+IsChangeOf windows key old new Dropped = ⊥
+
+-- the change is one that an entry causes that is not late
+abbrev pub IsCausedBy : Definitions → ℕ → List Entry → Entry → Change → Type 0
+IsCausedBy d sources before e change =
+    (key : List ℕ) × Contains (keys_of (before ++ e ∷ [])) key × IsChangeOf d.windows key (moment_of d sources key before) (moment_of d sources key (before ++ e ∷ [])) change
+
+-- where a change stands in a list: its key, whether it is an emission or update, its window, and its start and end
+pub record Place : Type 0 where
+  pub key : List ℕ
+  pub comes : ℕ
+  pub window : ℕ
+  pub low : ℕ
+  pub high : ℕ
+
+abbrev pub place_of : Change → Place
+place_of (Gone window key low high) = record { key = key; comes = 0; window = window; low = low; high = high }
+place_of (New row) = record { key = row.key; comes = 1; window = row.window; low = row.low; high = row.high }
+place_of (Again row) = record { key = row.key; comes = 1; window = row.window; low = row.low; high = row.high }
+place_of Dropped = record { key = []; comes = 0; window = 0; low = 0; high = 0 }
+
+-- changes compared by the bytes of their keys, then retractions before emissions and updates, then by window, start and end
+abbrev pub by_place : Change → Change → Ordering
+by_place c d =
+    let p = place_of c in
+    let q = place_of d in
+    ordering_then (slice_cmp nat_cmp p.key q.key)
+    (ordering_then (nat_cmp p.comes q.comes) (ordering_then (nat_cmp p.window q.window) (ordering_then (nat_cmp p.low q.low) (nat_cmp p.high q.high))))
+
+-- the changes are in their order, each once
+abbrev pub AreInOrder : List Change → Type 0
+AreInOrder changes = IsStrictlySortedBy by_place changes
+
+-- the completions of all keys where an entry behind a journal moves the watermark alone
+abbrev pub completions_after : Definitions → ℕ → List Entry → Entry → List Change
+completions_after d sources before e =
+    flat_map (λ key. flat_map (completions key (moment_of d sources key before) (water_of sources (before ++ e ∷ []))) (enumerate_from 0 d.windows)) (keys_of before)
+
+-- whether an entry is a watermark or the end of a source
+abbrev pub is_water_or_end : What → Bool
+is_water_or_end (Tuple key time value) = false
+is_water_or_end (Mark key time) = false
+is_water_or_end (Water time) = true
+is_water_or_end End = true
+
+-- whether a window is tumbling or sliding
+abbrev pub is_timed : Kind → Bool
+is_timed (Tumbling length) = true
+is_timed (Sliding length slide) = true
+is_timed (Session gap) = false
+is_timed Marks = false
+is_timed (Events count) = false

@@ -2,4 +2,5 @@
 //! computes and in laws, each as the contract of a function that does nothing.
 
 pub mod examples;
+pub mod laws;
 pub mod read_back;
