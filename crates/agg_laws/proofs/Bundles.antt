@@ -5,7 +5,7 @@ use Rattle.std.specs.Int.{w64}
 use Rattle.std.specs.List.{All}
 use Rattle.std.proofs.lemmas.List.{map-append}
 use Rattle.std.proofs.lemmas.List.Elements.{All-map, All-weaker}
-use Rattle.stream_base.specs.Model.Functions.{Aggregate, counting, summing, least, greatest, averaging, earliest, latest, rising, tracing, fold_of}
+use Rattle.stream_base.specs.Model.Functions.{counting, summing, least, greatest, averaging, earliest, latest, rising, tracing}
 use Rattle.agg_laws.specs.Laws.{total}
 use Rattle.agg_laws.specs.Bundled.{Bundled, IsBundle, bundle_of, bundle_of_number, empty_bundle, bundles_combined}
 use Rattle.agg_laws.specs.BundleLaws.{bundle_laws, bundle_lifts}
@@ -52,3 +52,12 @@ bundle_of-append xs ys hx hy =
 -- the bundle of one number
 pub bundle_of_one : (v : ℤ) → FitsSigned w64 v → bundle_of (v ∷ []) ≡ bundle_of_number v
 bundle_of_one v h = bundle_laws.left_unit (bundle_of_number v) (bundle_lifts v h)
+
+-- what combines the bundles of two lists is the bundle of both lists together
+pub joined_bundles : (b x y : Bundled) → b ≡ bundles_combined x y → (xs ys : List ℤ) → All (FitsSigned w64) xs → All (FitsSigned w64) ys → x ≡ bundle_of xs → y ≡ bundle_of ys → b ≡ bundle_of (xs ++ ys)
+joined_bundles b x y e xs ys hx hy ex ey =
+    e ∙ ap (λ l. bundles_combined l y) ex ∙ ap (bundles_combined (bundle_of xs)) ey ∙ bundle_of-append xs ys hx hy
+
+-- what is one number's bundle is the bundle of the list that has this number alone
+pub lifted_bundle : (b : Bundled) (v : ℤ) → b ≡ bundle_of_number v → FitsSigned w64 v → b ≡ bundle_of (v ∷ [])
+lifted_bundle b v e h = e ∙ sym (bundle_of_one v h)

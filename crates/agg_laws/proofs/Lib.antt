@@ -1,3 +1,5 @@
 pub mod Totals
 pub mod Bundles
 pub mod RisingPairs
+pub mod Places
+pub mod Examples

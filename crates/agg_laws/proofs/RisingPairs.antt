@@ -1,5 +1,5 @@
 -- Pairs with rising keys: what an insertion, a removal, another value and a range are where the list is known in parts.
-use Rattle.std.proofs.Common.{◌≡◌, ◌≢◌, ◌<◌, ◌≤◌, ◌+◌, ℕ, Bool, true, false, not, cond, ◌||◌, ◌&&◌, List, [], ◌∷◌, ◌++◌, Option, None, Some, length, map, suc, sym, ap, subst, refl, ◌∙◌, arith}
+use Rattle.std.proofs.Common.{◌≡◌, ◌<◌, ◌≤◌, ℕ, Bool, true, false, not, cond, ◌||◌, ◌&&◌, List, [], ◌∷◌, ◌++◌, None, Some, map, suc, ap, refl, ◌∙◌, arith}
 use Rattle.std.specs.Prelude.{filter, find, nat_lt, nat_le, ◌==◌, AllPairs}
 use Rattle.std.specs.List.{All, list_any}
 use Rattle.std.specs.Option.{option_map, option_or}
@@ -229,11 +229,11 @@ module _ {M : Type 0} where
   pub rising_above : (xs ys : List (ℕ × M)) (p : ℕ × M) → AreRising (xs ++ p ∷ ys) → All (λ q. p.0 < q.0) ys
   rising_above xs ys p h = pairs_head (λ p q. p.0 < q.0) p ys (rising_second xs (p ∷ ys) h)
 
-  all_below : (key : ℕ) (ps : List (ℕ × M)) → All (λ p. p.0 < key) (pairs_below key ps)
+  pub all_below : (key : ℕ) (ps : List (ℕ × M)) → All (λ p. p.0 < key) (pairs_below key ps)
   all_below key ps =
       All-weaker (λ p. nat_lt p.0 key ≡ true) (λ p. p.0 < key) (λ p h. from_lt p.0 key h) (pairs_below key ps) (filter_passes (λ p. nat_lt p.0 key) ps)
 
-  all_from : (key : ℕ) (ps : List (ℕ × M)) → All (λ p. key ≤ p.0) (pairs_from key ps)
+  pub all_from : (key : ℕ) (ps : List (ℕ × M)) → All (λ p. key ≤ p.0) (pairs_from key ps)
   all_from key ps =
       All-weaker (λ p. nat_le key p.0 ≡ true) (λ p. key ≤ p.0) (λ p h. from_le key p.0 h) (pairs_from key ps) (filter_passes (λ p. nat_le key p.0) ps)
 

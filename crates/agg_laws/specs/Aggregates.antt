@@ -1,5 +1,5 @@
 -- The laws of the nine functions, over what each of them keeps.
-use Rattle.std.proofs.Common.{◌≡◌, ◌<◌, ◌+◌, ◌*◌, ◌%◌, ◌^◌, ◌∙◌, ℕ, ℤ, pos, Option, None, Some, Bool, true, false, cond, sym, ap, subst, refl, arith, rules, Fits, lit<}
+use Rattle.std.proofs.Common.{◌≡◌, ◌<◌, ◌+◌, ◌*◌, ◌%◌, ◌^◌, ◌∙◌, ℕ, ℤ, Option, None, Some, true, false, cond, sym, ap, subst, refl, arith, rules, Fits, lit<}
 use Rattle.std.specs.Prelude.{IfSome, int_lt, FitsSigned}
 use Rattle.std.specs.Int.{w64, w128, int_min, int_max, cast_unsigned, cast_signed}
 use Rattle.std.proofs.lemmas.Int.{ints}

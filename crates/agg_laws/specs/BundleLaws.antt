@@ -1,9 +1,9 @@
 -- A bundle obeys the laws that its nine functions obey.
-use Rattle.std.proofs.Common.{◌≡◌, ℤ, lit<}
+use Rattle.std.proofs.Common.{ℤ, lit<}
 use Rattle.std.specs.Prelude.{FitsSigned}
 use Rattle.std.specs.Int.{w64}
 use Rattle.agg_laws.specs.Laws.{MonoidLaws}
-use Rattle.agg_laws.specs.Bundled.{Bundled, IsBundle, empty_bundle, bundle_of_number, bundles_combined}
+use Rattle.agg_laws.specs.Bundled.{IsBundle, empty_bundle, bundle_of_number, bundles_combined}
 use Rattle.agg_laws.specs.Aggregates.{count_laws, sum_laws, least_laws, greatest_laws, mean_laws, earliest_laws, latest_laws, rises_laws, trace_laws, widened, bits_of_number}
 
 pub bundle_laws : MonoidLaws IsBundle empty_bundle bundles_combined

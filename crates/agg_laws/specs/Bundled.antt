@@ -1,5 +1,5 @@
 -- All nine functions of the same values at once.
-use Rattle.std.specs.Prelude.{◌≡◌, ℕ, ℤ, List, Option, [], ◌∷◌}
+use Rattle.std.specs.Prelude.{ℕ, ℤ, List, Option}
 use Rattle.stream_base.specs.Model.Functions.{counting, summing, least, greatest, averaging, earliest, latest, rising, tracing, fold_of}
 use Rattle.agg_laws.specs.Values.{IsCount, IsSum, IsPick, IsMean, IsRun, IsTrace}
 

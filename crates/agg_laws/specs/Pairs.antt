@@ -1,6 +1,6 @@
 -- Lists of pairs of a key and a value, with rising keys.
-use Rattle.std.specs.Prelude.{◌<◌, ◌==◌, ◌&&◌, ◌++◌, ℕ, Bool, not, List, ◌∷◌, Option, map, filter, find, nat_lt, nat_le, slice_get, if◌then◌else◌, AllPairs}
-use Rattle.std.specs.List.{list_any}
+use Rattle.std.specs.Prelude.{◌≡◌, ◌<◌, length, ◌==◌, ◌&&◌, ◌++◌, ℕ, Bool, not, List, ◌∷◌, Option, map, filter, find, nat_lt, nat_le, slice_get, if◌then◌else◌, AllPairs}
+use Rattle.std.specs.List.{list_any, HoldsAt}
 use Rattle.std.specs.Option.{option_map}
 
 -- each key is below each later one
@@ -46,3 +46,8 @@ least_key pairs = option_map (λ p. p.0) (slice_get pairs 0)
 -- the values, in the order of keys
 abbrev pub values_of : {M : Type 0} → List (ℕ × M) → List M
 values_of pairs = map (λ p. p.1) pairs
+
+-- the pair with the key stands at this place
+pub record StandsAt {M : Type 0} (wanted at : ℕ) (pairs : List (ℕ × M)) : Type 0 where
+  pub within : at < length pairs
+  pub key : HoldsAt (λ p. p.0 ≡ wanted) pairs at

@@ -1,5 +1,7 @@
-ghost use Rattle.std.specs.Prelude.{◌≡◌, ℤ, List, unwrap_or, pos};
+ghost use Rattle.std.specs.Prelude.{◌≡◌, ℤ, List, [], ◌∷◌, ◌++◌, All, FitsSigned, unwrap_or, pos};
+ghost use Rattle.std.specs.Int.{w64};
 ghost use Rattle.stream_base.specs.Model.Functions.{shown_of, show_value};
+ghost use Rattle.agg_laws.specs.Counters.{next_count};
 ghost use Rattle.agg_laws.specs.Bundled.{IsBundle, empty_bundle, bundle_of, bundle_of_number, bundles_combined};
 ghost use Rattle.agg_laws.specs.BundleLaws.{bundle_laws, bundle_lifts};
 
@@ -20,7 +22,7 @@ use stream_base::{Func, Shown};
 
 /// All nine functions of the same values at once. To combine two bundles is one step. Contracts
 /// see what each function keeps.
-#[derive(Clone, Copy)]
+#[derive(Clone, Copy, Debug)]
 pub struct Bundle {
     count: Count,
     summed: Sum,
@@ -98,7 +100,13 @@ impl Monoid for Bundle {
         self.trace.vouch();
     }
 
-    fn combine<L>(&self, right: &Bundle, steps: &mut Steps<L>) -> Bundle {
+    fn combine<L>(&self, right: &Bundle, steps: &mut Steps<L>) -> Bundle
+        ensures value { result ≡ bundles_combined self.now right.now }
+        ensures counted { steps.new ≡ next_count steps.old }
+
+        // The bundles of two lists of values combine to the bundle of both lists together.
+        ensures joined { (xs ys : List ℤ) → All (FitsSigned w64) xs → All (FitsSigned w64) ys → self.now ≡ bundle_of xs → right.now ≡ bundle_of ys → result ≡ bundle_of (xs ++ ys) }
+    {
         steps.tick();
         let mut parts: Steps<L> = Steps::aside();
         Bundle {
@@ -120,7 +128,10 @@ impl Lift for Bundle {
 
     ghost lifts = { bundle_lifts };
 
-    fn lift(value: i64) -> Bundle {
+    fn lift(value: i64) -> Bundle
+        ensures value { result ≡ bundle_of_number value }
+        ensures one { result ≡ bundle_of (value ∷ []) }
+    {
         Bundle {
             count: Count::lift(value),
             summed: Sum::lift(value),

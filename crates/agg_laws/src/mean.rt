@@ -23,7 +23,7 @@ impl Monoid for Mean {
 
     ghost op = { λ x y. mean_of (averaging.combine (x.sum, x.count) (y.sum, y.count)) };
 
-    ghost laws = { carried (mean_of) (λ x. (x.sum, x.count)) mean_laws (λ _. refl) (λ _. refl) };
+    ghost laws = { carried mean_of (λ x. (x.sum, x.count)) mean_laws (λ _. refl) (λ _. refl) };
 
     fn unit() -> Mean {
         Mean { sum: 0, count: 0 }

@@ -5,7 +5,7 @@ use std::marker::Model;
 
 /// How many nodes of a tree were looked at. The count stays at 2^64 - 1 once it stands there.
 /// Contracts see the number.
-#[derive(Drop)]
+#[derive(Debug, Drop)]
 pub struct Probes {
     count: u64,
 }

@@ -6,7 +6,7 @@ use std::thread::Threads;
 
 /// How many combines were made: one step is one call of `Monoid::combine`. The count stays at
 /// 2^64 - 1 once it stands there. `L` only keeps counters apart. Contracts see the number.
-#[derive(Drop)]
+#[derive(Debug, Drop)]
 pub struct Steps<L> {
     count: u64,
     of: PhantomData<L>,

@@ -12,8 +12,9 @@ use crate::steps::Steps;
 // The factor of the FNV-1a hash of 64 bits, a prime.
 const FACTOR: u64 = 1_099_511_628_211;
 
-/// The function that takes n to a * n + b, modulo 2^64. A value v stands for the one with a = 1099511628211
-/// and b = v, and combining composes them, so that b is a hash of the values in event order.
+/// The function that takes n to `a * n + b`, modulo 2^64. A value v stands for the one with
+/// `a = 1099511628211` and `b = v`, and combining composes them, the left one first, so that `b` is
+/// a hash of the values in event order.
 #[derive(Clone, Copy, Debug, PartialEq, Eq)]
 pub struct Trace {
     pub a: u64,
@@ -27,7 +28,7 @@ impl Monoid for Trace {
 
     ghost op = { λ x y. trace_of (tracing.combine (x.a, x.b) (y.a, y.b)) };
 
-    ghost laws = { carried (trace_of) (λ x. (x.a, x.b)) trace_laws (λ _. refl) (λ _. refl) };
+    ghost laws = { carried trace_of (λ x. (x.a, x.b)) trace_laws (λ _. refl) (λ _. refl) };
 
     fn unit() -> Trace {
         Trace { a: 1, b: 0 }

@@ -1,12 +1,13 @@
 //! The changes that one entry causes.
-ghost use Rattle.std.specs.Prelude.{◌≡◌, ◌<◌, ◌++◌, ◌∷◌, [], IfOk, OnOk, true, if◌then◌else◌};
+ghost use Rattle.std.specs.Prelude.{◌≡◌, ◌<◌, ◌++◌, ◌∷◌, [], ℕ, List, IfOk, OnOk, true, if◌then◌else◌};
 ghost use Rattle.stream_base.specs.declared.change.Change.TheVariants.{Dropped};
 ghost use Rattle.std.specs.List.{flat_map};
 ghost use Rattle.stream_base.specs.Limits.{AreWithinLimits, IsKindWithin};
+ghost use Rattle.stream_base.specs.Laws.{completions};
 ghost use Rattle.stream_base.specs.Model.Changes.{changes_after};
-ghost use Rattle.stream_base.specs.Model.Journal.{keys_of};
+ghost use Rattle.stream_base.specs.Model.Journal.{keys_of, water_of};
 ghost use Rattle.stream_base.specs.Model.Journals.{is_entry_within};
-ghost use Rattle.shard_core.specs.Effect.{window_emissions, key_emissions};
+ghost use Rattle.shard_core.specs.Effect.{key_emissions};
 ghost use Rattle.shard_core.specs.Shard.{IsServed, IsTumbling};
 
 use crate::emit::{Move, Owner, emit_spans};
@@ -63,7 +64,9 @@ fn emitted<L>(
     steps: &mut Steps<L>,
 ) -> Result<Vec<Change>, NoMemory>
     requires served { IsServed defs.now }
-    ensures { IfOk result (λ changes. changes.items ≡ flat_map (key_emissions (defs.now).windows past.now water.old water.new) (keys_of past.now.journal)) }
+    requires lateness { (past.now).lateness ≡ (defs.now).lateness }
+    requires old { water.old ≡ water_of (past.now).sources (past.now).journal }
+    ensures { IfOk result (λ changes. changes.items ≡ flat_map (key_emissions defs.now past.now water.new) (keys_of (past.now).journal)) }
 {
     let mut out = Vec::new(alloc);
     if water.old == water.new {
@@ -86,7 +89,9 @@ fn emit_key<L>(
     steps: &mut Steps<L>,
 ) -> Result<(), NoMemory>
     requires served { IsServed defs.now }
-    ensures { OnOk result (out.new.items ≡ out.old.items ++ key_emissions (defs.now).windows past.now water.old water.new key.now) }
+    requires lateness { (past.now).lateness ≡ (defs.now).lateness }
+    requires old { water.old ≡ water_of (past.now).sources (past.now).journal }
+    ensures { OnOk result (out.new.items ≡ out.old.items ++ key_emissions defs.now past.now water.new key.now) }
 {
     let kept = past.kept(alloc, key)?;
     for (window, def) in defs.windows().iter().enumerate() {
@@ -108,7 +113,7 @@ fn emit_window<L>(
 ) -> Result<(), NoMemory>
     requires tumbling { IsTumbling def.now }
     requires within { IsKindWithin (def.now).kind }
-    ensures { OnOk result (out.new.items ≡ out.old.items ++ window_emissions key.now kept.now water.old water.new (window, def.now)) }
+    ensures { OnOk result ((marks : List ℕ) → out.new.items ≡ out.old.items ++ completions key.now (record { kept = kept.now; marks = marks; water = water.old }) water.new (window, def.now)) }
 {
     let owner = Owner {
         window,

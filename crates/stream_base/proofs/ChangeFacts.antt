@@ -47,7 +47,7 @@ filter_map_picks {X} {Y} f g p q (x ∷ xs) given passed out =
     by false true e d h = absurd (false≢true (sym (out x (Contains-head x xs) e) ∙ d))
     by false false e d h = h
 
-any_from_member : {X : Type 0} (p : X → Bool) (xs : List X) (x : X) → Contains xs x → p x ≡ true → list_any p xs ≡ true
+pub any_from_member : {X : Type 0} (p : X → Bool) (xs : List X) (x : X) → Contains xs x → p x ≡ true → list_any p xs ≡ true
 any_from_member p [] x c h = absurd (none_in_nil x c)
 any_from_member p (y ∷ xs) x c h =
     ⊎_elim

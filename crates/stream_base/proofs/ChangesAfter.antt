@@ -12,11 +12,9 @@ use Rattle.std.proofs.lemmas.Bool.{false≢true, false_from_ne_true}
 use Rattle.std.proofs.lemmas.Cmp.{nat_list_cmp_total}
 use Rattle.std.proofs.lemmas.List.Elements.{All-contains, All-nil}
 use Rattle.std.proofs.lemmas.Map.Keys.{sorted_tail}
-use Rattle.std.proofs.lemmas.Map.Lookups.{exact_bytes}
 use Rattle.std.proofs.lemmas.List.{append-nil}
 use Rattle.std.specs.Cmp.{IsTotalOrder}
 use Rattle.std.specs.Str.{bytes_eq}
-use Rattle.std.proofs.lemmas.Slice.Eq.{bytes_eq-Decides}
 use Rattle.stream_base.specs.declared.change.Change.{Change}
 use Rattle.stream_base.specs.declared.change.Change.TheVariants.{Dropped}
 use Rattle.stream_base.specs.declared.def.Def.{Def}
@@ -31,11 +29,12 @@ use Rattle.stream_base.specs.Model.Windows.{standing_of}
 use Rattle.stream_base.specs.Model.Journal.{put_in_order, is_end, water_time, is_late, key_in, keys_of, kept_of, marks_of, mark_in, tuple_in, water_of}
 use Rattle.stream_base.specs.Model.Changes.{moment_of, standing_at, changes_between, changes_of_key, changes_after}
 use Rattle.stream_base.specs.Laws.{RiseByStart, AreInOrder, by_place, IsCausedBy, completions, completions_after, is_water_or_end, is_timed}
-use Rattle.stream_base.proofs.Rising.{none_in_nil, Contains-cons_cases, Contains-insert_key_self, below_tail, not_below_itself, Contains-head, key_rising_is_sorted, sorted_cons, sorted_nil}
+use Rattle.stream_base.proofs.Rising.{none_in_nil, Contains-cons_cases, below_tail, not_below_itself, Contains-head, key_rising_is_sorted, sorted_cons, sorted_nil}
 use Rattle.stream_base.proofs.Growing.{kept_of_tuple, water_of_same, kept_of_other, marks_of_other, keys_of_push, water_rises}
 use Rattle.stream_base.proofs.Members.{flat_map_members, flat_map_has}
 use Rattle.stream_base.proofs.Spans.{standing_of_tumbling_put, standing_of_sliding_put}
 use Rattle.stream_base.proofs.EventOrder.{kept_times_do_not_fall}
+use Rattle.stream_base.proofs.Absent.{bytes_eq_true, tuple_is_keyed, keys_stay, key_comes, nothing_kept, is_key_or_not, no_change_of_none}
 use Rattle.stream_base.proofs.ChangeFacts.{no_changes, standing_at_rises, flat_map_none, flat_map_same, no_changes_at_rest, changes_at_water}
 use Rattle.stream_base.proofs.ChangeList.{changes_are_listed, changes_are_all_listed}
 use Rattle.stream_base.proofs.ChangeOrder.{by_place_total, less_at_key, sorted_flat_map, changes_between_in_order, changes_are_at_key}
@@ -57,13 +56,20 @@ rises_after d sources key journal limits = standing_at_rises d.windows (moment_o
 pub caused_are_listed : (d : Definitions) (sources : ℕ) (before : List Entry) (e : Entry) (c : Change) → is_late d.lateness (water_of sources before) e.what ≡ false → Contains (changes_after d sources before e) c → IsCausedBy d sources before e c
 caused_are_listed d sources before e c on_time h =
     let m : (key : List ℕ) × Contains (keys_of (before ++ e ∷ [])) key × Contains (changes_of_key d sources before e key) c = flat_map_members (changes_of_key d sources before e) (keys_of (before ++ e ∷ [])) c (subst (λ l. Contains l c) (on_time_changes d sources before e on_time) h) in
-    (m.0, m.1, changes_are_listed d.windows m.0 (moment_of d sources m.0 before) (moment_of d sources m.0 (before ++ e ∷ [])) c m.2)
+    (m.0, changes_are_listed d.windows m.0 (moment_of d sources m.0 before) (moment_of d sources m.0 (before ++ e ∷ [])) c m.2)
 
 pub caused_are_all_listed : (d : Definitions) (sources : ℕ) (before : List Entry) (e : Entry) (c : Change) → AreWithinLimits d → is_late d.lateness (water_of sources before) e.what ≡ false → IsCausedBy d sources before e c → Contains (changes_after d sources before e) c
 caused_are_all_listed d sources before e c limits on_time h =
     subst (λ l. Contains l c) (sym (on_time_changes d sources before e on_time))
-    (flat_map_has (changes_of_key d sources before e) (keys_of (before ++ e ∷ [])) h.0 c h.1
-    (changes_are_all_listed d.windows h.0 (moment_of d sources h.0 before) (moment_of d sources h.0 (before ++ e ∷ [])) (rises_after d sources h.0 before limits) c h.2))
+    (flat_map_has (changes_of_key d sources before e) (keys_of (before ++ e ∷ [])) h.0 c is_a_key
+    (changes_are_all_listed d.windows h.0 (moment_of d sources h.0 before) (moment_of d sources h.0 (before ++ e ∷ [])) (rises_after d sources h.0 before limits) c h.1))
+  where
+    is_a_key : Contains (keys_of (before ++ e ∷ [])) h.0
+    is_a_key =
+        ⊎_elim (λ k. k)
+        (λ absent. absurd (no_change_of_none d.windows h.0 (moment_of d sources h.0 before) (moment_of d sources h.0 (before ++ e ∷ [])) c
+        (nothing_kept d.lateness sources h.0 before (λ k. absent (keys_stay before e h.0 k))) (nothing_kept d.lateness sources h.0 (before ++ e ∷ []) absent) h.1))
+        (is_key_or_not h.0 (keys_of (before ++ e ∷ [])))
 
 pub changes_are_those_caused : (d : Definitions) (sources : ℕ) (before : List Entry) (e : Entry) (c : Change) → AreWithinLimits d → is_late d.lateness (water_of sources before) e.what ≡ false → Contains (changes_after d sources before e) c ↔ IsCausedBy d sources before e c
 changes_are_those_caused d sources before e c limits on_time = (caused_are_listed d sources before e c on_time, caused_are_all_listed d sources before e c limits on_time)
@@ -77,7 +83,7 @@ dropped_where_late d sources before e = (
   where
     by : (b : Bool) → is_late d.lateness (water_of sources before) e.what ≡ b → Contains (changes_after d sources before e) Dropped → is_late d.lateness (water_of sources before) e.what ≡ true
     by true l h = l
-    by false l h = absurd ((caused_are_listed d sources before e Dropped l h).2)
+    by false l h = absurd ((caused_are_listed d sources before e Dropped l h).1)
 
 pub keys_in_order : (journal : List Entry) → IsStrictlySortedBy (slice_cmp nat_cmp) (keys_of journal)
 unfolding keys_of
@@ -153,9 +159,6 @@ no_news_no_changes d sources before e limits h stays =
     same key = moment_of_water d sources key before e h ∙ (λ i. record { kept = kept_of d.lateness sources key before; marks = marks_of d.lateness sources key before; water = stays i })
 
 -- ---- a tuple or mark
-bytes_eq_true : (a b : List ℕ) → bytes_eq a b ≡ true → a ≡ b
-bytes_eq_true a b h = (bytes_eq-Decides a b).0 h
-
 flat_map_one : {X Y : Type 0} {cmp : X → X → Ordering} (o : IsTotalOrder cmp) (f : X → List Y) (xs : List X) (x : X) → IsStrictlySortedBy cmp xs → Contains xs x → ((y : X) → (y ≡ x → ⊥) → f y ≡ []) → flat_map f xs ≡ f x
 flat_map_one o f [] x s c h = absurd (none_in_nil x c)
 flat_map_one {cmp = cmp} o f (z ∷ xs) x s c h =
@@ -193,7 +196,7 @@ changes_of_keyed d sources before e of limits h on_time =
     ∙ flat_map_one nat_list_cmp_total (changes_of_key d sources before e) (keys_of (before ++ e ∷ [])) of (keys_in_order (before ++ e ∷ [])) is_a_key others
   where
     is_a_key : Contains (keys_of (before ++ e ∷ [])) of
-    is_a_key = subst (λ ks. Contains ks of) (sym (keys_of_push before e ∙ ap (λ o. option_map_or (insert_key (slice_cmp nat_cmp) (keys_of before)) o (keys_of before)) h)) (Contains-insert_key_self (slice_cmp nat_cmp) exact_bytes of (keys_of before))
+    is_a_key = key_comes before e of h
 
     others : (key : List ℕ) → (key ≡ of → ⊥) → changes_of_key d sources before e key ≡ []
     others key ne =
@@ -211,16 +214,6 @@ standing_of_timed_put (Sliding length' slide) kept marks water x k t later = sta
 standing_of_timed_put (Session gap) kept marks water x k t later = absurd (false≢true t)
 standing_of_timed_put Marks kept marks water x k t later = absurd (false≢true t)
 standing_of_timed_put (Events count) kept marks water x k t later = absurd (false≢true t)
-
-tuple_is_keyed : (key : List ℕ) (position : ℕ) (what : What) (x : Kept) → tuple_in key position what ≡ Some x → key_in what ≡ Some key
-tuple_is_keyed key position (Tuple k time value) x h = by (bytes_eq k key) refl h
-  where
-    by : (b : Bool) → bytes_eq k key ≡ b → cond b (Some (record { position = position; time = time; value = value })) None ≡ Some x → Some k ≡ Some key
-    by true e g = ap Some (bytes_eq_true k key e)
-    by false e g = cc
-tuple_is_keyed key position (Mark k time) x h = cc
-tuple_is_keyed key position (Water time) x h = cc
-tuple_is_keyed key position End x h = cc
 
 tuple_has_no_mark : (key of : List ℕ) (position : ℕ) (what : What) (x : Kept) → tuple_in of position what ≡ Some x → mark_in key what ≡ None
 tuple_has_no_mark key of position (Tuple k time value) x h = refl

@@ -115,6 +115,15 @@ unfolding water_of
 water_rises sources journal e =
     folded_least FINAL (λ s. source_water s journal) (λ s. source_water s (journal ++ e ∷ [])) (λ s. source_water_rises s journal e) (range_with_len 0 sources) FINAL FINAL (omega arith) (omega arith)
 
+folded_below : (top : ℕ) (xs : List ℕ) (a : ℕ) → a ≤ top → fold min a xs ≤ top
+folded_below top [] a h = h
+folded_below top (x ∷ xs) a h = folded_below top xs (min a x) (omega arith)
+
+-- and it is never above the final one
+pub water_below_final : (sources : ℕ) (journal : List Entry) → water_of sources journal ≤ FINAL
+unfolding water_of
+water_below_final sources journal = folded_below FINAL (waters_of sources journal) FINAL (omega arith)
+
 pub water_rises_over : (sources : ℕ) (journal more : List Entry) → water_of sources journal ≤ water_of sources (journal ++ more)
 water_rises_over sources journal [] = subst (λ j. water_of sources journal ≤ water_of sources j) (sym (append-nil journal)) (omega arith)
 water_rises_over sources journal (e ∷ more) =

@@ -17,3 +17,4 @@ pub mod Selecting
 pub mod ChangeList
 pub mod ChangeOrder
 pub mod ChangesAfter
+pub mod Absent

@@ -1,9 +1,13 @@
 -- The pieces of a list: put together they are the list, and there is a cut just between them.
-use Rattle.std.proofs.Common.{◌≡◌, ◌∙◌, ◌≤◌, Bool, true, false, cond, List, [], ◌∷◌, ◌++◌, length, ap, sym, refl, subst, arith}
+use Rattle.std.proofs.Common.{◌≡◌, ◌∙◌, ℕ, ◌-◌, ◌<◌, ◌≤◌, Bool, true, false, cond, List, [], ◌∷◌, ◌++◌, length, map, ap, sym, refl, subst, arith}
 use Rattle.std.specs.List.{All, flat_map}
 use Rattle.std.proofs.lemmas.List.{length_push}
 use Rattle.std.proofs.lemmas.List.Elements.{All-cons, All-nil, All-head, All-tail}
-use Rattle.stream_base.specs.Model.Windows.{glued, pieces_of}
+use Rattle.std.specs.Prelude.{nat_le}
+use Rattle.std.proofs.lemmas.Bool.{leb-true, leb-false}
+use Rattle.stream_base.specs.declared.kept.Kept.{Kept}
+use Rattle.stream_base.specs.Model.Windows.{glued, pieces_of, session, sessions}
+use Rattle.stream_base.specs.Laws.{selections_of}
 
 module _ {X : Type 0} (cut : X → X → Bool) where
   glued_joined : (x : X) (pieces : List (List X)) → flat_map (λ run. run) (glued cut x pieces) ≡ x ∷ flat_map (λ run. run) pieces
@@ -112,3 +116,24 @@ module _ {X : Type 0} (cut : X → X → Bool) where
   -- there is a cut between the last of a piece and the first of the next
   pub cut_between : (xs : List X) (before : List (List X)) (front : List X) (a b : X) (back : List X) (after : List (List X)) → pieces_of cut xs ≡ before ++ (front ++ a ∷ []) ∷ (b ∷ back) ∷ after → cut a b ≡ true
   cut_between xs before front a b back after e = pieces_across before (front ++ a ∷ []) (b ∷ back) after (subst AreApart e (pieces_apart xs)) front a b back refl refl
+
+-- ---- sessions
+session_selections : (gap : ℕ) (kept : List Kept) → selections_of (sessions gap kept) ≡ pieces_of (λ x y. nat_le gap (y.time - x.time)) kept
+session_selections gap kept = each (pieces_of (λ x y. nat_le gap (y.time - x.time)) kept)
+  where
+    each : (pieces : List (List Kept)) → map (λ i. i.chosen) (map (session gap) pieces) ≡ pieces
+    each [] = refl
+    each (run ∷ pieces) = λ i. run ∷ each pieces i
+
+pub sessions_joined : (gap : ℕ) (kept : List Kept) → flat_map (λ i. i.chosen) (sessions gap kept) ≡ kept
+sessions_joined gap kept = each (pieces_of (λ x y. nat_le gap (y.time - x.time)) kept) ∙ pieces_joined (λ x y. nat_le gap (y.time - x.time)) kept
+  where
+    each : (pieces : List (List Kept)) → flat_map (λ i. i.chosen) (map (session gap) pieces) ≡ flat_map (λ run. run) pieces
+    each [] = refl
+    each (run ∷ pieces) = ap (λ l. run ++ l) (each pieces)
+
+pub near_in_session : (gap : ℕ) (kept : List Kept) (before : List (List Kept)) (front : List Kept) (a b : Kept) (back : List Kept) (after : List (List Kept)) → selections_of (sessions gap kept) ≡ before ++ (front ++ a ∷ b ∷ back) ∷ after → b.time - a.time < gap
+near_in_session gap kept before front a b back after e = leb-false gap (b.time - a.time) (no_cut_inside (λ x y. nat_le gap (y.time - x.time)) kept before front a b back after (sym (session_selections gap kept) ∙ e))
+
+pub apart_in_sessions : (gap : ℕ) (kept : List Kept) (before : List (List Kept)) (front : List Kept) (a b : Kept) (back : List Kept) (after : List (List Kept)) → selections_of (sessions gap kept) ≡ before ++ (front ++ a ∷ []) ∷ (b ∷ back) ∷ after → gap ≤ b.time - a.time
+apart_in_sessions gap kept before front a b back after e = leb-true gap (b.time - a.time) (cut_between (λ x y. nat_le gap (y.time - x.time)) kept before front a b back after (sym (session_selections gap kept) ∙ e))

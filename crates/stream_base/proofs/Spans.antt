@@ -1,8 +1,8 @@
 -- Tumbling and sliding windows: which intervals hold a kept tuple, and what a tuple more changes.
 use Rattle.std.proofs.Common.{◌≡◌, ◌∙◌, ℕ, ◌+◌, ◌-◌, ◌*◌, ◌/◌, ◌%◌, ◌<◌, ◌≤◌, true, false, List, length, map, ap, sym, subst, inl, inr, ⊎_elim, arith}
-use Rattle.std.specs.Prelude.{◌⊎◌, nat_le, nat_lt}
+use Rattle.std.specs.Prelude.{◌⊎◌, ◌↔◌, nat_le, nat_lt}
 use Rattle.std.specs.List.{Contains, filter, flat_map, range_with_len}
-use Rattle.std.specs.List.Sorted.{IsStrictlySortedBy}
+use Rattle.std.specs.List.Sorted.{IsStrictlyIncreasing, IsStrictlySortedBy}
 use Rattle.std.specs.Ordering.{nat_cmp}
 use Rattle.std.proofs.lemmas.Bool.{leb-true, and_left, and_right, lt-leb, le-ltb}
 use Rattle.std.proofs.lemmas.Cmp.{nat_cmp_total}
@@ -13,7 +13,8 @@ use Rattle.stream_base.specs.declared.kept.Kept.{Kept}
 use Rattle.stream_base.specs.declared.kind.Kind.TheVariants.{Tumbling, Sliding}
 use Rattle.stream_base.specs.Model.Journal.{put_in_order}
 use Rattle.stream_base.specs.Model.Windows.{is_within, within, interval, starts_holding, starts_of, spans, instances_of, is_complete, standing_of}
-use Rattle.stream_base.proofs.Rising.{Contains-from_rising, Contains-rising, nat_rising_is_sorted, same_members_same_list}
+use Rattle.stream_base.specs.Laws.{HoldsKept, HoldsTime}
+use Rattle.stream_base.proofs.Rising.{nat_rising_increases, Contains-from_rising, Contains-rising, nat_rising_is_sorted, same_members_same_list}
 use Rattle.stream_base.proofs.Members.{range_members, range_has, map_members, map_has, map_same, flat_map_members, flat_map_has, filter_members, filter_has, filter_insert_refused, filter_map_of, Contains-insert_cases, Contains-insert_old, Contains-insert_new}
 
 -- products and quotients
@@ -146,3 +147,23 @@ standing_of_tumbling_put length kept marks water x pos later = complete_spans_pu
 pub standing_of_sliding_put : (length slide : ℕ) (kept : List Kept) (marks : List ℕ) (water : ℕ) (x : Kept) → 1 ≤ slide → slide ≤ length → water ≤ x.time → standing_of (Sliding length slide) (put_in_order kept x) marks water ≡ standing_of (Sliding length slide) kept marks water
 unfolding instances_of
 standing_of_sliding_put length slide kept marks water x moves overlaps later = complete_spans_put water length slide moves overlaps kept x later
+
+pub starts_hold_kept : (length slide : ℕ) (kept : List Kept) (a : ℕ) → 1 ≤ slide → slide ≤ length → Contains (starts_of length slide kept) a ↔ HoldsKept length slide kept a
+starts_hold_kept length slide kept a moves overlaps = (
+  λ c. starts_of_members length slide moves overlaps kept a c,
+  λ h. let low : h.0 * slide ≤ (h.1).time = omega (arith, h.3, h.4) in let high : (h.1).time < h.0 * slide + length = omega (arith, h.3, h.5) in
+      subst (Contains (starts_of length slide kept)) (sym h.3) (starts_of_has length slide moves overlaps kept h.1 h.0 h.2 low high),
+)
+
+pub starts_increase : (length slide : ℕ) (kept : List Kept) → IsStrictlyIncreasing (starts_of length slide kept)
+starts_increase length slide kept = nat_rising_increases (flat_map (λ x. starts_holding length slide x.time) kept)
+
+-- one tuple more brings the starts of the intervals that hold it
+pub starts_after_put : (length slide : ℕ) (kept : List Kept) (x : Kept) (a : ℕ) → 1 ≤ slide → slide ≤ length → Contains (starts_of length slide (put_in_order kept x)) a ↔ (Contains (starts_of length slide kept) a ⊎ HoldsTime length slide x.time a)
+starts_after_put length slide kept x a moves overlaps = (
+  λ c. ⊎_elim (λ d. inl d) (λ d. inr (starts_holding_members length slide moves overlaps x.time a d)) (starts_of_put_cases length slide kept x a c),
+  λ h. ⊎_elim (λ d. starts_of_put_old length slide kept x a d)
+      (λ t. let low : t.0 * slide ≤ x.time = omega (arith, t.1, t.2) in let high : x.time < t.0 * slide + length = omega (arith, t.1, t.3) in
+      subst (Contains (starts_of length slide (put_in_order kept x))) (sym t.1) (starts_of_put_new length slide kept x (t.0 * slide) (starts_holding_has length slide moves overlaps x.time t.0 low high)))
+      h,
+)

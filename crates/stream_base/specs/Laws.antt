@@ -1,5 +1,5 @@
 -- The words of the laws about journals, windows and changes.
-use Rattle.std.specs.Prelude.{◌≡◌, ◌≢◌, ◌++◌, ◌&&◌, ℕ, Bool, true, false, List, [], ◌∷◌, length, map, filter, Option, None, Some, slice_get, if◌then◌else◌, nat_lt, nat_le}
+use Rattle.std.specs.Prelude.{◌≡◌, ◌≢◌, ◌≤◌, ◌<◌, ◌+◌, ◌*◌, ◌++◌, ◌&&◌, ℕ, Bool, true, false, List, [], ◌∷◌, length, map, filter, Option, None, Some, slice_get, if◌then◌else◌, nat_lt, nat_le}
 use Rattle.std.specs.Cmp.Lexicographic.{slice_cmp}
 use Rattle.std.specs.List.{Contains, enumerate_from, flat_map}
 use Rattle.std.specs.List.Sorted.{IsNonDecreasingBy, IsStrictlySortedBy}
@@ -108,10 +108,10 @@ IsChangeOf windows key old new (New row) = IsEmitted windows key old new row
 IsChangeOf windows key old new (Again row) = IsUpdated windows key old new row
 IsChangeOf windows key old new Dropped = ⊥
 
--- the change is one that an entry causes that is not late
+-- the change is one of some key's, from before an entry to behind it
 abbrev pub IsCausedBy : Definitions → ℕ → List Entry → Entry → Change → Type 0
 IsCausedBy d sources before e change =
-    (key : List ℕ) × Contains (keys_of (before ++ e ∷ [])) key × IsChangeOf d.windows key (moment_of d sources key before) (moment_of d sources key (before ++ e ∷ [])) change
+    (key : List ℕ) × IsChangeOf d.windows key (moment_of d sources key before) (moment_of d sources key (before ++ e ∷ [])) change
 
 -- where a change stands in a list: its key, whether it is an emission or update, its window, and its start and end
 pub record Place : Type 0 where
@@ -158,3 +158,16 @@ is_timed (Sliding length slide) = true
 is_timed (Session gap) = false
 is_timed Marks = false
 is_timed (Events count) = false
+
+-- the multiple of the slide is the start of an interval that holds the time
+abbrev pub HoldsTime : ℕ → ℕ → ℕ → ℕ → Type 0
+HoldsTime length slide time low = (k : ℕ) × (low ≡ k * slide) × (low ≤ time) × (time < low + length)
+
+-- the multiple of the slide is the start of an interval that holds a kept tuple
+abbrev pub HoldsKept : ℕ → ℕ → List Kept → ℕ → Type 0
+HoldsKept length slide kept low =
+    (k : ℕ) × (x : Kept) × Contains kept x × (low ≡ k * slide) × (low ≤ x.time) × (x.time < low + length)
+
+-- what the instances select
+abbrev pub selections_of : List Instance → List (List Kept)
+selections_of instances = map (λ i. i.chosen) instances

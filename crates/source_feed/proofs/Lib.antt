@@ -1,0 +1,7 @@
+pub mod Closing
+pub mod CsvSteps
+pub mod Draining
+pub mod Examples
+pub mod Giving
+pub mod Made
+pub mod Saying

@@ -1,0 +1,37 @@
+-- What a feed's fault says of what it told.
+use Rattle.std.specs.Prelude.{◌≡◌, ℕ, Bool, true, false, Option, None, Some, ⊤}
+use Rattle.source_feed.specs.Told.{Refusal, Told, bad_row, only_refused, too_long}
+use Rattle.source_feed.specs.declared.feed_fault.FeedFault.{FeedFault}
+use Rattle.source_feed.specs.declared.feed_fault.FeedFault.TheVariants.{Read, TooLong, Row, NoMemory}
+use Rattle.source_feed.specs.declared.row_fault.RowFault.{RowFault}
+use Rattle.source_feed.specs.declared.row_fault.RowFault.TheVariants.{Refused, NoMemory as MemoryFault}
+use Rattle.source_feed.specs.declared.whole_fault.WholeFault.{WholeFault}
+use Rattle.source_feed.specs.declared.whole_fault.WholeFault.TheVariants.{Read as WholeRead, TooLong as WholeTooLong, NoMemory as WholeMemory}
+
+-- the refusal that a fault shows, if it shows one
+abbrev pub refusal_of : FeedFault → Option Refusal
+refusal_of Read = None
+refusal_of TooLong = Some too_long
+refusal_of (Row number why) = Some (bad_row number why)
+refusal_of NoMemory = None
+
+-- no entry was left where anything was told, this refusal was to come, and that stays told
+abbrev pub Ends : Option Refusal → Option Told → Option Told → Type 0
+Ends None old new = ⊤
+Ends (Some refusal) None new = ⊤
+Ends (Some refusal) (Some told) new = (told ≡ only_refused refusal) × (new ≡ Some told)
+
+-- a fault that shows a refusal shows the one that was told
+abbrev pub ShowsRefusal : FeedFault → Option Told → Option Told → Type 0
+ShowsRefusal fault old new = Ends (refusal_of fault) old new
+
+-- the fault of a feed for one of its rows
+abbrev pub feed_fault : RowFault → FeedFault
+feed_fault (Refused number why) = Row number why
+feed_fault MemoryFault = NoMemory
+
+-- the fault of a feed whose source wasn't read whole
+abbrev pub whole_fault : WholeFault → FeedFault
+whole_fault WholeRead = Read
+whole_fault WholeTooLong = TooLong
+whole_fault WholeMemory = NoMemory

@@ -1,0 +1,11 @@
+pub mod Record
+pub mod RecordsLeft
+pub mod Told
+pub mod Rows
+pub mod Coming
+pub mod Pace
+pub mod SaidLeft
+pub mod RowsLeft
+pub mod FeedFault
+pub mod Feeding
+pub mod FeedState

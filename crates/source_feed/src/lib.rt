@@ -1,0 +1,34 @@
+//! The way from a source's bytes to its entries, and from an entry's key to its shard.
+//!
+//! *From* the bytes of a source of the outside, *to* the entries that the machine works on. *Stands on*
+//! `stream_base` for keys, entries and sources, and on `csv` for records. *Promise*: a source's
+//! entries are those that the definition reads from its bytes, with the watermarks that are made
+//! and the last end, or those before the first refusal, with its record number and reason.
+#![tactic(auto)]
+
+mod feed;
+mod feed_fault;
+mod file_feed;
+mod numbers;
+mod pace;
+mod record;
+mod records;
+mod row_fault;
+mod row_why;
+mod rows;
+mod said;
+mod shard;
+#[cfg(test)]
+mod tests;
+mod whole;
+mod whole_fault;
+
+pub use feed::Feed;
+pub use feed_fault::FeedFault;
+pub use file_feed::FileFeed;
+pub use row_fault::RowFault;
+pub use row_why::RowWhy;
+pub use rows::Rows;
+pub use shard::route;
+pub use whole::{SOURCE_MAX, read_whole};
+pub use whole_fault::WholeFault;

@@ -1,0 +1,29 @@
+ghost use Rattle.std.specs.Prelude.{◌≡◌, ◌≤◌, length, IfOk};
+ghost use Rattle.csv.specs.Reading.{default_config, records, strip_bom};
+ghost use Rattle.csv.specs.Records.{fields_of};
+ghost use Rattle.source_feed.specs.RecordsLeft.{IsReadable, TookRecord, records_left, text_left};
+
+use csv::{ByteRecord, Reader, ReaderBuilder};
+use std::alloc::Global;
+use std::io::{Cursor, Read};
+use stream_base::NoMemory;
+
+// A reader of the records of these bytes. It takes off one byte order mark at their front.
+pub fn reader_of(alloc: Global, bytes: Vec<u8>) -> Reader<Cursor<Vec<u8>>>
+    ensures readable { IsReadable text_left result }
+    ensures left { records_left text_left result ≡ records default_config (strip_bom bytes.items) }
+    ensures few { length (records_left text_left result) ≤ length bytes.items }
+{
+    ReaderBuilder::new()
+        .has_headers(false)
+        .flexible(true)
+        .from_reader(alloc, Cursor::new(bytes))
+}
+
+// Puts the next record into `row`, and answers whether there was one.
+pub fn next_record<R: Read>(reader: &mut Reader<R>, row: &mut ByteRecord) -> Result<bool, NoMemory>
+    requires { IsReadable R.remaining reader.old }
+    ensures { IfOk result (λ found. TookRecord R.remaining reader.old reader.new (fields_of row.new) found) }
+{
+    reader.read_byte_record(row).map_err(|_| NoMemory)
+}

@@ -1,0 +1,6 @@
+pub mod CutFacts
+pub mod TableFacts
+pub mod WindowFacts
+pub mod ReadingFacts
+pub mod TroubleFacts
+pub mod Examples

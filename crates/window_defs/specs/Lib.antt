@@ -1,0 +1,5 @@
+pub mod Document
+pub mod Tables
+pub mod Windows
+pub mod Reading
+pub mod Trouble

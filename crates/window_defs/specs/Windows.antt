@@ -1,0 +1,117 @@
+-- How an element of the array of windows reads as a window.
+use Rattle.std.specs.Prelude.{ℕ, ℤ, pos, negsuc, Bool, false, ◌||◌, List, Option, None, Some, if◌then◌else◌, codes}
+use Rattle.std.specs.Option.{option_and_then}
+use Rattle.std.specs.Str.{bytes_eq}
+use Rattle.toml.specs.Data.{Data, Members, as_table}
+use Rattle.stream_base.specs.declared.def.Def.{Def}
+use Rattle.stream_base.specs.declared.kind.Kind.{Kind}
+use Rattle.stream_base.specs.declared.kind.Kind.TheVariants as kinds
+use Rattle.stream_base.specs.declared.func.Func.{Func}
+use Rattle.stream_base.specs.declared.func.Func.TheVariants.{Count, Sum, Min, Max, Mean, First, Last, Rises, Trace}
+use Rattle.stream_base.specs.Limits.{is_kind_within}
+use Rattle.window_defs.specs.declared.kind_name.KindName.{KindName}
+use Rattle.window_defs.specs.declared.kind_name.KindName.TheVariants.{Tumbling, Sliding, Session, Marks, Events}
+use Rattle.window_defs.specs.declared.raw_kind.RawKind.{RawKind}
+use Rattle.window_defs.specs.declared.raw_kind.RawKind.TheVariants as raws
+use Rattle.window_defs.specs.declared.raw_window.RawWindow.{RawWindow}
+use Rattle.window_defs.specs.Tables.{text_at, integer_at, has_other}
+
+infixl 10 ◌>>=◌
+abbrev ◌>>=◌ : {A B : Type 0} → Option A → (A → Option B) → Option B
+o >>= f = option_and_then f o
+
+-- the kinds of windows, by their words
+abbrev pub kind_named : List ℕ → Option KindName
+kind_named word =
+    if bytes_eq word (codes "tumbling") then Some Tumbling
+    else if bytes_eq word (codes "sliding") then Some Sliding
+    else if bytes_eq word (codes "session") then Some Session
+    else if bytes_eq word (codes "marks") then Some Marks
+    else if bytes_eq word (codes "events") then Some Events
+    else None
+
+-- the functions, by their words
+abbrev pub func_named : List ℕ → Option Func
+func_named word =
+    if bytes_eq word (codes "count") then Some Count
+    else if bytes_eq word (codes "sum") then Some Sum
+    else if bytes_eq word (codes "min") then Some Min
+    else if bytes_eq word (codes "max") then Some Max
+    else if bytes_eq word (codes "mean") then Some Mean
+    else if bytes_eq word (codes "first") then Some First
+    else if bytes_eq word (codes "last") then Some Last
+    else if bytes_eq word (codes "rises") then Some Rises
+    else if bytes_eq word (codes "trace") then Some Trace
+    else None
+
+-- a key of the numbers of a kind
+abbrev pub is_number_key : KindName → List ℕ → Bool
+is_number_key Tumbling key = bytes_eq key (codes "length")
+is_number_key Sliding key = bytes_eq key (codes "length") || bytes_eq key (codes "slide")
+is_number_key Session key = bytes_eq key (codes "gap")
+is_number_key Marks key = false
+is_number_key Events key = bytes_eq key (codes "count")
+
+-- a key that a window of a kind has
+abbrev pub is_window_key : KindName → List ℕ → Bool
+is_window_key kind key = bytes_eq key (codes "kind") || (bytes_eq key (codes "func") || is_number_key kind key)
+
+-- the kind with the integers at its keys, if each is there
+abbrev pub raw_kind_of : KindName → Members → Option RawKind
+raw_kind_of Tumbling fields = do
+  length ← integer_at (codes "length") fields
+  Some (raws.Tumbling length)
+raw_kind_of Sliding fields = do
+  length ← integer_at (codes "length") fields
+  slide ← integer_at (codes "slide") fields
+  Some (raws.Sliding length slide)
+raw_kind_of Session fields = do
+  gap ← integer_at (codes "gap") fields
+  Some (raws.Session gap)
+raw_kind_of Marks fields = Some raws.Marks
+raw_kind_of Events fields = do
+  count ← integer_at (codes "count") fields
+  Some (raws.Events count)
+
+-- a window of the right shape: a table whose kind and function are words for one, and whose other keys are exactly those of its kind, each with an integer
+unfoldable pub raw_window_of : Data → Option RawWindow
+raw_window_of value = do
+  fields ← as_table value
+  kind_word ← text_at (codes "kind") fields
+  kind ← kind_named kind_word
+  func_word ← text_at (codes "func") fields
+  func ← func_named func_word
+  raw ← raw_kind_of kind fields
+  if has_other (is_window_key kind) fields then None else Some (record { kind = raw; func = func })
+
+-- a whole number that isn't negative
+abbrev pub natural : ℤ → Option ℕ
+natural (pos n) = Some n
+natural (negsuc n) = None
+
+-- a kind whose numbers are within its limits
+abbrev pub within_limits : Kind → Option Kind
+within_limits kind = if is_kind_within kind then Some kind else None
+
+-- the kind with its numbers, if they are within the limits of the kind
+abbrev pub kind_of : RawKind → Option Kind
+kind_of (raws.Tumbling length) = do
+  l ← natural length
+  within_limits (kinds.Tumbling l)
+kind_of (raws.Sliding length slide) = do
+  l ← natural length
+  s ← natural slide
+  within_limits (kinds.Sliding l s)
+kind_of (raws.Session gap) = do
+  g ← natural gap
+  within_limits (kinds.Session g)
+kind_of raws.Marks = Some kinds.Marks
+kind_of (raws.Events count) = do
+  n ← natural count
+  within_limits (kinds.Events n)
+
+-- the definition of a window of the right shape, if its numbers are within the limits
+abbrev pub def_of : RawWindow → Option Def
+def_of raw = do
+  kind ← kind_of raw.kind
+  Some (record { kind = kind; func = raw.func })

@@ -1,0 +1,24 @@
+//! Window definitions, read from TOML, and the cuts that they make.
+//!
+//! *From* the bytes of a definitions file, *to* a `Defs`. *Stands on* stream_base and toml. *Promise*:
+//! bytes are read as definitions, or refused with the first fault, exactly as the definition of a
+//! definitions file says; and two times have a cut between them exactly where a start or end of a
+//! window lies after the first and at or before the second, or where they are a session gap apart.
+#![tactic(auto)]
+
+mod cut;
+mod defs_fault;
+mod kind_name;
+mod raw_kind;
+mod raw_window;
+mod read;
+mod table;
+#[cfg(test)]
+mod tests;
+mod top;
+mod window;
+
+pub use cut::{cut_between, cuts_between_decides};
+pub use defs_fault::DefsFault;
+pub use read::{BYTES_MAX, read_defs};
+pub use window::first_in_trouble_is_named;

@@ -1,0 +1,213 @@
+//! How an element of the array of windows reads as a window.
+ghost use Rattle.std.specs.Prelude.{◌≡◌, ◌≤◌, ◌↔◌, List, length, map, Err};
+ghost use Rattle.stream_base.specs.Limits.{is_kind_within};
+ghost use Rattle.toml.specs.Data.{Data};
+ghost use Rattle.toml.specs.View.{view, table_view};
+ghost use Rattle.window_defs.specs.Tables.{has_other};
+ghost use Rattle.window_defs.specs.Windows.{kind_named, func_named, is_number_key, is_window_key, raw_kind_of, raw_window_of, natural, within_limits, kind_of, def_of};
+ghost use Rattle.window_defs.specs.Reading.{Gives, window_at, windows_from};
+ghost use Rattle.window_defs.specs.Trouble.{IsOfFirstInTrouble};
+ghost use Rattle.window_defs.specs.declared.defs_fault.DefsFault.{DefsFault};
+
+use crate::defs_fault::DefsFault;
+use crate::kind_name::KindName;
+use crate::raw_kind::RawKind;
+use crate::raw_window::RawWindow;
+use crate::table::{integer_at, text_at};
+use std::alloc::Global;
+use stream_base::{Def, Func, JOURNAL_MAX, Kind, LENGTH_RATIO_MAX, TIME_MAX};
+use toml::{Table, Value};
+
+/// The windows of the elements, or the fault of the first that is in trouble.
+pub fn windows_of(alloc: Global, values: &[Value]) -> Result<Vec<Def>, DefsFault>
+    requires { length values.now ≤ 32 }
+    ensures { Gives (λ windows. windows.items) result (windows_from 0 (map view values.now)) }
+{
+    let mut windows = Vec::new(alloc);
+    for (i, value) in values.iter().enumerate() {
+        let window = window_at(i as u32, value)?;
+        windows.push(window)?;
+    }
+    Ok(windows)
+}
+
+/// A law: the elements are refused with a fault exactly where it is the fault of an element in trouble
+/// and no element before that one is in trouble.
+pub fn first_in_trouble_is_named()
+    ensures named { (elements : List Data) (fault : DefsFault) → (windows_from 0 elements ≡ Err fault) ↔ IsOfFirstInTrouble elements fault }
+{}
+
+fn window_at(i: u32, value: &Value) -> Result<Def, DefsFault>
+    ensures { Gives (λ window. window) result (window_at i (view value.now)) }
+{
+    let Some(raw) = raw_window(value) else {
+        return Err(DefsFault::Shape { window: Some(i) });
+    };
+    match def_of(raw) {
+        Some(window) => Ok(window),
+        None => Err(DefsFault::Limit { window: Some(i) }),
+    }
+}
+
+#[tactic(auto, unfolding(crate::specs::Windows::raw_window_of))]
+fn raw_window(value: &Value) -> Option<RawWindow>
+    ensures { result ≡ raw_window_of (view value.now) }
+{
+    let fields = value.as_table()?;
+    let kind = kind_named(text_at(fields, "kind")?)?;
+    let func = func_named(text_at(fields, "func")?)?;
+    let raw = raw_kind(kind, fields)?;
+    if has_other_key(kind, fields) {
+        return None;
+    }
+    Some(RawWindow { kind: raw, func })
+}
+
+fn kind_named(word: &str) -> Option<KindName>
+    ensures { result ≡ kind_named word.now }
+{
+    match word {
+        "tumbling" => Some(KindName::Tumbling),
+        "sliding" => Some(KindName::Sliding),
+        "session" => Some(KindName::Session),
+        "marks" => Some(KindName::Marks),
+        "events" => Some(KindName::Events),
+        _ => None,
+    }
+}
+
+fn func_named(word: &str) -> Option<Func>
+    ensures { result ≡ func_named word.now }
+{
+    match word {
+        "count" => Some(Func::Count),
+        "sum" => Some(Func::Sum),
+        "min" => Some(Func::Min),
+        "max" => Some(Func::Max),
+        "mean" => Some(Func::Mean),
+        "first" => Some(Func::First),
+        "last" => Some(Func::Last),
+        "rises" => Some(Func::Rises),
+        "trace" => Some(Func::Trace),
+        _ => None,
+    }
+}
+
+fn raw_kind(kind: KindName, fields: &Table) -> Option<RawKind>
+    ensures { result ≡ raw_kind_of kind (table_view fields.now) }
+{
+    match kind {
+        KindName::Tumbling => {
+            let length = integer_at(fields, "length")?;
+            Some(RawKind::Tumbling { length })
+        }
+        KindName::Sliding => {
+            let length = integer_at(fields, "length")?;
+            let slide = integer_at(fields, "slide")?;
+            Some(RawKind::Sliding { length, slide })
+        }
+        KindName::Session => {
+            let gap = integer_at(fields, "gap")?;
+            Some(RawKind::Session { gap })
+        }
+        KindName::Marks => Some(RawKind::Marks),
+        KindName::Events => {
+            let count = integer_at(fields, "count")?;
+            Some(RawKind::Events { count })
+        }
+    }
+}
+
+fn has_other_key(kind: KindName, fields: &Table) -> bool
+    ensures { result ≡ has_other (is_window_key kind) (table_view fields.now) }
+{
+    for (key, _) in fields {
+        if !is_window_key(kind, key.as_str()) {
+            return true;
+        }
+    }
+    false
+}
+
+fn is_window_key(kind: KindName, key: &str) -> bool
+    ensures { result ≡ is_window_key kind key.now }
+{
+    key == "kind" || key == "func" || is_number_key(kind, key)
+}
+
+fn is_number_key(kind: KindName, key: &str) -> bool
+    ensures { result ≡ is_number_key kind key.now }
+{
+    match kind {
+        KindName::Tumbling => key == "length",
+        KindName::Sliding => key == "length" || key == "slide",
+        KindName::Session => key == "gap",
+        KindName::Marks => false,
+        KindName::Events => key == "count",
+    }
+}
+
+fn def_of(raw: RawWindow) -> Option<Def>
+    ensures { result ≡ def_of raw }
+{
+    let kind = kind_of(raw.kind)?;
+    Some(Def {
+        kind,
+        func: raw.func,
+    })
+}
+
+fn kind_of(raw: RawKind) -> Option<Kind>
+    ensures { result ≡ kind_of raw }
+{
+    match raw {
+        RawKind::Tumbling { length } => {
+            let length = natural(length)?;
+            within_limits(Kind::Tumbling { length })
+        }
+        RawKind::Sliding { length, slide } => {
+            let length = natural(length)?;
+            let slide = natural(slide)?;
+            within_limits(Kind::Sliding { length, slide })
+        }
+        RawKind::Session { gap } => {
+            let gap = natural(gap)?;
+            within_limits(Kind::Session { gap })
+        }
+        RawKind::Marks => Some(Kind::Marks),
+        RawKind::Events { count } => {
+            let count = natural(count)?;
+            within_limits(Kind::Events { count })
+        }
+    }
+}
+
+fn natural(number: i64) -> Option<u64>
+    ensures { result ≡ natural number }
+{
+    u64::try_from(number).ok()
+}
+
+fn within_limits(kind: Kind) -> Option<Kind>
+    ensures { result ≡ within_limits kind }
+{
+    if is_within(kind) { Some(kind) } else { None }
+}
+
+fn is_within(kind: Kind) -> bool
+    ensures { result ≡ is_kind_within kind }
+{
+    match kind {
+        Kind::Tumbling { length } => 1 <= length && length <= TIME_MAX,
+        Kind::Sliding { length, slide } => {
+            1 <= length
+                && length <= TIME_MAX
+                && 1 <= slide
+                && slide <= length
+                && length <= LENGTH_RATIO_MAX * slide
+        }
+        Kind::Session { gap } => 1 <= gap && gap <= TIME_MAX,
+        Kind::Marks => true,
+        Kind::Events { count } => 1 <= count && count <= JOURNAL_MAX,
+    }
+}
