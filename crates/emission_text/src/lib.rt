@@ -7,11 +7,15 @@
 
 mod change_line;
 mod entry_line;
+mod fault;
+mod fault_line;
 mod pending;
 mod pieces;
 mod report;
 mod sink_fault;
 mod writing;
 
+pub use fault::Fault;
+pub use fault_line::write_fault;
 pub use report::{report_of_alike_shards_is_of_their_journals, write_report};
 pub use sink_fault::SinkFault;
