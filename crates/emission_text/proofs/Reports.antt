@@ -29,7 +29,7 @@ lines_behind-more-at s position d within =
     let rest = drop (position + 1) s.journal in
     let found : slice_get s.journal position ≡ Some e = slice_get-get_or s.journal position d within in
     let at : lines_at s position ≡ entry_line e ++ changes_under s.defs s.sources before e =
-        lines_at-is s position e found ∙ ap (λ o. entry_line e ++ change_lines (option_map_or (changes_after s.defs s.sources before) o [])) found in
+    lines_at-is s position e found ∙ ap (λ o. entry_line e ++ change_lines (option_map_or (changes_after s.defs s.sources before) o [])) found in
     at_drop_more (journal_lines (changes_under s.defs s.sources) before) s.journal position d within
     ∙ sym (append_assoc (entry_line e) (changes_under s.defs s.sources before e) (journal_lines (changes_under s.defs s.sources) (before ++ e ∷ []) rest))
     ∙ ap (λ lines. lines ++ journal_lines (changes_under s.defs s.sources) (before ++ e ∷ []) rest) (sym at)
@@ -38,8 +38,8 @@ lines_behind-more-at s position d within =
 pub lines_behind-more : (s : Sharded) (position : ℕ) → position < length s.journal → lines_behind s position ≡ lines_at s position ++ lines_behind s (position + 1)
 lines_behind-more s position within =
     elim (slice_get_cases s.journal position).1 [
-      inl found ↦ lines_behind-more-at s position found.0 within
-    | inr past ↦ absurd (omega (arith, past.0))
+      | inl found ↦ lines_behind-more-at s position found.0 within
+      | inr past ↦ absurd (omega (arith, past.0))
     ]
 
 -- the lines of shards from a number on are those of the first of them, and then those of the others
@@ -55,7 +55,7 @@ lines_from-alike d n k [] alike = refl
 lines_from-alike d n k (s ∷ shards) alike =
     let own = All-head (λ (shard : Sharded). (shard.defs ≡ d) × (shard.sources ≡ n)) s shards alike in
     let lines : lines_of s ≡ journal_lines (changes_under d n) [] s.journal =
-        ap (λ (defs : Definitions). journal_lines (changes_under defs s.sources) [] s.journal) (own.0) ∙ ap (λ sources. journal_lines (changes_under d sources) [] s.journal) (own.1) in
+    ap (λ (defs : Definitions). journal_lines (changes_under defs s.sources) [] s.journal) (own.0) ∙ ap (λ sources. journal_lines (changes_under d sources) [] s.journal) (own.1) in
     append_assoc (header_line k) (lines_of s) (lines_from (k + 1) shards)
     ∙ ap (λ journal. header_line k ++ (journal ++ lines_from (k + 1) shards)) lines
     ∙ ap (λ rest. header_line k ++ (journal_lines (changes_under d n) [] s.journal ++ rest)) (lines_from-alike d n (k + 1) shards (All-tail (λ (shard : Sharded). (shard.defs ≡ d) × (shard.sources ≡ n)) s shards alike))

@@ -1,5 +1,6 @@
 -- The words of refused definitions and records.
-use Rattle.std.specs.Prelude.{ℕ, List, [], ◌∷◌, codes, decimal, Option, None, Some}
+use Rattle.std.specs.Prelude.{ℕ, List, [], ◌∷◌, codes, decimal, Option}
+use Rattle.std.specs.Option.{option_map_or}
 use Rattle.source_feed.specs.declared.row_why.RowWhy.{RowWhy}
 use Rattle.source_feed.specs.declared.row_why.RowWhy.TheVariants.{Kind, Fields, Time, Value, Key}
 use Rattle.window_defs.specs.declared.defs_fault.DefsFault.{DefsFault}
@@ -7,8 +8,7 @@ use Rattle.window_defs.specs.declared.defs_fault.DefsFault.TheVariants.{Long, To
 
 -- a place: its number, or a word where it has none
 abbrev pub place_text : List ℕ → Option ℕ → List ℕ
-place_text word None = word
-place_text word (Some number) = decimal number
+place_text word place = option_map_or decimal place word
 
 -- the words of refused definitions
 abbrev pub defs_words : DefsFault → List (List ℕ)

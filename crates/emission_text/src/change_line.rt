@@ -52,9 +52,8 @@ pub fn put_change<K: Sink>(
             let window = number.format(*window).as_bytes();
             let low = start.format(*low).as_bytes();
             let high = end_piece(*high, &mut end);
-            let pieces: [&[u8]; 9] = [
-                b"- ", window, b" ", low, b" ", high, b" ", key.bytes(), b"\n",
-            ];
+            let key = key.bytes();
+            let pieces: [&[u8]; 9] = [b"- ", window, b" ", low, b" ", high, b" ", key, b"\n"];
             put_pieces(&pieces, out, sink)
         }
         Change::New(row) => put_row(b"+", row, out, sink),

@@ -25,9 +25,8 @@ pub fn put_entry<K: Sink>(entry: &Entry, out: &mut Pending, sink: &mut K) -> Res
         What::Tuple { key, time, value } => {
             let time = moment.format(*time).as_bytes();
             let value = number.format(*value).as_bytes();
-            let pieces: [&[u8]; 9] = [
-                b"j ", source, b" t ", time, b" ", value, b" ", key.bytes(), b"\n",
-            ];
+            let key = key.bytes();
+            let pieces: [&[u8]; 9] = [b"j ", source, b" t ", time, b" ", value, b" ", key, b"\n"];
             put_pieces(&pieces, out, sink)
         }
         What::Mark { key, time } => {

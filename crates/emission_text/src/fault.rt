@@ -11,7 +11,9 @@ pub enum Fault {
     /// The definitions were refused.
     Defs(DefsFault),
     /// A file couldn't be opened: the source at this place, or the definitions.
-    Unopened { place: Option<u16> },
+    Unopened {
+        place: Option<u16>,
+    },
     /// A record of a source was refused.
     Row {
         source: u16,
@@ -19,11 +21,17 @@ pub enum Fault {
         why: RowWhy,
     },
     /// A read failed: of the source at this place, or of the definitions.
-    Read { place: Option<u16> },
+    Read {
+        place: Option<u16>,
+    },
     /// A source has too many bytes.
-    FullSource { source: u16 },
+    FullSource {
+        source: u16,
+    },
     /// More entries are routed to a shard than a journal takes.
-    FullShard { shard: u16 },
+    FullShard {
+        shard: u16,
+    },
     /// An allocation was refused.
     NoMemory,
 }

@@ -1,8 +1,9 @@
 //! The lines of faults.
-ghost use Rattle.std.specs.Prelude.{◌≡◌, ◌++◌, ◌∷◌, [], codes, decimal, OnOk, OnErr};
+ghost use Rattle.std.specs.Prelude.{◌≡◌, ◌++◌, ◌∷◌, [], codes, OnOk, OnErr};
+ghost use Rattle.std.specs.Option.{option_map_or};
 ghost use Rattle.stream_base.specs.Model.Text.{line_of};
 ghost use Rattle.stream_base.specs.Outside.{Rose, with_back};
-ghost use Rattle.emission_text.specs.DefsFaults.{defs_words, place_text, why_text};
+ghost use Rattle.emission_text.specs.DefsFaults.{defs_words, why_text};
 ghost use Rattle.emission_text.specs.Faults.{fault_line};
 ghost use Rattle.emission_text.specs.Sending.{Sends, SendsFront};
 
@@ -10,7 +11,7 @@ use crate::fault::Fault;
 use crate::pending::Pending;
 use crate::pieces::put_pieces;
 use crate::sink_fault::SinkFault;
-use itoa::Buffer;
+use itoa::{Buffer, Integer};
 use source_feed::RowWhy;
 use stream_base::Sink;
 use window_defs::DefsFault;
@@ -38,15 +39,15 @@ fn put_fault<K: Sink>(fault: &Fault, out: &mut Pending, sink: &mut K) -> Result<
         Fault::Usage => put_pieces(&[b"fault usage\n"], out, sink),
         Fault::Unbuilt => put_pieces(&[b"fault unbuilt\n"], out, sink),
         Fault::Defs(fault) => put_defs_fault(fault, out, sink),
-        Fault::Unopened { place } => put_placed(b"fault open ", b"defs", place.map(u32::from), out, sink),
+        Fault::Unopened { place } => put_placed(b"fault open ", b"defs", *place, out, sink),
         Fault::Row {
             source,
             number,
             why,
         } => put_row_fault(*source, *number, *why, out, sink),
-        Fault::Read { place } => put_placed(b"fault read ", b"defs", place.map(u32::from), out, sink),
-        Fault::FullSource { source } => put_numbered(b"fault full source ", u32::from(*source), out, sink),
-        Fault::FullShard { shard } => put_numbered(b"fault full shard ", u32::from(*shard), out, sink),
+        Fault::Read { place } => put_placed(b"fault read ", b"defs", *place, out, sink),
+        Fault::FullSource { source } => put_numbered(b"fault full source ", *source, out, sink),
+        Fault::FullShard { shard } => put_numbered(b"fault full shard ", *shard, out, sink),
         Fault::NoMemory => put_pieces(&[b"fault memory\n"], out, sink),
     }
 }
@@ -87,10 +88,9 @@ fn put_row_fault<K: Sink>(
     let mut second = Buffer::new();
     let source = first.format(source).as_bytes();
     let number = second.format(number).as_bytes();
-    let pieces: [&[u8]; 7] = [
-        b"fault row ", source, b" ", number, b" ", why_word(why), b"\n",
-    ];
-    put_pieces(&pieces, out, sink)
+    let front: &[u8] = b"fault row ";
+    let why = why_word(why);
+    put_pieces(&[front, source, b" ", number, b" ", why, b"\n"], out, sink)
 }
 
 fn why_word(why: RowWhy) -> &'static [u8]
@@ -106,16 +106,16 @@ fn why_word(why: RowWhy) -> &'static [u8]
 }
 
 // Puts a line that ends with a place, or with a word where there is none.
-fn put_placed<K: Sink>(
+fn put_placed<N: Integer, K: Sink>(
     front: &[u8],
     word: &[u8],
-    place: Option<u32>,
+    place: Option<N>,
     out: &mut Pending,
     sink: &mut K,
 ) -> Result<(), SinkFault>
-    ensures added { OnOk result (Sends (out.old ++ (front.now ++ (place_text word.now place ++ 10 ∷ []))) out.new (K.written sink.old) (K.written sink.new)) }
+    ensures added { OnOk result (Sends (out.old ++ (front.now ++ (option_map_or N.text place word.now ++ 10 ∷ []))) out.new (K.written sink.old) (K.written sink.new)) }
     ensures quiet { OnOk result (K.faults sink.new ≡ K.faults sink.old) }
-    ensures refused { OnErr result (SendsFront (out.old ++ (front.now ++ (place_text word.now place ++ 10 ∷ []))) (K.written sink.old) (K.written sink.new)) }
+    ensures refused { OnErr result (SendsFront (out.old ++ (front.now ++ (option_map_or N.text place word.now ++ 10 ∷ []))) (K.written sink.old) (K.written sink.new)) }
     ensures failed { OnErr result (Rose (K.faults sink.old) (K.faults sink.new)) }
 {
     match place {
@@ -125,15 +125,15 @@ fn put_placed<K: Sink>(
 }
 
 // Puts a line that ends with a number.
-fn put_numbered<K: Sink>(
+fn put_numbered<N: Integer, K: Sink>(
     front: &[u8],
-    number: u32,
+    number: N,
     out: &mut Pending,
     sink: &mut K,
 ) -> Result<(), SinkFault>
-    ensures added { OnOk result (Sends (out.old ++ (front.now ++ (decimal number ++ 10 ∷ []))) out.new (K.written sink.old) (K.written sink.new)) }
+    ensures added { OnOk result (Sends (out.old ++ (front.now ++ (N.text number ++ 10 ∷ []))) out.new (K.written sink.old) (K.written sink.new)) }
     ensures quiet { OnOk result (K.faults sink.new ≡ K.faults sink.old) }
-    ensures refused { OnErr result (SendsFront (out.old ++ (front.now ++ (decimal number ++ 10 ∷ []))) (K.written sink.old) (K.written sink.new)) }
+    ensures refused { OnErr result (SendsFront (out.old ++ (front.now ++ (N.text number ++ 10 ∷ []))) (K.written sink.old) (K.written sink.new)) }
     ensures failed { OnErr result (Rose (K.faults sink.old) (K.faults sink.new)) }
 {
     let mut digits = Buffer::new();

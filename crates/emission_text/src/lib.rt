@@ -13,6 +13,8 @@ mod pending;
 mod pieces;
 mod report;
 mod sink_fault;
+#[cfg(test)]
+mod tests;
 mod writing;
 
 pub use fault::Fault;

@@ -37,11 +37,7 @@ pub fn report_of_alike_shards_is_of_their_journals(shards: &[Shard])
     let _shards = shards;
 }
 
-fn put_report<K: Sink>(
-    shards: &[Shard],
-    out: &mut Pending,
-    sink: &mut K,
-) -> Result<(), SinkFault>
+fn put_report<K: Sink>(shards: &[Shard], out: &mut Pending, sink: &mut K) -> Result<(), SinkFault>
     ensures added { OnOk result (Sends (out.old ++ report_text shards.now) out.new (K.written sink.old) (K.written sink.new)) }
     ensures quiet { OnOk result (K.faults sink.new ≡ K.faults sink.old) }
     ensures refused { OnErr result (SendsFront (out.old ++ report_text shards.now) (K.written sink.old) (K.written sink.new)) }
@@ -51,11 +47,7 @@ fn put_report<K: Sink>(
     put_pieces(&[b"end\n"], out, sink)
 }
 
-fn put_shards<K: Sink>(
-    shards: &[Shard],
-    out: &mut Pending,
-    sink: &mut K,
-) -> Result<(), SinkFault>
+fn put_shards<K: Sink>(shards: &[Shard], out: &mut Pending, sink: &mut K) -> Result<(), SinkFault>
     ensures added { OnOk result (Sends (out.old ++ lines_from 0 shards.now) out.new (K.written sink.old) (K.written sink.new)) }
     ensures quiet { OnOk result (K.faults sink.new ≡ K.faults sink.old) }
     ensures refused { OnErr result (SendsFront (out.old ++ lines_from 0 shards.now) (K.written sink.old) (K.written sink.new)) }

@@ -13,6 +13,6 @@ returns-in_err-put_shard-clause-refused g c = on-err c.from_residual.result
 pub loop-k-preserved : goal.loop-k-preserved
 loop-k-preserved g c = record {
   sent = sends-more c.loop-k.out (header_line c.loop-k.k ++ lines_of c.index-shards-k.result) (lines_from (c.loop-k.k + 1) (drop (c.loop-k.k + 1) c.args.shards.now))
-    (lines_from-more c.args.shards.now c.loop-k.k c.index-shards-k.result c.loop-k-test.true c.index-shards-k.is) c.loop-k.invariant.sent c.in_ok-put_shard.ensures.added;
+      (lines_from-more c.args.shards.now c.loop-k.k c.index-shards-k.result c.loop-k-test.true c.index-shards-k.is) c.loop-k.invariant.sent c.in_ok-put_shard.ensures.added;
   quiet = c.in_ok-put_shard.ensures.quiet ∙ c.loop-k.invariant.quiet;
 }
