@@ -1,0 +1,5 @@
+pub mod Sending
+pub mod Rows
+pub mod Report
+pub mod DefsFaults
+pub mod Faults

@@ -1,0 +1,141 @@
+//! The lines of faults.
+ghost use Rattle.std.specs.Prelude.{◌≡◌, ◌++◌, ◌∷◌, [], codes, OnOk, OnErr};
+ghost use Rattle.std.specs.Option.{option_map_or};
+ghost use Rattle.stream_base.specs.Model.Text.{line_of};
+ghost use Rattle.stream_base.specs.Outside.{Rose, with_back};
+ghost use Rattle.emission_text.specs.DefsFaults.{defs_words, why_text};
+ghost use Rattle.emission_text.specs.Faults.{fault_line};
+ghost use Rattle.emission_text.specs.Sending.{Sends, SendsFront};
+
+use crate::fault::Fault;
+use crate::pending::Pending;
+use crate::pieces::put_pieces;
+use crate::sink_fault::SinkFault;
+use itoa::{Buffer, Integer};
+use source_feed::RowWhy;
+use stream_base::Sink;
+use window_defs::DefsFault;
+
+/// Writes the line of a fault. `Write` is answered where a write of the sink failed, and then a front
+/// of the line went out.
+pub fn write_fault<K: Sink>(fault: &Fault, sink: &mut K) -> Result<(), SinkFault>
+    ensures written { OnOk result (K.written sink.new ≡ with_back (fault_line fault.now) (K.written sink.old)) }
+    ensures quiet { OnOk result (K.faults sink.new ≡ K.faults sink.old) }
+    ensures refused { OnErr result (SendsFront (fault_line fault.now) (K.written sink.old) (K.written sink.new)) }
+    ensures failed { OnErr result (Rose (K.faults sink.old) (K.faults sink.new)) }
+{
+    let mut out = Pending::new();
+    put_fault(fault, &mut out, sink)?;
+    out.flush(sink)
+}
+
+fn put_fault<K: Sink>(fault: &Fault, out: &mut Pending, sink: &mut K) -> Result<(), SinkFault>
+    ensures added { OnOk result (Sends (out.old ++ fault_line fault.now) out.new (K.written sink.old) (K.written sink.new)) }
+    ensures quiet { OnOk result (K.faults sink.new ≡ K.faults sink.old) }
+    ensures refused { OnErr result (SendsFront (out.old ++ fault_line fault.now) (K.written sink.old) (K.written sink.new)) }
+    ensures failed { OnErr result (Rose (K.faults sink.old) (K.faults sink.new)) }
+{
+    match fault {
+        Fault::Usage => put_pieces(&[b"fault usage\n"], out, sink),
+        Fault::Unbuilt => put_pieces(&[b"fault unbuilt\n"], out, sink),
+        Fault::Defs(fault) => put_defs_fault(fault, out, sink),
+        Fault::Unopened { place } => put_placed(b"fault open ", b"defs", *place, out, sink),
+        Fault::Row {
+            source,
+            number,
+            why,
+        } => put_row_fault(*source, *number, *why, out, sink),
+        Fault::Read { place } => put_placed(b"fault read ", b"defs", *place, out, sink),
+        Fault::FullSource { source } => put_numbered(b"fault full source ", *source, out, sink),
+        Fault::FullShard { shard } => put_numbered(b"fault full shard ", *shard, out, sink),
+        Fault::NoMemory => put_pieces(&[b"fault memory\n"], out, sink),
+    }
+}
+
+fn put_defs_fault<K: Sink>(
+    fault: &DefsFault,
+    out: &mut Pending,
+    sink: &mut K,
+) -> Result<(), SinkFault>
+    ensures added { OnOk result (Sends (out.old ++ line_of (codes "fault" ∷ defs_words fault.now)) out.new (K.written sink.old) (K.written sink.new)) }
+    ensures quiet { OnOk result (K.faults sink.new ≡ K.faults sink.old) }
+    ensures refused { OnErr result (SendsFront (out.old ++ line_of (codes "fault" ∷ defs_words fault.now)) (K.written sink.old) (K.written sink.new)) }
+    ensures failed { OnErr result (Rose (K.faults sink.old) (K.faults sink.new)) }
+{
+    match fault {
+        DefsFault::Long => put_pieces(&[b"fault defs long\n"], out, sink),
+        DefsFault::Toml => put_pieces(&[b"fault defs toml\n"], out, sink),
+        DefsFault::Many => put_pieces(&[b"fault defs many\n"], out, sink),
+        DefsFault::Shape { window } => put_placed(b"fault defs shape ", b"top", *window, out, sink),
+        DefsFault::Limit { window } => put_placed(b"fault defs limit ", b"top", *window, out, sink),
+        DefsFault::NoMemory => put_pieces(&[b"fault memory\n"], out, sink),
+    }
+}
+
+fn put_row_fault<K: Sink>(
+    source: u16,
+    number: u64,
+    why: RowWhy,
+    out: &mut Pending,
+    sink: &mut K,
+) -> Result<(), SinkFault>
+    ensures added { OnOk result (Sends (out.old ++ fault_line (Fault.Row source number why)) out.new (K.written sink.old) (K.written sink.new)) }
+    ensures quiet { OnOk result (K.faults sink.new ≡ K.faults sink.old) }
+    ensures refused { OnErr result (SendsFront (out.old ++ fault_line (Fault.Row source number why)) (K.written sink.old) (K.written sink.new)) }
+    ensures failed { OnErr result (Rose (K.faults sink.old) (K.faults sink.new)) }
+{
+    let mut first = Buffer::new();
+    let mut second = Buffer::new();
+    let source = first.format(source).as_bytes();
+    let number = second.format(number).as_bytes();
+    let front: &[u8] = b"fault row ";
+    let why = why_word(why);
+    put_pieces(&[front, source, b" ", number, b" ", why, b"\n"], out, sink)
+}
+
+fn why_word(why: RowWhy) -> &'static [u8]
+    ensures { result.now ≡ why_text why }
+{
+    match why {
+        RowWhy::Kind => b"kind",
+        RowWhy::Fields => b"fields",
+        RowWhy::Time => b"time",
+        RowWhy::Value => b"value",
+        RowWhy::Key => b"key",
+    }
+}
+
+// Puts a line that ends with a place, or with a word where there is none.
+fn put_placed<N: Integer, K: Sink>(
+    front: &[u8],
+    word: &[u8],
+    place: Option<N>,
+    out: &mut Pending,
+    sink: &mut K,
+) -> Result<(), SinkFault>
+    ensures added { OnOk result (Sends (out.old ++ (front.now ++ (option_map_or N.text place word.now ++ 10 ∷ []))) out.new (K.written sink.old) (K.written sink.new)) }
+    ensures quiet { OnOk result (K.faults sink.new ≡ K.faults sink.old) }
+    ensures refused { OnErr result (SendsFront (out.old ++ (front.now ++ (option_map_or N.text place word.now ++ 10 ∷ []))) (K.written sink.old) (K.written sink.new)) }
+    ensures failed { OnErr result (Rose (K.faults sink.old) (K.faults sink.new)) }
+{
+    match place {
+        None => put_pieces(&[front, word, b"\n"], out, sink),
+        Some(number) => put_numbered(front, number, out, sink),
+    }
+}
+
+// Puts a line that ends with a number.
+fn put_numbered<N: Integer, K: Sink>(
+    front: &[u8],
+    number: N,
+    out: &mut Pending,
+    sink: &mut K,
+) -> Result<(), SinkFault>
+    ensures added { OnOk result (Sends (out.old ++ (front.now ++ (N.text number ++ 10 ∷ []))) out.new (K.written sink.old) (K.written sink.new)) }
+    ensures quiet { OnOk result (K.faults sink.new ≡ K.faults sink.old) }
+    ensures refused { OnErr result (SendsFront (out.old ++ (front.now ++ (N.text number ++ 10 ∷ []))) (K.written sink.old) (K.written sink.new)) }
+    ensures failed { OnErr result (Rose (K.faults sink.old) (K.faults sink.new)) }
+{
+    let mut digits = Buffer::new();
+    put_pieces(&[front, digits.format(number).as_bytes(), b"\n"], out, sink)
+}
