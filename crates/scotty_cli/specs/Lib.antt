@@ -1,3 +1,5 @@
 pub mod Words
 pub mod Feeding
 pub mod Statuses
+pub mod Causes
+pub mod Settling

@@ -1,5 +1,7 @@
 //! The definitions file is opened, read and refused or accepted.
-ghost use Rattle.std.specs.Prelude.{◌≡◌, ◌↔◌, IsTrue, IfOk, All};
+ghost use Rattle.std.specs.Prelude.{◌≡◌, ◌≤◌, ◌↔◌, ℕ, List, Ok, IsTrue, IfOk, IfErr, IsOkAnd, All};
+ghost use Rattle.window_defs.specs.Reading.{reading_of};
+ghost use Rattle.scotty_cli.specs.Causes.{AreDefsOf, StopsAtBytes, StopsAtDefs, StopsAtReading};
 ghost use Rattle.shard_core.specs.Shard.{IsServed, IsTumbling};
 
 use emission_text::Fault;
@@ -14,7 +16,12 @@ pub const DEFS_MAX: u64 = 1_048_576;
 /// The definitions in the file of this name, where they are accepted and served. The file is given
 /// back.
 pub fn read_definitions<F: Files>(alloc: Global, files: &mut F, name: &str) -> Result<Defs, Fault>
-    ensures served { IfOk result (λ defs. IsServed defs) }
+    ensures ok { IfOk result (AreDefsOf (F.told files.old name.now)) }
+    ensures stopped { IfErr result (StopsAtDefs (F.told files.old name.now) (record { opens = record { before = F.failed_opens files.old; after = F.failed_opens files.new }; reads = record { before = F.failed_reads files.old; after = F.failed_reads files.new } })) }
+    ensures opens { F.failed_opens files.old ≤ F.failed_opens files.new }
+    ensures reads { F.failed_reads files.old ≤ F.failed_reads files.new }
+    ensures out { F.out files.new ≡ F.out files.old }
+    ensures same { (which : List ℕ) → F.told files.new which ≡ F.told files.old which }
 {
     match files.open_file(name) {
         Err(_) => Err(Fault::Unopened { place: None }),
@@ -27,22 +34,32 @@ pub fn read_definitions<F: Files>(alloc: Global, files: &mut F, name: &str) -> R
 }
 
 fn accept(alloc: Global, bytes: Result<Vec<u8>, WholeFault>) -> Result<Defs, Fault>
+    ensures read { IfOk result (λ defs. IsOkAnd bytes (λ read. reading_of read.items ≡ Ok defs)) }
     ensures served { IfOk result (λ defs. IsServed defs) }
+    ensures stopped { IfErr result (StopsAtReading bytes) }
 {
     match bytes {
         Err(WholeFault::Read) => Err(Fault::Read { place: None }),
         Err(WholeFault::TooLong) => Err(Fault::Defs(DefsFault::Long)),
         Err(WholeFault::NoMemory) => Err(Fault::NoMemory),
-        Ok(bytes) => match read_defs(alloc, &bytes) {
-            Err(fault) => Err(Fault::Defs(fault)),
-            Ok(defs) => serve(defs),
-        },
+        Ok(bytes) => read_and_serve(alloc, &bytes),
+    }
+}
+
+fn read_and_serve(alloc: Global, bytes: &[u8]) -> Result<Defs, Fault>
+    ensures ok { IfOk result (λ defs. (reading_of bytes.now ≡ Ok defs) × IsServed defs) }
+    ensures stopped { IfErr result (StopsAtBytes bytes.now) }
+{
+    match read_defs(alloc, bytes) {
+        Err(fault) => Err(Fault::Defs(fault)),
+        Ok(defs) => serve(defs),
     }
 }
 
 // What is built serves tumbling windows with no lateness.
 fn serve(defs: Defs) -> Result<Defs, Fault>
-    ensures served { IfOk result (λ accepted. IsServed accepted) }
+    ensures served { IfOk result (λ accepted. (accepted ≡ defs) × IsServed accepted) }
+    ensures unbuilt { IfErr result (λ fault. (fault ≡ Fault.Unbuilt) × ¬ (IsServed defs)) }
 {
     if is_served(&defs) {
         Ok(defs)

@@ -1,6 +1,8 @@
 //! One source is opened, fed into a shard, and given back.
-ghost use Rattle.std.specs.Prelude.{◌≡◌, [], IfOk};
+ghost use Rattle.std.specs.Prelude.{◌≡◌, ◌≤◌, ℕ, List, [], Ok, IfOk, IfErr};
 ghost use Rattle.shard_core.specs.Shard.{IsServed};
+ghost use Rattle.scotty_cli.specs.Causes.{IsShardOf, StopsAtSource};
+ghost use Rattle.scotty_cli.specs.Settling.{StopsAtFeeding, fault_of};
 
 use crate::feeding::{Progress, feed_shard};
 use agg_laws::Steps;
@@ -24,6 +26,12 @@ pub fn run_source<F: Files, G: Gate, R: Threads>(
     gate: &G,
 ) -> Result<Shard, Fault>
     requires { IsServed defs }
+    ensures ok { IfOk result (IsShardOf defs (F.told files.old name.now)) }
+    ensures stopped { IfErr result (StopsAtSource defs (F.told files.old name.now) (record { opens = record { before = F.failed_opens files.old; after = F.failed_opens files.new }; reads = record { before = F.failed_reads files.old; after = F.failed_reads files.new } })) }
+    ensures opens { F.failed_opens files.old ≤ F.failed_opens files.new }
+    ensures reads { F.failed_reads files.old ≤ F.failed_reads files.new }
+    ensures out { F.out files.new ≡ F.out files.old }
+    ensures same { (which : List ℕ) → F.told files.new which ≡ F.told files.old which }
 {
     let mut steps: Steps<Run> = Steps::start(rt);
     let mut shard = match empty_shard(alloc, &defs) {
@@ -48,7 +56,10 @@ fn empty_shard(alloc: Global, defs: &Defs) -> Result<Shard, NoMemory>
     Shard::new(alloc, defs.copy(alloc)?, 1)
 }
 
-fn settle(progress: Result<Progress, FeedFault>, shard: Shard) -> Result<Shard, Fault> {
+fn settle(progress: Result<Progress, FeedFault>, shard: Shard) -> Result<Shard, Fault>
+    ensures ok { IfOk result (λ settled. (settled ≡ shard) × (progress ≡ Ok Progress.Applying)) }
+    ensures stopped { IfErr result (StopsAtFeeding progress) }
+{
     match progress {
         Ok(Progress::Applying) => Ok(shard),
         Ok(Progress::Marked) => Err(Fault::Unbuilt),
@@ -58,7 +69,9 @@ fn settle(progress: Result<Progress, FeedFault>, shard: Shard) -> Result<Shard, 
     }
 }
 
-fn fault_of(fault: FeedFault) -> Fault {
+fn fault_of(fault: FeedFault) -> Fault
+    ensures { result ≡ fault_of fault }
+{
     match fault {
         FeedFault::Read => Fault::Read { place: Some(0) },
         FeedFault::TooLong => Fault::FullSource { source: 0 },
