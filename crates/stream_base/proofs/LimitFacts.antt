@@ -1,8 +1,8 @@
 -- Definitions that pass no limit are within their limits.
-use Rattle.std.proofs.Common.{◌≡◌, ◌≤◌, ◌<◌, ◌+◌, ℕ, ltb, Bool, true, false, cond, not, List, [], ◌∷◌, length, Option, None, Some, get_or, arith, refl, sym, ap, subst}
+use Rattle.std.proofs.Common.{◌≡◌, ◌≤◌, ◌<◌, ℕ, ltb, Bool, true, false, cond, not, List, length, None, Some, get_or, arith, refl}
 use Rattle.std.proofs.lemmas.Bool.Decides.{nat_tests}
 use Rattle.std.proofs.lemmas.List.Sums.{prefix_len_passes}
-use Rattle.std.specs.List.{All, position, position_or_len, prefix_len}
+use Rattle.std.specs.List.{All, position, position_or_len}
 use Rattle.stream_base.specs.declared.def.Def.{Def}
 use Rattle.stream_base.specs.declared.kind.Kind.{Kind}
 use Rattle.stream_base.specs.declared.kind.Kind.TheVariants.{Tumbling, Sliding, Session, Marks, Events}

@@ -1,5 +1,5 @@
 -- The limits of window definitions.
-use Rattle.std.specs.Prelude.{◌≡◌, ◌≤◌, ◌*◌, ◌&&◌, ℕ, Bool, true, not, List, length, Option, None, Some, if◌then◌else◌, nat_le, All}
+use Rattle.std.specs.Prelude.{◌≤◌, ◌*◌, ◌&&◌, ℕ, Bool, true, not, List, length, Option, None, Some, if◌then◌else◌, nat_le, All}
 use Rattle.std.specs.List.{position}
 use Rattle.std.specs.Option.{option_map}
 use Rattle.stream_base.specs.declared.limits.TheConstants.{TIME_MAX, JOURNAL_MAX, EVERY_MAX, WINDOWS_MAX, LENGTH_RATIO_MAX}

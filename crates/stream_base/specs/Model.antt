@@ -1,4 +1,11 @@
 -- What a reader must believe: the definitions that the promises of the runtime speak of, on plain lists and whole numbers.
 pub mod Functions
+pub mod Journal
 pub mod Routes
+pub mod Windows
+pub mod Changes
+pub mod Text
+pub mod Journals
+pub mod Slices
+pub mod Final
 pub mod Cuts

@@ -1,6 +1,6 @@
 -- Where the slices of a key are cut.
-use Rattle.std.specs.Prelude.{◌≡◌, ◌≤◌, ◌<◌, ◌+◌, ◌-◌, ◌*◌, ◌/◌, ◌||◌, ◌&&◌, ◌⊎◌, ℕ, Bool, false, List, nat_lt, nat_le, if◌then◌else◌}
-use Rattle.std.specs.List.{list_any, Any}
+use Rattle.std.specs.Prelude.{◌≤◌, ◌<◌, ◌+◌, ◌-◌, ◌*◌, ◌/◌, ◌||◌, ◌&&◌, ◌⊎◌, ℕ, Bool, false, List, nat_lt, nat_le, if◌then◌else◌}
+use Rattle.std.specs.List.{list_any}
 use Rattle.stream_base.specs.declared.def.Def.{Def}
 use Rattle.stream_base.specs.declared.kind.Kind.{Kind}
 use Rattle.stream_base.specs.declared.kind.Kind.TheVariants.{Tumbling, Sliding, Session, Marks, Events}

@@ -1,5 +1,5 @@
 -- The first cells are the bytes, and what was behind them is zero still.
-use Rattle.std.proofs.Common.{ap, length, ◌++◌, ◌∙◌}
+use Rattle.std.proofs.Common.{ap, length, ◌++◌}
 use Rattle.std.proofs.lemmas.List.{drop-replicate}
 use Rattle.stream_base.proofs.key_text.padded.Goals as goal
 
