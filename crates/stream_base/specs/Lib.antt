@@ -5,3 +5,4 @@ pub mod Outside
 pub mod Memory
 pub mod MemFile
 pub mod Model
+pub mod Examples

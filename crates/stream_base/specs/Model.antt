@@ -8,4 +8,5 @@ pub mod Text
 pub mod Journals
 pub mod Slices
 pub mod Final
+pub mod Opened
 pub mod Cuts

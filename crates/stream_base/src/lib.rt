@@ -20,13 +20,12 @@ mod mem_file;
 mod mem_files;
 mod mem_sink;
 mod mem_source;
+pub mod model;
 mod no_memory;
 mod row;
 mod shown;
 mod sink;
 mod source;
-#[cfg(test)]
-mod tests;
 mod what;
 
 pub use change::Change;
