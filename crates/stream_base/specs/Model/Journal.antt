@@ -1,5 +1,5 @@
 -- Journals: watermarks, acceptance, and what is kept of a key.
-use Rattle.std.specs.Prelude.{◌+◌, ◌==◌, ◌&&◌, ℕ, Bool, true, false, max, min, List, [], ◌∷◌, ◌++◌, length, Option, None, Some, fold, insert, if◌then◌else◌, nat_lt}
+use Rattle.std.specs.Prelude.{◌+◌, ◌==◌, ◌&&◌, ℕ, Bool, true, false, max, min, List, [], ◌∷◌, ◌++◌, length, Option, None, Some, fold, insert, map, if◌then◌else◌, nat_lt}
 use Rattle.std.specs.List.{list_any, filter_map, position_or_len, range_with_len}
 use Rattle.std.specs.Ordering.{nat_cmp}
 use Rattle.std.specs.declared.cmp.Ordering.{Ordering}
@@ -38,9 +38,13 @@ latest_water source journal = fold (λ latest e. if e.source == source then max 
 unfoldable pub source_water : ℕ → List Entry → ℕ
 source_water source journal = if has_ended source journal then FINAL else latest_water source journal
 
+-- the watermarks of the sources, in their order
+abbrev pub waters_of : ℕ → List Entry → List ℕ
+waters_of sources journal = map (λ source. source_water source journal) (range_with_len 0 sources)
+
 -- the watermark of a journal: the least of its sources'
 unfoldable pub water_of : ℕ → List Entry → ℕ
-water_of sources journal = fold (λ least source. min least (source_water source journal)) FINAL (range_with_len 0 sources)
+water_of sources journal = fold min FINAL (waters_of sources journal)
 
 -- a tuple or mark is late where its time plus the lateness is below the watermark
 abbrev pub is_late : ℕ → ℕ → What → Bool
