@@ -1,3 +1,4 @@
 pub mod Letters
 pub mod Rules
+pub mod Senders
 pub mod States

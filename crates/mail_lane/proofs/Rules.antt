@@ -75,15 +75,14 @@ module _ {M : Type 0} where
       let h = delivers.0 in
       let mine : FitsSender h pass x.from sent = delivers.2 pass (Sending x.from sent) at in
       let longer = sent ++ x.message ∷ [] in
-      let known : h.sent x.from ++ x.message ∷ [] ≡ longer = ap (λ l. l ++ x.message ∷ []) (sym mine.known) in
-      (
+      let known : h.sent x.from ++ x.message ∷ [] ≡ longer = ap (λ l. l ++ x.message ∷ []) (sym mine.known) in (
         Sending x.from longer,
         (
           after_sending h x.from longer,
           (λ p. messages_of-pushed h.sent h.taken items x delivers.1 p ∙ ap (λ l. changed h.sent x.from l p) known),
           all_set (after_sending h x.from longer) views pass (Sending x.from longer)
-          record { seated = mine.seated; known = sym (changed-same h.sent x.from longer x.from refl) }
-          (λ j u other e. sending_fits h pass x.from longer mine.seated j u other (delivers.2 j u e)),
+              record { seated = mine.seated; known = sym (changed-same h.sent x.from longer x.from refl) }
+              (λ j u other e. sending_fits h pass x.from longer mine.seated j u other (delivers.2 j u e)),
         ),
         refl,
       )
@@ -123,8 +122,7 @@ module _ {M : Type 0} where
       let after = after_taking h longer in
       let fits : FitsReceiver after pass senders longer returned = record { reading = mine.reading; known = refl; unmade = mine.unmade; back = mine.back; within = mine.within } in
       let delivered : (p : ℕ) → messages_of p (longer ++ items) ≡ h.sent p = λ p.
-          ap (messages_of p) (append_assoc taken (x ∷ []) items ∙ ap (λ l. l ++ x ∷ items) mine.known) ∙ delivers.1 p in
-      (
+      ap (messages_of p) (append_assoc taken (x ∷ []) items ∙ ap (λ l. l ++ x ∷ items) mine.known) ∙ delivers.1 p in (
         Receiving senders longer returned,
         (
           after,
@@ -180,12 +178,11 @@ module _ {M : Type 0} where
         unmade = λ k above. (changed-other h.seat senders (Some seat) k (λ e. omega arith) ∙ (mine.unmade k (omega arith)).0, (mine.unmade k (omega arith)).1);
         back = λ k below. let w = mine.within in (changed-other h.seat senders (Some seat) k (λ e. omega arith) ∙ (mine.back k below).0, (mine.back k below).1);
         within = let w = mine.within in omega arith;
-      } in
-      (
+      } in (
         after,
         delivers.1,
         hired_fits h vs senders seat refl free.1
-        (all_set after views pass (Receiving (senders + 1) taken returned) fits (λ j u other e. hiring_fits h pass senders seat free.0 mine.reading j u other (delivers.2 j u e))),
+            (all_set after views pass (Receiving (senders + 1) taken returned) fits (λ j u other e. hiring_fits h pass senders seat free.0 mine.reading j u other (delivers.2 j u e))),
       )
 
   retiring_fits : (h : History M) (pass other number : ℕ) → h.seat number ≡ Some other → pass ≡ h.reader
@@ -207,14 +204,12 @@ module _ {M : Type 0} where
       → put ≡ h.sent (length returned) → (k : ℕ) → k < length (returned ++ put ∷ []) → Dec (length returned ≤ k)
       → (changed h.seat (length returned) None k ≡ None) × (sent_by k (returned ++ put ∷ []) ≡ h.sent k)
   back_at h pass senders taken returned put fits known k below (yes past) =
-      let is : k ≡ length returned = omega (arith, length-append returned (put ∷ [])) in
-      (
+      let is : k ≡ length returned = omega (arith, length-append returned (put ∷ [])) in (
         changed-same h.seat (length returned) None k is,
         ap (λ q. sent_by q (returned ++ put ∷ [])) is ∙ sent_by-last returned put ∙ known ∙ ap h.sent (sym is),
       )
   back_at h pass senders taken returned put fits known k below (no within) =
-      let front : k < length returned = lt_of_not-le within in
-      (
+      let front : k < length returned = lt_of_not-le within in (
         changed-kept h.seat (length returned) None k (fits.back k front).0,
         sent_by-front returned put k front ∙ (fits.back k front).1,
       )
@@ -228,9 +223,9 @@ module _ {M : Type 0} where
       let both : Role M = Receiving senders taken (returned ++ put ∷ []) in
       let mine : FitsReceiver h pass senders taken returned = delivers.2 pass (Receiving senders taken returned) at in
       let was : get_elem? views other ≡ some (Sending (length returned) put) =
-          ⊎_elim (λ (x : (other ≡ pass) × (both ≡ Sending (length returned) put)). absurd (apart x.0))
-          (λ (x : (other ≢ pass) × (get_elem? views other ≡ some (Sending (length returned) put))). x.1)
-          (at_set views pass other both (Sending (length returned) put) at_other) in
+      ⊎_elim (λ (x : (other ≡ pass) × (both ≡ Sending (length returned) put)). absurd (apart x.0))
+      (λ (x : (other ≢ pass) × (get_elem? views other ≡ some (Sending (length returned) put))). x.1)
+      (at_set views pass other both (Sending (length returned) put) at_other) in
       let theirs : FitsSender h other (length returned) put = delivers.2 other (Sending (length returned) put) was in
       let after = reseated h (length returned) None in
       let made = was_made h pass senders taken returned other mine theirs.seated (dec_le senders (length returned)) in
@@ -240,12 +235,11 @@ module _ {M : Type 0} where
         unmade = λ k above. (changed-kept h.seat (length returned) None k (mine.unmade k above).0, (mine.unmade k above).1);
         back = λ k below. back_at h pass senders taken returned put mine theirs.known k below (dec_le (length returned) k);
         within = omega (arith, length-append returned (put ∷ []));
-      } in
-      (
+      } in (
         after,
         delivers.1,
         all_set after (set views pass both) other Retired tt
-        (λ j u second e.
+            (λ j u second e.
             ⊎_elim
             (λ (x : (j ≡ pass) × (both ≡ u)). subst (λ (y : ℕ × Role M). Fits after y.0 y.1) (λ i. (sym x.0 i, x.1 i)) fits)
             (λ (x : (j ≢ pass) × (get_elem? views j ≡ some u)). retiring_fits h pass other (length returned) theirs.seated mine.reading j u x.0 second (delivers.2 j u x.1))

@@ -7,11 +7,6 @@ use Rattle.mail_lane.specs.Lane.{LaneId, SenderState, ReceiverState, SettledStat
 use Rattle.mail_lane.specs.Rule.{IsAccounted, IsTaken, IsSettled, senders_of, taken_of, returned_of, with_taken}
 use Rattle.mail_lane.proofs.Letters.{messages_of-append, messages_of-among}
 
--- the item that comes after those that came
-pub item_after : {A : Type 0} (came : List A) (x : A) (more : List A) → slice_get (came ++ x ∷ more) (length came) ≡ Some x
-item_after [] x more = refl
-item_after (y ∷ ys) x more = item_after ys x more
-
 module _ {M : Type 0} where
   after_taking : (senders : ℕ) (taken : List (Letter M)) (returned : List (List M)) (v w : Role M) (x : Letter M)
       → v ≡ Receiving senders taken returned → IsTaken v x w → w ≡ Receiving senders (taken ++ x ∷ []) returned
@@ -46,7 +41,7 @@ module _ {M : Type 0} where
       let p = x.from in
       let more = step.left.0 in
       let same : messages_of p state.taken ++ x.message ∷ messages_of p more ≡ messages_of p state.taken =
-          sym (messages_of-among state.taken more x) ∙ ap (messages_of p) (sym (append_assoc state.taken (x ∷ []) more)) ∙ accounted_after state v w x is step p ∙ sym (whole p) in
+      sym (messages_of-among state.taken more x) ∙ ap (messages_of p) (sym (append_assoc state.taken (x ∷ []) more)) ∙ accounted_after state v w x is step p ∙ sym (whole p) in
       let longer = ap length same in
       absurd (omega (arith, length-append (messages_of p state.taken) (x.message ∷ messages_of p more)))
 
@@ -79,20 +74,3 @@ module _ {M : Type 0} where
     whole = subst (λ (u : Role M). u ≡ Receiving (length (returned_of u)) (taken_of u) (returned_of u)) (sym is) (ap (λ n. Receiving n taken returned) (sym all));
     left = (left, accounted);
   }
-
--- an item of a list that is longer by one
-item_of-push : {A : Type 0} (xs : List A) (y : A) (k : ℕ) (z : A) → slice_get (xs ++ y ∷ []) k ≡ Some z → (slice_get xs k ≡ Some z) ⊎ ((k ≡ length xs) × (y ≡ z))
-item_of-push [] y zero z e = inr (refl, cc e)
-item_of-push [] y (suc k) z e = absurd (cc e)
-item_of-push (x ∷ xs) y zero z e = inl e
-item_of-push (x ∷ xs) y (suc k) z e = ⊎_elim (λ t. inl t) (λ t. inr (ap suc t.0, t.1)) (item_of-push xs y k z e)
-
--- with the sender of the next number, each sender's number is its place
-pub placed_push : {M : Type 0} (xs : List (SenderState M)) (y : SenderState M) (lane : LaneId)
-    → ((k : ℕ) (sender : SenderState M) → slice_get xs k ≡ Some sender → (sender.lane ≡ lane) × (sender.number ≡ k))
-    → y.lane ≡ lane → y.number ≡ length xs
-    → (k : ℕ) (sender : SenderState M) → slice_get (xs ++ y ∷ []) k ≡ Some sender → (sender.lane ≡ lane) × (sender.number ≡ k)
-placed_push {M} xs y lane placed is numbered k sender e =
-    ⊎_elim (λ (old : slice_get xs k ≡ Some sender). placed k sender old)
-    (λ (last : (k ≡ length xs) × (y ≡ sender)). (ap (λ (s : SenderState M). s.lane) (sym last.1) ∙ is, ap (λ (s : SenderState M). s.number) (sym last.1) ∙ numbered ∙ sym last.0))
-    (item_of-push xs y k sender e)

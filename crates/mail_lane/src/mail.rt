@@ -51,12 +51,7 @@ impl<M: Drop> Mail<M> {
     }
 
     /// Adds the message at the end of the lane, or gives it back where there is no memory for it.
-    pub fn send<R: Wait>(
-        &self,
-        rt: &R,
-        sender: &mut Sender<M>,
-        message: M,
-    ) -> Result<(), Back<M>>
+    pub fn send<R: Wait>(&self, rt: &R, sender: &mut Sender<M>, message: M) -> Result<(), Back<M>>
         requires sender { IsSenderOf self.now sender.old }
         requires few { length sender.old.sent < 2 ^ 32 }
         ensures sent { OnOk result (sender.new ≡ record sender.old { sent = sender.old.sent ++ message ∷ [] }) }
@@ -84,10 +79,7 @@ impl<M: Drop> Mail<M> {
         ensures some { IfSome result (λ message. (from : ℕ) × (from < self.now.senders) × (receiver.new ≡ record receiver.old { taken = receiver.old.taken ++ letter from message ∷ [] })) }
         ensures none { IfNone result (MayBeEmpty receiver.old × (receiver.new ≡ receiver.old)) }
     {
-        let letter = self
-            .line
-            .queue
-            .pop_as::<Takes, R>(rt, &mut receiver.pass)?;
+        let letter = self.line.queue.pop_as::<Takes, R>(rt, &mut receiver.pass)?;
         Some(letter.message)
     }
 
@@ -125,11 +117,7 @@ fn hire<M: Drop>(queue: &Queue<M>, pass: &mut Pass<M>, number: u16) -> Sender<M>
 }
 
 // The receiver's pass, to which all senders have come back.
-fn retire_all<M: Drop>(
-    queue: &Queue<M>,
-    receiver: Receiver<M>,
-    senders: Vec<Sender<M>>,
-) -> Pass<M>
+fn retire_all<M: Drop>(queue: &Queue<M>, receiver: Receiver<M>, senders: Vec<Sender<M>>) -> Pass<M>
     requires receiver { receiver.lane ≡ queue.now }
     requires senders { (k : ℕ) (sender : SenderState M) → slice_get senders.items k ≡ Some sender → (sender.lane ≡ queue.now) × (sender.number ≡ k) }
     ensures pass { IsSegPassOf queue.now result }

@@ -33,10 +33,7 @@ impl<M: Drop> Settled<M> {
         ensures sent { self.new.sent ≡ self.old.sent }
         ensures in_order { TakenInOrder self.new }
     {
-        let left = self
-            .line
-            .queue
-            .pop_as::<Settles, R>(rt, &mut self.pass)?;
+        let left = self.line.queue.pop_as::<Settles, R>(rt, &mut self.pass)?;
         Some(left.message)
     }
 }

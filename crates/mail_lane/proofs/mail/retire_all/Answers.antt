@@ -3,7 +3,7 @@ use Rattle.std.proofs.lemmas.List.{length-map}
 use Rattle.mail_lane.specs.declared.role.Role.TheVariants.{Sending}
 use Rattle.mail_lane.specs.Rule.{sent_of}
 use Rattle.mail_lane.proofs.Rules.{retires_as}
-use Rattle.mail_lane.proofs.States.{item_after}
+use Rattle.mail_lane.proofs.Senders.{item_after}
 use Rattle.mail_lane.proofs.mail.retire_all.Goals as goal
 
 -- the sender is the queue's, and its number is its place

@@ -2,7 +2,7 @@ use Rattle.std.proofs.Common.{◌≡◌, ◌+◌, [], ◌∷◌, All, length, sl
 use Rattle.std.proofs.lemmas.List.{length-append}
 use Rattle.std.proofs.lemmas.List.Elements.{All-push}
 use Rattle.mail_lane.proofs.Rules.{begins}
-use Rattle.mail_lane.proofs.States.{placed_push}
+use Rattle.mail_lane.proofs.Senders.{placed_push}
 use Rattle.mail_lane.proofs.mail.Mail.new.Goals as goal
 
 pub with_rule-requires : goal.with_rule-requires

@@ -16,8 +16,7 @@ returns-clause-some g c =
     let is = c.receiver.invariant.2 ∙ ap (λ r. Receiving r.senders r.taken []) c.receiver.view_is in
     let step = c.in_ok-letter.ensures.rule.0 in
     let queue = c.in_ok-letter.ensures.queue.0.0 in
-    let lane = (λ i. record { web = queue.0 i; heap = queue.1 i }) ∙ ap (λ m. m.id) c.self.view_is ∙ sym c.requires.0 in
-    (
+    let lane = (λ i. record { web = queue.0 i; heap = queue.1 i }) ∙ ap (λ m. m.id) c.self.view_is ∙ sym c.requires.0 in (
       x.from,
       subst (λ n. x.from < n) c.requires.1 (receiver_numbered before.senders before.taken [] _ _ x is step),
       receiver_after _ before _ _ x is step lane,

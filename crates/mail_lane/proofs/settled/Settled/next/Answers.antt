@@ -13,16 +13,14 @@ knows g c = c.self.invariant.1.whole ∙ ap (λ s. Receiving (length s.sent) s.t
 
 -- where a letter was left, not the whole was taken
 pub returns-clause-none : goal.returns-clause-none
-returns-clause-none g c =
-    (
-      (λ e. absurd (true≢false e)),
-      λ whole. absurd (not_whole c.args.self.now _ _ c.in_ok-left.left (knows g c) c.in_ok-left.ensures.rule.0 whole),
-    )
+returns-clause-none g c = (
+  (λ e. absurd (true≢false e)),
+  λ whole. absurd (not_whole c.args.self.now _ _ c.in_ok-left.left (knows g c) c.in_ok-left.ensures.rule.0 whole),
+)
 
 pub returns-clause-some : goal.returns-clause-some
 returns-clause-some g c =
-    let step = c.in_ok-left.ensures.rule.0 in
-    (
+    let step = c.in_ok-left.ensures.rule.0 in (
       c.in_ok-left.left.from,
       receiver_numbered _ _ _ _ _ c.in_ok-left.left (knows g c) step,
       taken_after c.args.self.now _ _ c.in_ok-left.left (knows g c) step,
