@@ -8,9 +8,9 @@ use Rattle.crossbeam_queue.specs.Fifo.{Pushes, Pops, Forks, Merges, Learns}
 use Rattle.crossbeam_queue.proofs.Lists.{at_set}
 use Rattle.mail_lane.specs.declared.letter.Letter.{Letter}
 use Rattle.mail_lane.specs.declared.role.Role.{Role}
-use Rattle.mail_lane.specs.declared.role.Role.TheVariants.{Sending, Receiving, Retired}
+use Rattle.mail_lane.specs.declared.role.Role.TheVariants.{Sending, Receiving, Spent}
 use Rattle.mail_lane.specs.Lane.{messages_of, sent_by}
-use Rattle.mail_lane.specs.Rule.{History, FitsSender, FitsReceiver, Fits, FitsAll, Delivers, MayHold, IsAccounted, IsTaken, unopened, with_returned, retired}
+use Rattle.mail_lane.specs.Rule.{History, FitsSender, FitsReceiver, Fits, FitsAll, Delivers, MayHold, IsAccounted, IsTaken, unopened, with_collected, spent_role}
 use Rattle.mail_lane.proofs.Letters.{changed, changed-same, changed-other, changed-kept, messages_of-pushed, messages_of-among, never_empty, sent_by-front, sent_by-last, sent_by-past}
 
 module _ {M : Type 0} where
@@ -59,14 +59,14 @@ module _ {M : Type 0} where
     seated = fits.seated;
     known = fits.known ∙ sym (changed-other h.sent number sent k (λ e. other (cc (ap h.seat e, fits.seated, seated))));
   }
-  sending_fits h pass number sent seated j (Receiving senders taken returned) other fits = record {
+  sending_fits h pass number sent seated j (Receiving senders taken collected) other fits = record {
     reading = fits.reading;
     known = fits.known;
     unmade = λ k above. ((fits.unmade k above).0, changed-other h.sent number sent k (λ e. cc (ap h.seat e, (fits.unmade k above).0, seated)) ∙ (fits.unmade k above).1);
     back = λ k below. ((fits.back k below).0, (fits.back k below).1 ∙ sym (changed-other h.sent number sent k (λ e. cc (ap h.seat e, (fits.back k below).0, seated))));
     within = fits.within;
   }
-  sending_fits h pass number sent seated j Retired other fits = tt
+  sending_fits h pass number sent seated j Spent other fits = tt
 
   -- a sender's letter joins the queue
   pub sends : (n pass : ℕ) (sent : List M) (x : Letter M) → Pushes Delivers n pass (Sending x.from sent) x (λ w. w ≡ Sending x.from (sent ++ x.message ∷ []))
@@ -87,14 +87,14 @@ module _ {M : Type 0} where
         refl,
       )
 
-  accounts_at : (h : History M) (pass senders : ℕ) (taken : List (Letter M)) (returned : List (List M)) → FitsReceiver h pass senders taken returned
-      → length returned ≡ senders → (p : ℕ) → Dec (length returned ≤ p) → h.sent p ≡ sent_by p returned
-  accounts_at h pass senders taken returned fits all p (yes past) = (fits.unmade p (omega arith)).1 ∙ sym (sent_by-past returned p past)
-  accounts_at h pass senders taken returned fits all p (no within) = sym (fits.back p (lt_of_not-le within)).1
+  accounts_at : (h : History M) (pass senders : ℕ) (taken : List (Letter M)) (collected : List (List M)) → FitsReceiver h pass senders taken collected
+      → length collected ≡ senders → (p : ℕ) → Dec (length collected ≤ p) → h.sent p ≡ sent_by p collected
+  accounts_at h pass senders taken collected fits all p (yes past) = (fits.unmade p (omega arith)).1 ∙ sym (sent_by-past collected p past)
+  accounts_at h pass senders taken collected fits all p (no within) = sym (fits.back p (lt_of_not-le within)).1
 
-  accounts : (h : History M) (pass senders : ℕ) (taken : List (Letter M)) (returned : List (List M)) → FitsReceiver h pass senders taken returned
-      → (items : List (Letter M)) → ((p : ℕ) → messages_of p (taken ++ items) ≡ h.sent p) → IsAccounted (Receiving senders taken returned) items
-  accounts h pass senders taken returned fits items delivered all p = delivered p ∙ accounts_at h pass senders taken returned fits all p (dec_le (length returned) p)
+  accounts : (h : History M) (pass senders : ℕ) (taken : List (Letter M)) (collected : List (List M)) → FitsReceiver h pass senders taken collected
+      → (items : List (Letter M)) → ((p : ℕ) → messages_of p (taken ++ items) ≡ h.sent p) → IsAccounted (Receiving senders taken collected) items
+  accounts h pass senders taken collected fits items delivered all p = delivered p ∙ accounts_at h pass senders taken collected fits all p (dec_le (length collected) p)
 
   after_taking : History M → List (Letter M) → History M
   after_taking h taken = record { reader = h.reader; seat = h.seat; sent = h.sent; taken = taken }
@@ -103,56 +103,56 @@ module _ {M : Type 0} where
       → (j : ℕ) (u : Role M) → j ≢ pass → Fits h j u → Fits (after_taking h taken) j u
   unfolding after_taking
   taking_fits h pass taken reading j (Sending k theirs) other fits = record { seated = fits.seated; known = fits.known }
-  taking_fits h pass taken reading j (Receiving senders theirs returned) other fits = absurd (other (fits.reading ∙ sym reading))
-  taking_fits h pass taken reading j Retired other fits = tt
+  taking_fits h pass taken reading j (Receiving senders theirs collected) other fits = absurd (other (fits.reading ∙ sym reading))
+  taking_fits h pass taken reading j Spent other fits = tt
 
-  made_by : (h : History M) (pass senders : ℕ) (taken : List (Letter M)) (returned : List (List M)) → FitsReceiver h pass senders taken returned
+  made_by : (h : History M) (pass senders : ℕ) (taken : List (Letter M)) (collected : List (List M)) → FitsReceiver h pass senders taken collected
       → (x : Letter M) (before items : List (Letter M)) → messages_of x.from (before ++ x ∷ items) ≡ h.sent x.from → Dec (senders ≤ x.from) → x.from < senders
-  made_by h pass senders taken returned fits x before items delivered (yes past) =
+  made_by h pass senders taken collected fits x before items delivered (yes past) =
       absurd (never_empty (messages_of x.from before) (messages_of x.from items) x.message (sym (messages_of-among before items x) ∙ delivered ∙ (fits.unmade x.from past).1))
-  made_by h pass senders taken returned fits x before items delivered (no within) = lt_of_not-le within
+  made_by h pass senders taken collected fits x before items delivered (no within) = lt_of_not-le within
 
   -- the receiver takes the oldest letter
-  pub takes : (pass senders : ℕ) (taken : List (Letter M)) (returned : List (List M)) → Pops Delivers pass (Receiving senders taken returned) (IsTaken (Receiving senders taken returned))
+  pub takes : (pass senders : ℕ) (taken : List (Letter M)) (collected : List (List M)) → Pops Delivers pass (Receiving senders taken collected) (IsTaken (Receiving senders taken collected))
   unfolding after_taking
-  takes pass senders taken returned x items views delivers at =
+  takes pass senders taken collected x items views delivers at =
       let h = delivers.0 in
-      let mine : FitsReceiver h pass senders taken returned = delivers.2 pass (Receiving senders taken returned) at in
+      let mine : FitsReceiver h pass senders taken collected = delivers.2 pass (Receiving senders taken collected) at in
       let longer = taken ++ x ∷ [] in
       let after = after_taking h longer in
-      let fits : FitsReceiver after pass senders longer returned = record { reading = mine.reading; known = refl; unmade = mine.unmade; back = mine.back; within = mine.within } in
+      let fits : FitsReceiver after pass senders longer collected = record { reading = mine.reading; known = refl; unmade = mine.unmade; back = mine.back; within = mine.within } in
       let delivered : (p : ℕ) → messages_of p (longer ++ items) ≡ h.sent p = λ p.
       ap (messages_of p) (append_assoc taken (x ∷ []) items ∙ ap (λ l. l ++ x ∷ items) mine.known) ∙ delivers.1 p in (
-        Receiving senders longer returned,
+        Receiving senders longer collected,
         (
           after,
           delivered,
-          all_set after views pass (Receiving senders longer returned) fits (λ j u other e. taking_fits h pass longer mine.reading j u other (delivers.2 j u e)),
+          all_set after views pass (Receiving senders longer collected) fits (λ j u other e. taking_fits h pass longer mine.reading j u other (delivers.2 j u e)),
         ),
         record {
           longer = refl;
-          numbered = made_by h pass senders taken returned mine x h.taken items (delivers.1 x.from) (dec_le senders x.from);
-          left = (items, accounts after pass senders longer returned fits items delivered);
+          numbered = made_by h pass senders taken collected mine x h.taken items (delivers.1 x.from) (dec_le senders x.from);
+          left = (items, accounts after pass senders longer collected fits items delivered);
         },
       )
 
   reseated : History M → ℕ → Option ℕ → History M
   reseated h number seat = record { reader = h.reader; seat = changed h.seat number seat; sent = h.sent; taken = h.taken }
 
-  hiring_fits : (h : History M) (pass number seat : ℕ) → h.seat number ≡ None → pass ≡ h.reader
+  opening_fits : (h : History M) (pass number seat : ℕ) → h.seat number ≡ None → pass ≡ h.reader
       → (j : ℕ) (u : Role M) → j ≢ pass → Fits h j u → Fits (reseated h number (Some seat)) j u
   unfolding reseated
-  hiring_fits h pass number seat free reading j (Sending k theirs) other fits = record {
+  opening_fits h pass number seat free reading j (Sending k theirs) other fits = record {
     seated = changed-other h.seat number (Some seat) k (λ e. cc (ap h.seat e, fits.seated, free)) ∙ fits.seated;
     known = fits.known;
   }
-  hiring_fits h pass number seat free reading j (Receiving senders theirs returned) other fits = absurd (other (fits.reading ∙ sym reading))
-  hiring_fits h pass number seat free reading j Retired other fits = tt
+  opening_fits h pass number seat free reading j (Receiving senders theirs collected) other fits = absurd (other (fits.reading ∙ sym reading))
+  opening_fits h pass number seat free reading j Spent other fits = tt
 
-  hired_fits : (h : History M) (views : List (Role M)) (number : ℕ) (seat : ℕ) → length views ≡ seat → h.sent number ≡ [] → FitsAll (reseated h number (Some seat)) views
+  opened_fits : (h : History M) (views : List (Role M)) (number : ℕ) (seat : ℕ) → length views ≡ seat → h.sent number ≡ [] → FitsAll (reseated h number (Some seat)) views
       → FitsAll (reseated h number (Some seat)) (views ++ Sending number [] ∷ [])
   unfolding reseated
-  hired_fits h views number seat last none fits j u e =
+  opened_fits h views number seat last none fits j u e =
       ⊎_elim
       (λ (x : get_elem? views j ≡ some u). fits j u x)
       (λ (x : (j ≡ length views) × (Sending number [] ≡ u)). subst (Fits (reseated h number (Some seat)) j) x.1 record {
@@ -162,17 +162,17 @@ module _ {M : Type 0} where
       (at_end views (Sending number []) u j e)
 
   -- the receiver makes the sender of the next number
-  pub hires : (pass senders : ℕ) (taken : List (Letter M)) (returned : List (List M))
-      → Forks Delivers pass (Receiving senders taken returned) (Receiving (senders + 1) taken returned) (Sending senders [])
+  pub opens : (pass senders : ℕ) (taken : List (Letter M)) (collected : List (List M))
+      → Forks Delivers pass (Receiving senders taken collected) (Receiving (senders + 1) taken collected) (Sending senders [])
   unfolding reseated
-  hires pass senders taken returned items views delivers at =
+  opens pass senders taken collected items views delivers at =
       let h = delivers.0 in
-      let mine : FitsReceiver h pass senders taken returned = delivers.2 pass (Receiving senders taken returned) at in
+      let mine : FitsReceiver h pass senders taken collected = delivers.2 pass (Receiving senders taken collected) at in
       let free = mine.unmade senders (omega arith) in
-      let vs = set views pass (Receiving (senders + 1) taken returned) in
+      let vs = set views pass (Receiving (senders + 1) taken collected) in
       let seat = length vs in
       let after = reseated h senders (Some seat) in
-      let fits : FitsReceiver after pass (senders + 1) taken returned = record {
+      let fits : FitsReceiver after pass (senders + 1) taken collected = record {
         reading = mine.reading;
         known = mine.known;
         unmade = λ k above. (changed-other h.seat senders (Some seat) k (λ e. omega arith) ∙ (mine.unmade k (omega arith)).0, (mine.unmade k (omega arith)).1);
@@ -181,68 +181,68 @@ module _ {M : Type 0} where
       } in (
         after,
         delivers.1,
-        hired_fits h vs senders seat refl free.1
-            (all_set after views pass (Receiving (senders + 1) taken returned) fits (λ j u other e. hiring_fits h pass senders seat free.0 mine.reading j u other (delivers.2 j u e))),
+        opened_fits h vs senders seat refl free.1
+            (all_set after views pass (Receiving (senders + 1) taken collected) fits (λ j u other e. opening_fits h pass senders seat free.0 mine.reading j u other (delivers.2 j u e))),
       )
 
-  retiring_fits : (h : History M) (pass other number : ℕ) → h.seat number ≡ Some other → pass ≡ h.reader
+  collecting_fits : (h : History M) (pass other number : ℕ) → h.seat number ≡ Some other → pass ≡ h.reader
       → (j : ℕ) (u : Role M) → j ≢ pass → j ≢ other → Fits h j u → Fits (reseated h number None) j u
   unfolding reseated
-  retiring_fits h pass other number seated reading j (Sending k theirs) first second fits = record {
+  collecting_fits h pass other number seated reading j (Sending k theirs) first second fits = record {
     seated = changed-other h.seat number None k (λ e. second (cc (ap h.seat e, fits.seated, seated))) ∙ fits.seated;
     known = fits.known;
   }
-  retiring_fits h pass other number seated reading j (Receiving senders theirs returned) first second fits = absurd (first (fits.reading ∙ sym reading))
-  retiring_fits h pass other number seated reading j Retired first second fits = tt
+  collecting_fits h pass other number seated reading j (Receiving senders theirs collected) first second fits = absurd (first (fits.reading ∙ sym reading))
+  collecting_fits h pass other number seated reading j Spent first second fits = tt
 
-  was_made : (h : History M) (pass senders : ℕ) (taken : List (Letter M)) (returned : List (List M)) (other : ℕ) → FitsReceiver h pass senders taken returned
-      → h.seat (length returned) ≡ Some other → Dec (senders ≤ length returned) → length returned < senders
-  was_made h pass senders taken returned other fits seated (yes past) = cc (seated, (fits.unmade (length returned) past).0)
-  was_made h pass senders taken returned other fits seated (no within) = lt_of_not-le within
+  was_made : (h : History M) (pass senders : ℕ) (taken : List (Letter M)) (collected : List (List M)) (other : ℕ) → FitsReceiver h pass senders taken collected
+      → h.seat (length collected) ≡ Some other → Dec (senders ≤ length collected) → length collected < senders
+  was_made h pass senders taken collected other fits seated (yes past) = cc (seated, (fits.unmade (length collected) past).0)
+  was_made h pass senders taken collected other fits seated (no within) = lt_of_not-le within
 
-  back_at : (h : History M) (pass senders : ℕ) (taken : List (Letter M)) (returned : List (List M)) (put : List M) → FitsReceiver h pass senders taken returned
-      → put ≡ h.sent (length returned) → (k : ℕ) → k < length (returned ++ put ∷ []) → Dec (length returned ≤ k)
-      → (changed h.seat (length returned) None k ≡ None) × (sent_by k (returned ++ put ∷ []) ≡ h.sent k)
-  back_at h pass senders taken returned put fits known k below (yes past) =
-      let is : k ≡ length returned = omega (arith, length-append returned (put ∷ [])) in (
-        changed-same h.seat (length returned) None k is,
-        ap (λ q. sent_by q (returned ++ put ∷ [])) is ∙ sent_by-last returned put ∙ known ∙ ap h.sent (sym is),
+  back_at : (h : History M) (pass senders : ℕ) (taken : List (Letter M)) (collected : List (List M)) (put : List M) → FitsReceiver h pass senders taken collected
+      → put ≡ h.sent (length collected) → (k : ℕ) → k < length (collected ++ put ∷ []) → Dec (length collected ≤ k)
+      → (changed h.seat (length collected) None k ≡ None) × (sent_by k (collected ++ put ∷ []) ≡ h.sent k)
+  back_at h pass senders taken collected put fits known k below (yes past) =
+      let is : k ≡ length collected = omega (arith, length-append collected (put ∷ [])) in (
+        changed-same h.seat (length collected) None k is,
+        ap (λ q. sent_by q (collected ++ put ∷ [])) is ∙ sent_by-last collected put ∙ known ∙ ap h.sent (sym is),
       )
-  back_at h pass senders taken returned put fits known k below (no within) =
-      let front : k < length returned = lt_of_not-le within in (
-        changed-kept h.seat (length returned) None k (fits.back k front).0,
-        sent_by-front returned put k front ∙ (fits.back k front).1,
+  back_at h pass senders taken collected put fits known k below (no within) =
+      let front : k < length collected = lt_of_not-le within in (
+        changed-kept h.seat (length collected) None k (fits.back k front).0,
+        sent_by-front collected put k front ∙ (fits.back k front).1,
       )
 
-  -- the next sender comes back to the receiver
-  pub retires : (pass senders : ℕ) (taken : List (Letter M)) (returned : List (List M)) (other : ℕ) (put : List M)
-      → Merges Delivers pass (Receiving senders taken returned) other (Sending (length returned) put) (Receiving senders taken (returned ++ put ∷ [])) Retired
+  -- the receiver takes in the pass of the next sender
+  pub collects : (pass senders : ℕ) (taken : List (Letter M)) (collected : List (List M)) (other : ℕ) (put : List M)
+      → Merges Delivers pass (Receiving senders taken collected) other (Sending (length collected) put) (Receiving senders taken (collected ++ put ∷ [])) Spent
   unfolding reseated
-  retires pass senders taken returned other put items views delivers at apart at_other =
+  collects pass senders taken collected other put items views delivers at apart at_other =
       let h = delivers.0 in
-      let both : Role M = Receiving senders taken (returned ++ put ∷ []) in
-      let mine : FitsReceiver h pass senders taken returned = delivers.2 pass (Receiving senders taken returned) at in
-      let was : get_elem? views other ≡ some (Sending (length returned) put) =
-      ⊎_elim (λ (x : (other ≡ pass) × (both ≡ Sending (length returned) put)). absurd (apart x.0))
-      (λ (x : (other ≢ pass) × (get_elem? views other ≡ some (Sending (length returned) put))). x.1)
-      (at_set views pass other both (Sending (length returned) put) at_other) in
-      let theirs : FitsSender h other (length returned) put = delivers.2 other (Sending (length returned) put) was in
-      let after = reseated h (length returned) None in
-      let made = was_made h pass senders taken returned other mine theirs.seated (dec_le senders (length returned)) in
-      let fits : FitsReceiver after pass senders taken (returned ++ put ∷ []) = record {
+      let both : Role M = Receiving senders taken (collected ++ put ∷ []) in
+      let mine : FitsReceiver h pass senders taken collected = delivers.2 pass (Receiving senders taken collected) at in
+      let was : get_elem? views other ≡ some (Sending (length collected) put) =
+      ⊎_elim (λ (x : (other ≡ pass) × (both ≡ Sending (length collected) put)). absurd (apart x.0))
+      (λ (x : (other ≢ pass) × (get_elem? views other ≡ some (Sending (length collected) put))). x.1)
+      (at_set views pass other both (Sending (length collected) put) at_other) in
+      let theirs : FitsSender h other (length collected) put = delivers.2 other (Sending (length collected) put) was in
+      let after = reseated h (length collected) None in
+      let made = was_made h pass senders taken collected other mine theirs.seated (dec_le senders (length collected)) in
+      let fits : FitsReceiver after pass senders taken (collected ++ put ∷ []) = record {
         reading = mine.reading;
         known = mine.known;
-        unmade = λ k above. (changed-kept h.seat (length returned) None k (mine.unmade k above).0, (mine.unmade k above).1);
-        back = λ k below. back_at h pass senders taken returned put mine theirs.known k below (dec_le (length returned) k);
-        within = omega (arith, length-append returned (put ∷ []));
+        unmade = λ k above. (changed-kept h.seat (length collected) None k (mine.unmade k above).0, (mine.unmade k above).1);
+        back = λ k below. back_at h pass senders taken collected put mine theirs.known k below (dec_le (length collected) k);
+        within = omega (arith, length-append collected (put ∷ []));
       } in (
         after,
         delivers.1,
-        all_set after (set views pass both) other Retired tt
+        all_set after (set views pass both) other Spent tt
             (λ j u second e.
             ⊎_elim
             (λ (x : (j ≡ pass) × (both ≡ u)). subst (λ (y : ℕ × Role M). Fits after y.0 y.1) (λ i. (sym x.0 i, x.1 i)) fits)
-            (λ (x : (j ≢ pass) × (get_elem? views j ≡ some u)). retiring_fits h pass other (length returned) theirs.seated mine.reading j u x.0 second (delivers.2 j u x.1))
+            (λ (x : (j ≢ pass) × (get_elem? views j ≡ some u)). collecting_fits h pass other (length collected) theirs.seated mine.reading j u x.0 second (delivers.2 j u x.1))
             (at_set views pass j both u e)),
       )
 
@@ -251,15 +251,15 @@ module _ {M : Type 0} where
   learns_empty pass v items views delivers at = (views, pass, delivers, at)
 
   -- once all senders are back, the receiver knows what is left
-  pub learns_left : (pass senders : ℕ) (taken : List (Letter M)) (returned : List (List M)) → Learns Delivers pass (Receiving senders taken returned) (IsAccounted (Receiving senders taken returned))
-  learns_left pass senders taken returned items views delivers at =
+  pub learns_left : (pass senders : ℕ) (taken : List (Letter M)) (collected : List (List M)) → Learns Delivers pass (Receiving senders taken collected) (IsAccounted (Receiving senders taken collected))
+  learns_left pass senders taken collected items views delivers at =
       let h = delivers.0 in
-      let mine : FitsReceiver h pass senders taken returned = delivers.2 pass (Receiving senders taken returned) at in
-      accounts h pass senders taken returned mine items (λ p. ap (λ l. messages_of p (l ++ items)) mine.known ∙ delivers.1 p)
+      let mine : FitsReceiver h pass senders taken collected = delivers.2 pass (Receiving senders taken collected) at in
+      accounts h pass senders taken collected mine items (λ p. ap (λ l. messages_of p (l ++ items)) mine.known ∙ delivers.1 p)
 
   -- the same, where what both passes know is told by equations
-  pub retires_as : (pass senders : ℕ) (taken : List (Letter M)) (returned : List (List M)) (other : ℕ) (put : List M) (v w : Role M)
-      → v ≡ Receiving senders taken returned → w ≡ Sending (length returned) put → Merges Delivers pass v other w (with_returned v w) retired
-  retires_as pass senders taken returned other put v w is_receiving is_sending =
-      subst (λ (u : Role M). Merges Delivers pass u other w (with_returned u w) Retired) (sym is_receiving)
-      (subst (λ (u : Role M). Merges Delivers pass (Receiving senders taken returned) other u (with_returned (Receiving senders taken returned) u) Retired) (sym is_sending) (retires pass senders taken returned other put))
+  pub collects_as : (pass senders : ℕ) (taken : List (Letter M)) (collected : List (List M)) (other : ℕ) (put : List M) (v w : Role M)
+      → v ≡ Receiving senders taken collected → w ≡ Sending (length collected) put → Merges Delivers pass v other w (with_collected v w) spent_role
+  collects_as pass senders taken collected other put v w is_receiving is_sending =
+      subst (λ (u : Role M). Merges Delivers pass u other w (with_collected u w) Spent) (sym is_receiving)
+      (subst (λ (u : Role M). Merges Delivers pass (Receiving senders taken collected) other u (with_collected (Receiving senders taken collected) u) Spent) (sym is_sending) (collects pass senders taken collected other put))

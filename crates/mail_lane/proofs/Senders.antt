@@ -1,6 +1,6 @@
 -- The senders of a lane in a row.
-use Rattle.std.proofs.Common.{◌≡◌, ◌≢◌, ◌<◌, ◌≤◌, ◌⊎◌, ℕ, zero, suc, List, [], ◌∷◌, ◌++◌, length, set, get_or, slice_get, Some, None, sym, refl, ap, inl, inr, ⊎_elim, ◌∙◌, length-set, lt_of_not-le, arith}
-use Rattle.mail_lane.specs.Lane.{LaneId, SenderState}
+use Rattle.std.proofs.Common.{◌≡◌, ◌⊎◌, ℕ, zero, suc, List, [], ◌∷◌, ◌++◌, length, slice_get, Some, sym, refl, ap, inl, inr, ⊎_elim, ◌∙◌}
+use Rattle.mail_lane.specs.Lane.{LaneId, SenderState, AreNumbered}
 
 -- the item that comes after those that came
 pub item_after : {A : Type 0} (came : List A) (x : A) (more : List A) → slice_get (came ++ x ∷ more) (length came) ≡ Some x
@@ -16,9 +16,7 @@ item_of-push (x ∷ xs) y (suc k) z e = ⊎_elim (λ t. inl t) (λ t. inr (ap su
 
 -- with the sender of the next number, each sender's number is its place
 pub placed_push : {M : Type 0} (xs : List (SenderState M)) (y : SenderState M) (lane : LaneId)
-    → ((k : ℕ) (sender : SenderState M) → slice_get xs k ≡ Some sender → (sender.lane ≡ lane) × (sender.number ≡ k))
-    → y.lane ≡ lane → y.number ≡ length xs
-    → (k : ℕ) (sender : SenderState M) → slice_get (xs ++ y ∷ []) k ≡ Some sender → (sender.lane ≡ lane) × (sender.number ≡ k)
+    → AreNumbered lane xs → y.lane ≡ lane → y.number ≡ length xs → AreNumbered lane (xs ++ y ∷ [])
 placed_push {M} xs y lane placed is numbered k sender e =
     ⊎_elim (λ (old : slice_get xs k ≡ Some sender). placed k sender old)
     (λ (last : (k ≡ length xs) × (y ≡ sender)). (ap (λ (s : SenderState M). s.lane) (sym last.1) ∙ is, ap (λ (s : SenderState M). s.number) (sym last.1) ∙ numbered ∙ sym last.0))

@@ -1,5 +1,5 @@
 -- What a lane, its senders, its receiver and a settled lane are in contracts.
-use Rattle.std.specs.Prelude.{◌≡◌, ◌==◌, ℕ, List, [], ◌++◌, length, map, filter, slice_get, slice_index_or, Some}
+use Rattle.std.specs.Prelude.{◌≡◌, ◌==◌, ◌<◌, ℕ, List, [], ◌∷◌, ◌++◌, length, map, filter, slice_get, slice_index_or, Some}
 use Rattle.std.specs.declared.alloc.Global.{Global}
 use Rattle.crossbeam_queue.specs.SegTies.{SegId}
 use Rattle.mail_lane.specs.declared.letter.Letter.{Letter}
@@ -46,15 +46,31 @@ module _ {M : Type 0} where
   abbrev pub BeginsWith : List M → List M → Type 0
   BeginsWith whole front = (rest : List M) × (whole ≡ front ++ rest)
 
+  -- a sender that has sent one message more
+  abbrev pub with_message : SenderState M → M → SenderState M
+  with_message sender message = record { lane = sender.lane; number = sender.number; sent = sender.sent ++ message ∷ [] }
+
+  -- a receiver has taken one message more, of one of its lane's senders
+  abbrev pub ReceivesOne : ReceiverState M → M → ReceiverState M → Type 0
+  ReceivesOne old message new = (from : ℕ) × (from < old.senders)
+      × (new ≡ record { lane = old.lane; senders = old.senders; taken = old.taken ++ letter from message ∷ [] })
+
+  -- a settled lane has given one message more, of one of its senders
+  abbrev pub GivesOne : SettledState M → M → SettledState M → Type 0
+  GivesOne old message new = (from : ℕ) × (from < length old.sent)
+      × (new ≡ record { taken = old.taken ++ letter from message ∷ []; sent = old.sent })
+
   -- the sender is this lane's
   abbrev pub IsSenderOf : Lane → SenderState M → Type 0
   IsSenderOf lane sender = sender.lane ≡ lane.id
 
+  -- these are senders of this lane, and the number of each is its place
+  abbrev pub AreNumbered : LaneId → List (SenderState M) → Type 0
+  AreNumbered lane senders = (k : ℕ) (sender : SenderState M) → slice_get senders k ≡ Some sender → (sender.lane ≡ lane) × (sender.number ≡ k)
+
   -- these are the lane's senders 0, 1 and so on up to the last, in this order
   abbrev pub AreSendersOf : Lane → List (SenderState M) → Type 0
-  AreSendersOf lane senders =
-      (length senders ≡ lane.senders)
-      × ((k : ℕ) (sender : SenderState M) → slice_get senders k ≡ Some sender → (sender.lane ≡ lane.id) × (sender.number ≡ k))
+  AreSendersOf lane senders = (length senders ≡ lane.senders) × AreNumbered lane.id senders
 
   -- the receiver is this lane's
   abbrev pub IsReceiverOf : Lane → ReceiverState M → Type 0

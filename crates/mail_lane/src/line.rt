@@ -33,25 +33,25 @@ impl<M: Drop> Drop for Line<M> {
 }
 
 // The receiver makes the next sender.
-pub struct Hires;
+pub struct Opens;
 
-impl<M> Split<Role<M>> for Hires {
-    ghost use Rattle.mail_lane.specs.Rule.{with_hired, hired};
+impl<M> Split<Role<M>> for Opens {
+    ghost use Rattle.mail_lane.specs.Rule.{with_opened, opened};
 
-    ghost left = { with_hired };
+    ghost left = { with_opened };
 
-    ghost right = { hired };
+    ghost right = { opened };
 }
 
 // The receiver takes a sender back.
-pub struct Retires;
+pub struct Collects;
 
-impl<M> Join<Role<M>> for Retires {
-    ghost use Rattle.mail_lane.specs.Rule.{with_returned, retired};
+impl<M> Join<Role<M>> for Collects {
+    ghost use Rattle.mail_lane.specs.Rule.{with_collected, spent_role};
 
-    ghost both = { with_returned };
+    ghost both = { with_collected };
 
-    ghost spent = { retired };
+    ghost spent = { spent_role };
 }
 
 pub struct Sends;
@@ -77,7 +77,7 @@ impl<M> Lesson<Letter<M>, Role<M>> for Takes {
     ghost fact = { MayHold };
 }
 
-// The receiver takes, once all senders have come back.
+// The receiver takes, once all senders' passes are back.
 pub struct Settles;
 
 impl<M> Outcome<Letter<M>, Role<M>> for Settles {

@@ -1,12 +1,12 @@
-ghost use Rattle.std.specs.Prelude.{◌≡◌, ◌<◌, ◌+◌, ◌^◌, ◌∷◌, [], ◌++◌, ℕ, slice_get, All, length, map, OnOk, IfOk, IfErr, IfNone, IfSome};
+ghost use Rattle.std.specs.Prelude.{◌≡◌, ◌<◌, ◌+◌, ◌^◌, ◌∷◌, [], ◌++◌, ℕ, slice_get, All, length, map, OnOk, OnErr, IfOk, IfErr, IfNone, IfSome};
 ghost use Rattle.crossbeam_queue.specs.SegTies.{IsSegPassOf};
 ghost use Rattle.mail_lane.specs.declared.role.Role.TheVariants.{Receiving};
-ghost use Rattle.mail_lane.specs.Lane.{SenderState, letter, IsSenderOf, AreSendersOf, IsReceiverOf, TakenInOrder};
+ghost use Rattle.mail_lane.specs.Lane.{with_message, ReceivesOne, IsSenderOf, AreNumbered, AreSendersOf, IsReceiverOf, TakenInOrder};
 ghost use Rattle.mail_lane.specs.Rule.{MayBeEmpty};
 
 use crate::back::Back;
 use crate::letter::Letter;
-use crate::line::{Hires, Line, Pass, Queue, Retires, Sends, Settles, Takes};
+use crate::line::{Collects, Line, Opens, Pass, Queue, Sends, Settles, Takes};
 use crate::receiver::Receiver;
 use crate::sender::Sender;
 use crate::settled::Settled;
@@ -38,14 +38,16 @@ impl<M: Drop> Mail<M> {
     ) -> Result<(Mail<M>, Receiver<M>, Vec<Sender<M>>), NoMemory>
         requires { 0 < senders }
         ensures count { IfOk result (λ made. made.0.senders ≡ senders) }
-        ensures receiver { IfOk result (λ made. IsReceiverOf made.0 made.1 × (made.1.taken ≡ [])) }
-        ensures senders { IfOk result (λ made. AreSendersOf made.0 made.2.items × All (λ sender. sender.sent ≡ []) made.2.items) }
+        ensures receiver { IfOk result (λ made. IsReceiverOf made.0 made.1) }
+        ensures untaken { IfOk result (λ made. made.1.taken ≡ []) }
+        ensures senders { IfOk result (λ made. AreSendersOf made.0 made.2.items) }
+        ensures unsent { IfOk result (λ made. All (λ sender. sender.sent ≡ []) made.2.items) }
     {
         let mut all = Vec::with_capacity(alloc, usize::from(senders))?;
         let (queue, mut pass) = Queue::<M>::with_rule(alloc)?;
         let line = Line { queue };
         for number in 0..senders {
-            all.push(hire(&line.queue, &mut pass, number))?;
+            all.push(open_sender(&line.queue, &mut pass, number))?;
         }
         Ok((Mail { line, senders }, Receiver { pass }, all))
     }
@@ -54,36 +56,32 @@ impl<M: Drop> Mail<M> {
     pub fn send<R: Wait>(&self, rt: &R, sender: &mut Sender<M>, message: M) -> Result<(), Back<M>>
         requires sender { IsSenderOf self.now sender.old }
         requires few { length sender.old.sent < 2 ^ 32 }
-        ensures sent { OnOk result (sender.new ≡ record sender.old { sent = sender.old.sent ++ message ∷ [] }) }
-        ensures back { IfErr result (λ back. (back.message ≡ message) × (sender.new ≡ sender.old)) }
+        ensures sent { OnOk result (sender.new ≡ with_message sender.old message) }
+        ensures back { IfErr result (λ back. back.message ≡ message) }
+        ensures unsent { OnErr result (sender.new ≡ sender.old) }
     {
-        let letter = Letter {
-            from: sender.number,
-            message,
-        };
-        match self
-            .line
-            .queue
-            .push_as::<Sends, R>(rt, &mut sender.pass, letter)
-        {
+        let queue = &self.line.queue;
+        let from = sender.number;
+        match queue.push_as::<Sends, R>(rt, &mut sender.pass, Letter { from, message }) {
             Ok(()) => Ok(()),
-            Err(letter) => Err(Back {
-                message: letter.message,
-            }),
+            Err(Letter { from: _, message }) => Err(Back { message }),
         }
     }
 
     /// The oldest message of the lane, or none where the lane was empty at a step of this call.
     pub fn take<R: Wait>(&self, rt: &R, receiver: &mut Receiver<M>) -> Option<M>
         requires { IsReceiverOf self.now receiver.old }
-        ensures some { IfSome result (λ message. (from : ℕ) × (from < self.now.senders) × (receiver.new ≡ record receiver.old { taken = receiver.old.taken ++ letter from message ∷ [] })) }
-        ensures none { IfNone result (MayBeEmpty receiver.old × (receiver.new ≡ receiver.old)) }
+        ensures some { IfSome result (λ message. ReceivesOne receiver.old message receiver.new) }
+        ensures none { IfNone result (receiver.new ≡ receiver.old) }
+
+        // The step that found the queue empty shows it.
+        ensures empty { IfNone result (MayBeEmpty receiver.old) }
     {
         let letter = self.line.queue.pop_as::<Takes, R>(rt, &mut receiver.pass)?;
         Some(letter.message)
     }
 
-    /// The lane once the receiver and all senders have come back, with all that is left in it.
+    /// Ends the lane, once its receiver and all its senders are back, and keeps what is left in it.
     pub fn settle<R: Wait>(
         self,
         rt: &R,
@@ -97,29 +95,31 @@ impl<M: Drop> Mail<M> {
         ensures in_order { TakenInOrder result }
     {
         let Mail { line, senders: _ } = self;
-        let mut pass = retire_all(&line.queue, receiver, senders);
+        let mut pass = collect_all(&line.queue, receiver, senders);
         line.queue.len_as::<Settles, R>(rt, &mut pass);
         Settled { line, pass }
     }
 }
 
 // Makes the sender of the next number.
-fn hire<M: Drop>(queue: &Queue<M>, pass: &mut Pass<M>, number: u16) -> Sender<M>
-    requires { IsSegPassOf queue.now pass.old × (pass.old.me.view.client ≡ Receiving number [] []) }
-    ensures receiver { IsSegPassOf queue.now pass.new × (pass.new.me.view.client ≡ Receiving (number + 1) [] []) }
+fn open_sender<M: Drop>(queue: &Queue<M>, pass: &mut Pass<M>, number: u16) -> Sender<M>
+    requires pass { IsSegPassOf queue.now pass.old }
+    requires role { pass.old.me.view.client ≡ Receiving number [] [] }
+    ensures pass { IsSegPassOf queue.now pass.new }
+    ensures role { pass.new.me.view.client ≡ Receiving (number + 1) [] [] }
     ensures sender { result ≡ record { lane = queue.now; number = number; sent = [] } }
 {
-    let sender = queue.another::<Hires>(pass);
+    let sender = queue.another::<Opens>(pass);
     Sender {
         pass: sender,
         number,
     }
 }
 
-// The receiver's pass, to which all senders have come back.
-fn retire_all<M: Drop>(queue: &Queue<M>, receiver: Receiver<M>, senders: Vec<Sender<M>>) -> Pass<M>
+// The receiver's pass, which has taken in all senders' passes.
+fn collect_all<M: Drop>(queue: &Queue<M>, receiver: Receiver<M>, senders: Vec<Sender<M>>) -> Pass<M>
     requires receiver { receiver.lane ≡ queue.now }
-    requires senders { (k : ℕ) (sender : SenderState M) → slice_get senders.items k ≡ Some sender → (sender.lane ≡ queue.now) × (sender.number ≡ k) }
+    requires senders { AreNumbered queue.now senders.items }
     ensures pass { IsSegPassOf queue.now result }
     ensures role { result.me.view.client ≡ Receiving receiver.senders receiver.taken (map (λ sender. sender.sent) senders.items) }
 {
@@ -129,7 +129,7 @@ fn retire_all<M: Drop>(queue: &Queue<M>, receiver: Receiver<M>, senders: Vec<Sen
             pass: theirs,
             number: _,
         } = sender;
-        queue.absorb::<Retires>(&mut pass, theirs);
+        queue.absorb::<Collects>(&mut pass, theirs);
     }
     pass
 }

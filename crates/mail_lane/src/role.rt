@@ -5,9 +5,9 @@ use std::collections::LinkedList;
 pub enum Role<M> {
     // A sender: its number, and what it sent.
     Sending(u64, LinkedList<M>),
-    // The receiver: how many senders were made, what it took, and what the first of the senders,
-    // which have come back, have sent in all.
+    // The receiver: how many senders were made, what it took, and what the senders have sent in all
+    // whose passes are back, the first of them first.
     Receiving(u64, LinkedList<Letter<M>>, LinkedList<LinkedList<M>>),
-    // A sender that has come back.
-    Retired,
+    // A pass that was given back.
+    Spent,
 }

@@ -1,11 +1,11 @@
 ghost use Rattle.std.specs.Prelude.{◌≡◌, ◌<◌, ◌↔◌, ◌∷◌, [], ◌++◌, ℕ, length, IsNone, IfNone, IfSome};
-ghost use Rattle.mail_lane.specs.Lane.{letter, TakenInOrder, TakenWhole};
+ghost use Rattle.mail_lane.specs.Lane.{GivesOne, TakenInOrder, TakenWhole};
 
 use crate::line::{Line, Pass, Settles};
 use std::marker::Model;
 use std::sync::Wait;
 
-/// A lane whose senders and receiver have come back. It gives what is left.
+/// A lane that has ended, with its receiver and all its senders. It gives what is left.
 #[derive(Drop)]
 pub struct Settled<M> {
     pub(crate) line: Line<M>,
@@ -15,22 +15,21 @@ pub struct Settled<M> {
 impl<M> Model for Settled<M> {
     ghost use Rattle.crossbeam_queue.specs.SegTies.{IsSegPassOf};
     ghost use Rattle.mail_lane.specs.Lane.{SettledState};
-    ghost use Rattle.mail_lane.specs.Rule.{taken_of, returned_of, IsSettled};
+    ghost use Rattle.mail_lane.specs.Rule.{taken_of, collected_of, IsSettled};
 
     ghost Value = { SettledState M };
 
-    ghost view = { λ s. record { taken = taken_of s.pass.me.view.client; sent = returned_of s.pass.me.view.client } };
+    ghost view = { λ s. record { taken = taken_of s.pass.me.view.client; sent = collected_of s.pass.me.view.client } };
 
     ghost invariant = { λ s. IsSegPassOf s.line.queue s.pass × IsSettled s.pass.me.view.client };
 }
 
 impl<M: Drop> Settled<M> {
-    /// The next message that is left, or none where the receiver has all that was sent.
+    /// The oldest message that is left, or none where the receiver has all that was sent.
     pub fn next<R: Wait>(&mut self, rt: &R) -> Option<M>
-        ensures none { IsNone result ↔ TakenWhole self.old }
-        ensures some { IfSome result (λ message. (from : ℕ) × (from < length self.old.sent) × (self.new.taken ≡ self.old.taken ++ letter from message ∷ [])) }
-        ensures none_taken { IfNone result (self.new.taken ≡ self.old.taken) }
-        ensures sent { self.new.sent ≡ self.old.sent }
+        ensures some { IfSome result (λ message. GivesOne self.old message self.new) }
+        ensures none { IfNone result (self.new ≡ self.old) }
+        ensures whole { IsNone result ↔ TakenWhole self.old }
         ensures in_order { TakenInOrder self.new }
     {
         let left = self.line.queue.pop_as::<Settles, R>(rt, &mut self.pass)?;

@@ -1,7 +1,7 @@
-use Rattle.std.proofs.Common.{◌≡◌, ℕ, [], All, length, slice_get, Some}
+use Rattle.std.proofs.Common.{◌≡◌, [], All, length}
 use Rattle.crossbeam_queue.specs.SegTies.{IsSegPassOf}
 use Rattle.mail_lane.specs.declared.role.Role.TheVariants.{Receiving}
-use Rattle.mail_lane.specs.Lane.{SenderState}
+use Rattle.mail_lane.specs.Lane.{AreNumbered}
 use Rattle.mail_lane.proofs.mail.Mail.new.Given as goal
 
 abbrev pub invariant-loop-number : goal.invariant-loop-number
@@ -9,6 +9,6 @@ invariant-loop-number g l = record {
   pass : IsSegPassOf l.line.queue l.pass;
   role : l.pass.me.view.client ≡ Receiving l.number [] [];
   count : length l.all.items ≡ l.number;
-  placed : (k : ℕ) (sender : SenderState g.row.M.Denot) → slice_get l.all.items k ≡ Some sender → (sender.lane ≡ l.line.queue) × (sender.number ≡ k);
+  placed : AreNumbered l.line.queue l.all.items;
   unsent : All (λ sender. sender.sent ≡ []) l.all.items;
 }

@@ -1,7 +1,7 @@
 use Rattle.std.proofs.Common.{◌≡◌, length, ap, ◌∙◌, true≢false}
 use Rattle.mail_lane.specs.declared.role.Role.TheVariants.{Receiving}
 use Rattle.mail_lane.proofs.Rules.{takes, learns_left}
-use Rattle.mail_lane.proofs.States.{not_whole, receiver_numbered, taken_after, taken_in_order}
+use Rattle.mail_lane.proofs.States.{not_whole, receiver_numbered, settled_after, taken_in_order}
 use Rattle.mail_lane.proofs.settled.Settled.next.Goals as goal
 
 pub pop_as-requires-clause-rule : goal.pop_as-requires-clause-rule
@@ -12,8 +12,8 @@ knows : (g : _) (c : goal.In_ok-left g) → c.self.inside.pass.me.view.client �
 knows g c = c.self.invariant.1.whole ∙ ap (λ s. Receiving (length s.sent) s.taken s.sent) c.self.view_is
 
 -- where a letter was left, not the whole was taken
-pub returns-clause-none : goal.returns-clause-none
-returns-clause-none g c = (
+pub returns-clause-whole : goal.returns-clause-whole
+returns-clause-whole g c = (
   (λ e. absurd (true≢false e)),
   λ whole. absurd (not_whole c.args.self.now _ _ c.in_ok-left.left (knows g c) c.in_ok-left.ensures.rule.0 whole),
 )
@@ -23,7 +23,7 @@ returns-clause-some g c =
     let step = c.in_ok-left.ensures.rule.0 in (
       c.in_ok-left.left.from,
       receiver_numbered _ _ _ _ _ c.in_ok-left.left (knows g c) step,
-      taken_after c.args.self.now _ _ c.in_ok-left.left (knows g c) step,
+      settled_after c.args.self.now _ _ c.in_ok-left.left (knows g c) step,
     )
 
 pub returns-clause-in_order : goal.returns-clause-in_order

@@ -2,9 +2,9 @@ use Rattle.std.proofs.Common.{◌≡◌, ◌++◌, length, slice_get, Some, sym,
 use Rattle.std.proofs.lemmas.List.{length-map}
 use Rattle.mail_lane.specs.declared.role.Role.TheVariants.{Sending}
 use Rattle.mail_lane.specs.Rule.{sent_of}
-use Rattle.mail_lane.proofs.Rules.{retires_as}
+use Rattle.mail_lane.proofs.Rules.{collects_as}
 use Rattle.mail_lane.proofs.Senders.{item_after}
-use Rattle.mail_lane.proofs.mail.retire_all.Goals as goal
+use Rattle.mail_lane.proofs.mail.collect_all.Goals as goal
 
 -- the sender is the queue's, and its number is its place
 next_sender : (g : _) (c : goal.After-pass-1 g) → (c.in-Some.sender.lane ≡ c.args.queue.now) × (c.in-Some.sender.number ≡ length c.loop-sender.yielded)
@@ -21,4 +21,4 @@ absorb-requires-clause-queue g c =
 pub absorb-requires-clause-rule : goal.absorb-requires-clause-rule
 absorb-requires-clause-rule g c =
     let number = ap (λ s. s.number) c.sender.view_is ∙ (next_sender g c).1 ∙ sym (length-map c.loop-sender.yielded _) in
-    retires_as _ _ _ _ _ _ _ _ c.loop-sender.invariant.role (c.sender.invariant.2 ∙ ap (λ n. Sending n (sent_of c.sender.inside.pass.me.view.client)) number)
+    collects_as _ _ _ _ _ _ _ _ c.loop-sender.invariant.role (c.sender.invariant.2 ∙ ap (λ n. Sending n (sent_of c.sender.inside.pass.me.view.client)) number)

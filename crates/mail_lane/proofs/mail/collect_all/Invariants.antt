@@ -2,7 +2,7 @@ use Rattle.std.proofs.Common.{◌≡◌, ◌++◌, map}
 use Rattle.std.specs.Vec.Iter.{into_iter_items}
 use Rattle.crossbeam_queue.specs.SegTies.{IsSegPassOf}
 use Rattle.mail_lane.specs.declared.role.Role.TheVariants.{Receiving}
-use Rattle.mail_lane.proofs.mail.retire_all.Given as goal
+use Rattle.mail_lane.proofs.mail.collect_all.Given as goal
 
 abbrev pub invariant-loop-sender : goal.invariant-loop-sender
 invariant-loop-sender g l = record {
