@@ -1,0 +1,3 @@
+pub mod Lanes
+pub mod Queue
+pub mod Stacks

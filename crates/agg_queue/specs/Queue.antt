@@ -1,0 +1,8 @@
+-- What a queue is in contracts.
+use Rattle.std.specs.Prelude.{ℕ, List}
+
+-- its items, front first, for how many more there is room, and the steps that were paid for and not yet made
+pub record Queue (M : Type 0) : Type 0 where
+  pub items : List M
+  pub spare : ℕ
+  pub credit : ℕ

@@ -1,0 +1,127 @@
+ghost use Rattle.std.specs.Prelude.{◌≡◌, ◌≤◌, ◌+◌, ◌↔◌, [], ◌∷◌, ◌++◌, length, OnOk, IfSome, None, All};
+ghost use Rattle.agg_laws.specs.Laws.{total};
+ghost use Rattle.agg_queue.specs.Stacks.{AreSuffixTotals};
+
+use crate::cells::Cells;
+use agg_laws::{AggQueue, Monoid, Steps};
+use std::alloc::Global;
+use std::marker::Model;
+use stream_base::NoMemory;
+
+/// A queue of two stacks: the items at the front, each beside the aggregate from it to the end of
+/// the front, and the items at the back, with one running aggregate of them all. When the front is
+/// empty, a `pop` makes the whole back the front. A fold combines the two aggregates.
+///
+/// `push` makes at most 2 steps on credit, `pop` 0 on credit, and `fold` at most 1: each item is
+/// combined once where it is pushed and pays then for the once that it is turned over.
+///
+/// The two stacks lie behind each other in one deque, so turning over takes no memory.
+#[derive(Drop)]
+pub struct TwoStacks<M: Monoid> {
+    cells: Cells<M>,
+    // How many of the items are in the front.
+    front: usize,
+    // The aggregate of the items in the back.
+    back: M,
+}
+
+impl<M: Monoid> Model for TwoStacks<M> {
+    ghost use Rattle.std.specs.Prelude.{◌-◌, length};
+    ghost use Rattle.agg_queue.specs.Queue.{Queue};
+    ghost use Rattle.agg_queue.specs.Stacks.{AreStacked};
+
+    ghost Value = { Queue M };
+
+    ghost view = { λ q. record {
+      items = q.cells.values;
+      spare = q.cells.spare;
+      credit = length q.cells.values - q.front;
+    } };
+
+    ghost invariant = { λ q. AreStacked M.is_value M.empty M.op q.cells.values q.cells.aggregates q.front q.back };
+}
+
+impl<M: Monoid> AggQueue<M> for TwoStacks<M> {
+    ghost items = { λ q. q.items };
+
+    ghost spare = { λ q. q.spare };
+
+    ghost credit = { λ q. q.credit };
+
+    fn fresh(alloc: Global) -> TwoStacks<M> {
+        TwoStacks {
+            cells: Cells::new(alloc),
+            front: 0,
+            back: M::unit(),
+        }
+    }
+
+    fn reserve(&mut self, room: u64) -> Result<(), NoMemory> {
+        self.cells.reserve(room)?;
+        Ok(())
+    }
+
+    /// Appends an item at the back. Uses one spare.
+    fn push<L>(&mut self, value: M, steps: &mut Steps<L>)
+        requires { 1 ≤ self.old.spare }
+        ensures appended { self.new.items ≡ self.old.items ++ value ∷ [] }
+        ensures spare { self.new.spare + 1 ≡ self.old.spare }
+        ensures cost { steps.new + self.new.credit ≤ steps.old + self.old.credit + 2 }
+    {
+        value.vouch();
+        self.back = self.back.combine(&value, steps);
+        self.cells.push(value, value);
+    }
+
+    /// Removes the item at the front, `None` exactly where there is none.
+    fn pop<L>(&mut self, steps: &mut Steps<L>) -> Option<M>
+        ensures first { IfSome result (λ value. self.old.items ≡ value ∷ self.new.items) }
+        ensures none { (result ≡ None) ↔ (self.old.items ≡ []) }
+        ensures empty { result ≡ None → self.new.items ≡ [] }
+        ensures spare { self.old.spare ≤ self.new.spare }
+        ensures cost { steps.new + self.new.credit ≤ steps.old + self.old.credit }
+    {
+        if self.front == 0 {
+            turn_over(&mut self.cells, steps);
+            self.front = self.cells.len();
+            self.back = M::unit();
+        }
+        let value = self.cells.pop()?;
+        self.front -= 1;
+        Some(value)
+    }
+
+    fn fold<L>(&self, steps: &mut Steps<L>) -> M {
+        if self.front == 0 {
+            return self.back;
+        }
+        self.cells.aggregate(0).combine(&self.back, steps)
+    }
+
+    fn clear(&mut self) {
+        self.cells.clear();
+        self.front = 0;
+        self.back = M::unit();
+    }
+
+    fn len(&self) -> u64 {
+        self.cells.len() as u64
+    }
+}
+
+// Makes each aggregate that of the values from it to the end, from the last one on.
+fn turn_over<M: Monoid, L>(cells: &mut Cells<M>, steps: &mut Steps<L>)
+    requires values { All M.is_value cells.old.values }
+    requires aligned { length cells.old.aggregates ≡ length cells.old.values }
+    ensures values { cells.new.values ≡ cells.old.values }
+    ensures aligned { length cells.new.aggregates ≡ length cells.new.values }
+    ensures spare { cells.new.spare ≡ cells.old.spare }
+    ensures suffixes { AreSuffixTotals M.empty M.op cells.new.values cells.new.aggregates 0 }
+    ensures cost { steps.new ≤ steps.old + length cells.old.values }
+{
+    let mut suffix = M::unit();
+    for i in (0..cells.len()).rev() {
+        suffix = cells.value(i).combine(&suffix, steps);
+        cells.set_aggregate(i, suffix);
+    }
+}
