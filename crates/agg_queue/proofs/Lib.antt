@@ -1,1 +1,3 @@
+pub mod Ranges
 pub mod Stacks
+pub mod Within

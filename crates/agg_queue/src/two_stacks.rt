@@ -27,10 +27,10 @@ pub struct TwoStacks<M: Monoid> {
 
 impl<M: Monoid> Model for TwoStacks<M> {
     ghost use Rattle.std.specs.Prelude.{◌-◌, length};
-    ghost use Rattle.agg_queue.specs.Queue.{Queue};
+    ghost use Rattle.agg_queue.specs.Queue.{QueueOnCredit};
     ghost use Rattle.agg_queue.specs.Stacks.{AreStacked};
 
-    ghost Value = { Queue M };
+    ghost Value = { QueueOnCredit M };
 
     ghost view = { λ q. record {
       items = q.cells.values;
