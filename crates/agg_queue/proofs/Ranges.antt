@@ -6,13 +6,12 @@ use Rattle.std.proofs.lemmas.Bool.{cases_eq}
 use Rattle.agg_queue.specs.declared.bounds.Bounds.{Bounds}
 use Rattle.agg_queue.specs.Ranges.{KeepsTotals, AreInOrder, total_within}
 
-
 -- another aggregate at one place, which is right there
 written : {M : Type 0} (empty : M) (aggregates : List M) (at i : ℕ) (a w : M) → at < length aggregates → (i ≡ at → a ≡ w) → ((i ≡ at → ⊥) → get_or aggregates i empty ≡ w) → get_or (set aggregates at a) i empty ≡ w
 written empty aggregates at i a w lt here there =
     elim (cases_eq i at) [
-      inl e ↦ rw e (get_or-set_same aggregates at a empty lt) ∙ here e
-    | inr ne ↦ get_or-set_other aggregates at i a empty ne ∙ there ne
+      | inl e ↦ rw e (get_or-set_same aggregates at a empty lt) ∙ here e
+      | inr ne ↦ get_or-set_other aggregates at i a empty ne ∙ there ne
     ]
 
 module _ {M : Type 0} {IsValue : M → Type 0} {empty : M} {op : M → M → M} where
@@ -72,5 +71,5 @@ module _ {M : Type 0} {IsValue : M → Type 0} {empty : M} {op : M → M → M} 
       let a : suc (bounds.accumulator - 1) ≡ bounds.accumulator = omega arith in
       let b : suc (bounds.back - 1) ≡ bounds.back = omega arith in
       let t : KeepsTotals IsValue empty op (value ∷ rest) aggregates (record { left = suc (bounds.left - 1); right = suc (bounds.right - 1); accumulator = suc (bounds.accumulator - 1); back = suc (bounds.back - 1) }) =
-          rw (l, r, a, b) (subst (λ (xs : List M). KeepsTotals IsValue empty op xs aggregates bounds) e k) in
+      rw (l, r, a, b) (subst (λ (xs : List M). KeepsTotals IsValue empty op xs aggregates bounds) e k) in
       rw d (without_first value rest aggregates (bounds.left - 1) (bounds.right - 1) (bounds.accumulator - 1) (bounds.back - 1) t)

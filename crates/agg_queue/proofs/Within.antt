@@ -33,7 +33,7 @@ module _ {M : Type 0} {IsValue : M → Type 0} {empty : M} {op : M → M → M} 
   total_within-one values i h lt =
       let here : length (take i values) ≡ i = length-take-le i values (omega arith) in
       let from_here : drop i (take i values ++ get_or values i empty ∷ []) ≡ get_or values i empty ∷ [] =
-          drop-append-le i (take i values) (get_or values i empty ∷ []) (omega arith) ∙ ap (λ xs. xs ++ get_or values i empty ∷ []) (drop_all i (take i values) (omega arith)) in
+      drop-append-le i (take i values) (get_or values i empty ∷ []) (omega arith) ∙ ap (λ xs. xs ++ get_or values i empty ∷ []) (drop_all i (take i values) (omega arith)) in
       ap (λ xs. total empty op (drop i xs)) (take_more values i empty lt) ∙ ap (λ xs. total empty op xs) from_here ∙ total_one laws (get_or values i empty) (All-get_or IsValue values i empty lt h)
 
   -- a range with one value more in front

@@ -1,3 +1,36 @@
+//! The de-amortized banker's aggregator, after Tangwongsan, Hirzel and Schneider, "Low-latency
+//! sliding-window aggregation in worst-case constant time", DEBS 2017.
+//!
+//! Two stacks turn the whole back over in one `pop`. This queue turns it over bit by bit, while the
+//! front still has items, so that no call makes more than a few combines. Its cells lie in one deque,
+//! front first, and four boundaries part them in five ranges, any of which may be empty:
+//!
+//! ```text
+//!  first                                                               end
+//!    |  front   |   left   |  right   | accumulator |       back        |
+//!    0         left      right   accumulator       back                len
+//!
+//!      i..back    i..right   right..i     i..back        back..i
+//! ```
+//!
+//! The last line says which values the aggregate beside a cell combines, `i` being the cell's own
+//! place and always one of them. So the first cell has all up to the back boundary, the last cell
+//! has all from there on, and a fold combines these two.
+//!
+//! Left, right and accumulator are the turning over at work. After each push and each pop, one
+//! *fix-up* makes one move:
+//!
+//! - *Shrink*, while the left range has cells: its first aggregate is made to run up to the back
+//!   boundary (two combines), so that the cell joins the front, and so is the last one of the right
+//!   range (one combine), so that the cell joins the accumulator.
+//! - *Shift*, once left and right are used up: the accumulator's aggregates are already what the
+//!   front's have to be, so one cell of it joins the front for nothing.
+//! - *Flip*, once the accumulator is used up too: the front becomes the left range and the back
+//!   becomes the right one. No aggregate changes. The first shrink follows at once.
+//!
+//! It is done in time because between two calls the left and the right range are equally long, and
+//! the front is longer by one than the back. A push makes the back longer, a pop makes the front
+//! shorter, and the fix-up gives the front one cell. So the front is empty only where all is.
 ghost use Rattle.std.specs.Prelude.{◌≡◌, ◌≤◌, ◌<◌, ◌+◌, ◌-◌, ◌↔◌, [], ◌∷◌, ◌++◌, length, slice_index_or, IfSome, None};
 ghost use Rattle.agg_queue.specs.Ranges.{KeepsTotals, IsBalanced, IsBehind, total_within};
 
@@ -8,7 +41,11 @@ use std::alloc::Global;
 use std::marker::Model;
 use stream_base::NoMemory;
 
-/// A queue by the de-amortized banker's aggregator.
+/// A queue by the de-amortized banker's aggregator (Tangwongsan, Hirzel, Schneider, DEBS 2017).
+///
+/// Each call has a bound of its own, whatever came before: `push` makes at most 4 steps, `pop` at
+/// most 3 and `fold` at most 1. So it needs no credit. Contracts see its items and for how many more
+/// there is room.
 #[derive(Drop)]
 pub struct Daba<M: Monoid> {
     cells: Cells<M>,
@@ -114,7 +151,7 @@ fn total_at_last<M: Monoid>(cells: &Cells<M>, from: usize, to: usize) -> M
     cells.aggregate(to - 1)
 }
 
-// One move towards the next flip, made after each push and each pop.
+// The one move after a push or a pop. At most three steps.
 fn fix_up<M: Monoid, L>(cells: &mut Cells<M>, bounds: Bounds, steps: &mut Steps<L>) -> Bounds
     requires totals { KeepsTotals M.is_value M.empty M.op cells.old.values cells.old.aggregates bounds }
     requires behind { IsBehind bounds (length cells.old.values) }
@@ -140,8 +177,8 @@ fn fix_up<M: Monoid, L>(cells: &mut Cells<M>, bounds: Bounds, steps: &mut Steps<
     extend_accumulator(cells, bounds, steps)
 }
 
-// Where the front has grown up to the back, the front becomes the left range and the back the
-// right one.
+// Where the front has grown up to the back boundary, the front becomes the left range and the back
+// becomes the right one.
 fn flipped<M: Monoid>(cells: &Cells<M>, bounds: Bounds) -> Bounds
     requires totals { KeepsTotals M.is_value M.empty M.op cells.now.values cells.now.aggregates bounds }
     requires behind { IsBehind bounds (length cells.now.values) }
@@ -185,7 +222,11 @@ fn extend_left<M: Monoid, L>(cells: &mut Cells<M>, bounds: Bounds, steps: &mut S
 
 // Makes the last aggregate of the right range run up to the back boundary, so that its cell joins
 // the accumulator. One step.
-fn extend_accumulator<M: Monoid, L>(cells: &mut Cells<M>, bounds: Bounds, steps: &mut Steps<L>) -> Bounds
+fn extend_accumulator<M: Monoid, L>(
+    cells: &mut Cells<M>,
+    bounds: Bounds,
+    steps: &mut Steps<L>,
+) -> Bounds
     requires totals { KeepsTotals M.is_value M.empty M.op cells.old.values cells.old.aggregates bounds }
     requires some { bounds.right < bounds.accumulator }
     ensures values { cells.new.values ≡ cells.old.values }

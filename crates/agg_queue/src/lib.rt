@@ -9,6 +9,8 @@ mod bounds;
 mod cell;
 mod cells;
 mod daba;
+#[cfg(test)]
+mod tests;
 mod two_stacks;
 
 pub use daba::Daba;

@@ -1,3 +1,22 @@
+//! A queue as two stacks, which is folklore: to turn a stack over makes what was last come first.
+//!
+//! The cells lie in one deque, front first, and one place parts the front stack from the back stack:
+//!
+//! ```text
+//!  first                               end
+//!    |  front stack   |   back stack    |
+//!    0              front              len
+//!
+//!         i..front         front..len
+//! ```
+//!
+//! The last line says which values are combined: beside each cell of the front those from its own
+//! place `i` to the end of the front, and for the whole back one running aggregate. A fold combines
+//! the first cell's aggregate with the running one.
+//!
+//! Where the front is empty, a `pop` turns the back over first: from the last cell to the first,
+//! each one's aggregate is made from its value and the aggregate behind it. Then all cells are front.
+//! Since each item is turned over once, its push can pay for that.
 ghost use Rattle.std.specs.Prelude.{◌≡◌, ◌≤◌, ◌+◌, ◌↔◌, [], ◌∷◌, ◌++◌, length, OnOk, IfSome, None, All};
 ghost use Rattle.agg_laws.specs.Laws.{total};
 ghost use Rattle.agg_queue.specs.Stacks.{AreSuffixTotals};
@@ -8,20 +27,17 @@ use std::alloc::Global;
 use std::marker::Model;
 use stream_base::NoMemory;
 
-/// A queue of two stacks: the items at the front, each beside the aggregate from it to the end of
-/// the front, and the items at the back, with one running aggregate of them all. When the front is
-/// empty, a `pop` makes the whole back the front. A fold combines the two aggregates.
+/// A queue of two stacks.
 ///
-/// `push` makes at most 2 steps on credit, `pop` 0 on credit, and `fold` at most 1: each item is
-/// combined once where it is pushed and pays then for the once that it is turned over.
-///
-/// The two stacks lie behind each other in one deque, so turning over takes no memory.
+/// On credit `push` makes at most 2 steps and `pop` none, and `fold` makes at most 1. A single `pop`
+/// may make as many steps as there are items. Contracts see its items, for how many more there is
+/// room, and the credit: one step for each item of the back.
 #[derive(Drop)]
 pub struct TwoStacks<M: Monoid> {
     cells: Cells<M>,
-    // How many of the items are in the front.
+    // How many of the cells are in the front stack.
     front: usize,
-    // The aggregate of the items in the back.
+    // What the values of the back stack come to.
     back: M,
 }
 
