@@ -11,6 +11,7 @@ mod cells;
 mod daba;
 #[cfg(test)]
 mod tests;
+mod turning;
 mod two_stacks;
 
 pub use daba::Daba;

@@ -22,6 +22,7 @@ ghost use Rattle.agg_laws.specs.Laws.{total};
 ghost use Rattle.agg_queue.specs.Stacks.{AreSuffixTotals};
 
 use crate::cells::Cells;
+use crate::turning::turn_over;
 use agg_laws::{AggQueue, Monoid, Steps};
 use std::alloc::Global;
 use std::marker::Model;
@@ -122,22 +123,5 @@ impl<M: Monoid> AggQueue<M> for TwoStacks<M> {
 
     fn len(&self) -> u64 {
         self.cells.len() as u64
-    }
-}
-
-// Makes each aggregate that of the values from it to the end, from the last one on.
-fn turn_over<M: Monoid, L>(cells: &mut Cells<M>, steps: &mut Steps<L>)
-    requires values { All M.is_value cells.old.values }
-    requires aligned { length cells.old.aggregates ≡ length cells.old.values }
-    ensures values { cells.new.values ≡ cells.old.values }
-    ensures aligned { length cells.new.aggregates ≡ length cells.new.values }
-    ensures spare { cells.new.spare ≡ cells.old.spare }
-    ensures suffixes { AreSuffixTotals M.empty M.op cells.new.values cells.new.aggregates 0 }
-    ensures cost { steps.new ≤ steps.old + length cells.old.values }
-{
-    let mut suffix = M::unit();
-    for i in (0..cells.len()).rev() {
-        suffix = cells.value(i).combine(&suffix, steps);
-        cells.set_aggregate(i, suffix);
     }
 }

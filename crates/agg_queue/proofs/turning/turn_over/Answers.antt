@@ -1,7 +1,7 @@
 -- One more value is turned over.
 use Rattle.std.proofs.Common.{arith}
 use Rattle.agg_queue.proofs.Stacks.{turned_over-more}
-use Rattle.agg_queue.proofs.two_stacks.turn_over.Goals as goal
+use Rattle.agg_queue.proofs.turning.turn_over.Goals as goal
 
 pub loop-i-preserved : goal.loop-i-preserved
 loop-i-preserved g c =
