@@ -46,16 +46,50 @@ fn keeps_the_order<Q: AggQueue<Trace>>(
     Ok(())
 }
 
+// A caller of two stacks themselves has their bounds on credit.
+fn through_two_stacks(queue: &mut TwoStacks<Sum>, value: Sum, steps: &mut Steps<Work>) -> Sum
+    requires { 1 ≤ queue.old.spare }
+    ensures cost { steps.new + queue.new.credit ≤ steps.old + queue.old.credit + 3 }
+{
+    queue.push(value, steps);
+    let _first = queue.pop(steps);
+    queue.fold(steps)
+}
+
+// A caller of Daba itself has the bounds of each call, with no credit.
+fn through_daba(queue: &mut Daba<Sum>, value: Sum, steps: &mut Steps<Work>) -> Sum
+    requires { 1 ≤ queue.old.spare }
+    ensures cost { steps.new ≤ steps.old + 8 }
+{
+    queue.push(value, steps);
+    let _first = queue.pop(steps);
+    queue.fold(steps)
+}
+
 #[test]
 fn two_stacks_add_up_in_order(rt: HostRuntime) -> Result<(), Fail> {
+    let mut steps: Steps<Work> = Steps::start(&rt);
     let mut queue: TwoStacks<Sum> = TwoStacks::fresh(rt.alloc());
-    adds_up_in_order(&rt, &mut queue, &mut Steps::start(&rt))
+    adds_up_in_order(&rt, &mut queue, &mut steps)?;
+    queue.reserve(1)?;
+    assert_eq!(rt;
+        through_two_stacks(&mut queue, Sum::lift(4), &mut steps),
+        Sum { sum: 0 }
+    );
+    Ok(())
 }
 
 #[test]
 fn daba_adds_up_in_order(rt: HostRuntime) -> Result<(), Fail> {
+    let mut steps: Steps<Work> = Steps::start(&rt);
     let mut queue: Daba<Sum> = Daba::fresh(rt.alloc());
-    adds_up_in_order(&rt, &mut queue, &mut Steps::start(&rt))
+    adds_up_in_order(&rt, &mut queue, &mut steps)?;
+    queue.reserve(1)?;
+    assert_eq!(rt;
+        through_daba(&mut queue, Sum::lift(4), &mut steps),
+        Sum { sum: 0 }
+    );
+    Ok(())
 }
 
 #[test]
@@ -152,10 +186,10 @@ fn daba_keeps_its_bounds_over_ten_thousand_items(rt: HostRuntime) -> Result<(), 
             queue.push(Sum::lift(i64::from(pushed)), &mut steps);
             list.push_back(i64::from(pushed))?;
             pushed += 1;
-            assert!(rt; steps.count() <= before.saturating_add(5));
+            assert!(rt; steps.count() <= before.saturating_add(4));
         } else {
             assert_eq!(rt; queue.pop(&mut steps), list.pop_front().map(Sum::lift));
-            assert!(rt; steps.count() <= before.saturating_add(4));
+            assert!(rt; steps.count() <= before.saturating_add(3));
         }
         assert_eq!(rt; queue.fold(&mut steps), summed(&list));
     }

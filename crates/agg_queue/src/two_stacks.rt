@@ -17,9 +17,7 @@
 //! Where the front is empty, a `pop` turns the back over first: from the last cell to the first,
 //! each one's aggregate is made from its value and the aggregate behind it. Then all cells are front.
 //! Since each item is turned over once, its push can pay for that.
-ghost use Rattle.std.specs.Prelude.{◌≡◌, ◌≤◌, ◌+◌, ◌↔◌, [], ◌∷◌, ◌++◌, length, OnOk, IfSome, None, All};
-ghost use Rattle.agg_laws.specs.Laws.{total};
-ghost use Rattle.agg_queue.specs.Stacks.{AreSuffixTotals};
+ghost use Rattle.std.specs.Prelude.{◌≡◌, ◌≤◌, ◌+◌, ◌↔◌, [], ◌∷◌, ◌++◌, IfSome, None};
 
 use crate::cells::Cells;
 use crate::turning::turn_over;
@@ -87,6 +85,7 @@ impl<M: Monoid> AggQueue<M> for TwoStacks<M> {
     {
         value.vouch();
         self.back = self.back.combine(&value, steps);
+        // The aggregate beside the value is made where the back is turned over.
         self.cells.push(value, value);
     }
 
