@@ -1,0 +1,4 @@
+pub mod Lanes
+pub mod Queue
+pub mod Ranges
+pub mod Stacks
