@@ -1,0 +1,84 @@
+-- What each step tells the pass that takes it.
+use Rattle.std.specs.Prelude.{◌≡◌, ◌≢◌, ℕ, ◌-◌, ◌%◌, ◌^◌, List, [], ◌∷◌, Option, Some, None, IfSome}
+use Rattle.atomic_table.specs.Table.{Me, Step}
+use Rattle.turnstile.specs.declared.view.Stage.{Stage}
+use Rattle.turnstile.specs.declared.view.Stage.TheVariants.{Idle, Waiting, Serving, Reached}
+use Rattle.turnstile.specs.declared.view.Part.{Part}
+use Rattle.turnstile.specs.declared.view.View.{View}
+use Rattle.turnstile.specs.History.{of_number, BeginsWith, AddsAtMostOne}
+
+-- the items of a number that may be missing
+abbrev pub made_in : {I : Type 0} → List (ℕ × I) → Option ℕ → List I
+made_in list None = []
+made_in list (Some n) = of_number n list
+
+module _ {I F : Type 0} where
+  -- a part that knows nothing
+  abbrev pub blank : Part I F
+  blank = record { number = None; fixed = None; seen = []; made = []; born = [] }
+
+  -- a view with one part and no ticket, which has handed over all that it drew
+  abbrev pub resting : Part I F → ℕ → View I F
+  resting p room = record { main = p; others = []; room = room; pending = None; stage = Idle }
+
+  -- the part of a new pass
+  abbrev pub newcomer : ℕ → Option F → List (ℕ × I) → Part I F
+  newcomer number fixed seen = record { number = Some number; fixed = fixed; seen = seen; made = []; born = [] }
+
+  -- the view of pass 0
+  abbrev pub first_view : F → View I F
+  first_view f = resting (newcomer 0 (Some f) []) (2 ^ 62 - 1)
+
+  -- the part after a turn that left the list
+  abbrev pub turned_to : List (ℕ × I) → Part I F → Part I F
+  turned_to list p = record p { seen = list; made = made_in list p.number }
+
+  -- what a pass with this number and room knows between two calls; it has no value with it
+  abbrev pub as_pass : {T : Type 0} → ℕ → ℕ → View I F → Me T (View I F)
+  as_pass number room v = (resting (record v.main { number = Some number }) room, [])
+
+  abbrev pub at_stage : Stage I → View I F → View I F
+  at_stage stage v = record v { stage = stage }
+
+module _ {T I F : Type 0} (items : T → List (ℕ × I)) (fixed : T → F) where
+  -- a ticket was drawn, which is the number found
+  abbrev pub drew : Step T → Me T (View I F) → ℕ → Me T (View I F) → Type 0
+  drew st m r m' = (k : ℕ) × (r ≡ k % 2 ^ 64) × (m' ≡ (at_stage (Waiting k) m.0, m.1))
+
+  -- the value x fits what the part knows
+  pub record Fits (p : Part I F) (x : T) : Type 0 where
+    pub seen : BeginsWith (items x) p.seen
+    pub own : IfSome p.number (λ n. (of_number n (items x) ≡ p.made) × (p.fixed ≡ Some (fixed x)))
+
+  -- where the own ticket is served the value was taken, and else nothing changed
+  abbrev pub LooksAt : Me T (View I F) → ℕ → Me T (View I F) → Stage I → Type 0
+  LooksAt m r m' Idle = Unit {0}
+  LooksAt m r m' (Waiting k) =
+      (r ≡ k % 2 ^ 64 → (x : T) × (m' ≡ (at_stage (Serving k (items x)) m.0, (0, x) ∷ m.1)) × Fits m.0.main x)
+      × (r ≢ k % 2 ^ 64 → m' ≡ m)
+  LooksAt m r m' (Serving k list) = Unit {0}
+  LooksAt m r m' (Reached k) = Unit {0}
+
+  abbrev pub looked : Step T → Me T (View I F) → ℕ → Me T (View I F) → Type 0
+  looked st m r m' = LooksAt m r m' m.0.stage
+
+  -- the value was given back, and the turn is over
+  abbrev pub GivesBack : View I F → Me T (View I F) → List (ℕ × T) → Type 0
+  GivesBack v m' [] = Unit {0}
+  GivesBack v m' (c ∷ more) = m' ≡ (record v { main = turned_to (items c.1) v.main; stage = Idle }, more)
+
+  abbrev pub passed : Step T → Me T (View I F) → ℕ → Me T (View I F) → Type 0
+  passed st m r m' = GivesBack m.0 m' m.1
+
+  -- what must hold where the value is given back: it is the pass's turn, and the value has the fixed part and at most one item more than it had as it was taken
+  pub record IsReady (me : Me T (View I F)) : Type 0 where
+    pub ticket : ℕ
+    pub list : List (ℕ × I)
+    pub value : T
+    pub number : ℕ
+    pub stage_is : me.0.stage ≡ Serving ticket list
+    pub held : me.1 ≡ (0, value) ∷ []
+    pub number_is : me.0.main.number ≡ Some number
+    pub alone : me.0.others ≡ []
+    pub fixed_is : me.0.main.fixed ≡ Some (fixed value)
+    pub adds : AddsAtMostOne number list (items value)

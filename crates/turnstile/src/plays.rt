@@ -1,0 +1,54 @@
+//! The rule of the lock, and what each step tells. These types are for the proofs alone.
+
+use crate::keeps::Keeps;
+use crate::view::View;
+use atomic_table::{Play, TableRule};
+use std::marker::PhantomData;
+use std::snapshot::Snapshot;
+
+/// The rule of a turnstile's table.
+pub struct Tickets<T> {
+    marker: PhantomData<T>,
+}
+
+impl<T: Keeps> TableRule<T, View<T::Item, T::Fixed>, Snapshot<T>> for Tickets<T> {
+    ghost use Rattle.turnstile.specs.Rule.{Rule};
+    ghost use Rattle.turnstile.specs.Steps.{first_view};
+
+    ghost holds = { λ _. Rule T.items T.fixed };
+
+    ghost first = { λ origin. first_view (T.fixed origin.value) };
+}
+
+/// A ticket is drawn.
+pub struct Draw<T> {
+    marker: PhantomData<T>,
+}
+
+impl<T: Keeps> Play<T, View<T::Item, T::Fixed>> for Draw<T> {
+    ghost use Rattle.turnstile.specs.Steps.{drew};
+
+    ghost then = { drew T.items T.fixed };
+}
+
+/// A look at the ticket that is served. Where it is the own one, the value is taken.
+pub struct Look<T> {
+    marker: PhantomData<T>,
+}
+
+impl<T: Keeps> Play<T, View<T::Item, T::Fixed>> for Look<T> {
+    ghost use Rattle.turnstile.specs.Steps.{looked};
+
+    ghost then = { looked T.items T.fixed };
+}
+
+/// The value is given back, and the next ticket is served.
+pub struct PassOn<T> {
+    marker: PhantomData<T>,
+}
+
+impl<T: Keeps> Play<T, View<T::Item, T::Fixed>> for PassOn<T> {
+    ghost use Rattle.turnstile.specs.Steps.{passed};
+
+    ghost then = { passed T.items T.fixed };
+}
