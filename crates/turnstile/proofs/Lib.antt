@@ -1,3 +1,4 @@
 pub mod Totals
 pub mod Histories
 pub mod Moves
+pub mod Numbers

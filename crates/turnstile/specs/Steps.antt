@@ -1,5 +1,6 @@
 -- What each step tells the pass that takes it.
-use Rattle.std.specs.Prelude.{◌≡◌, ◌≢◌, ℕ, ◌-◌, ◌%◌, ◌^◌, List, [], ◌∷◌, Option, Some, None, IfSome}
+use Rattle.std.specs.Prelude.{◌≡◌, ◌≢◌, ℕ, ◌+◌, ◌-◌, ◌%◌, ◌^◌, ◌<◌, List, [], ◌∷◌, ◌++◌, Option, Some, None, IfSome, Contains}
+use Rattle.std.specs.Option.{unwrap_or}
 use Rattle.atomic_table.specs.Table.{Me, Step}
 use Rattle.turnstile.specs.declared.view.Stage.{Stage}
 use Rattle.turnstile.specs.declared.view.Stage.TheVariants.{Idle, Waiting, Serving, Reached}
@@ -39,6 +40,28 @@ module _ {I F : Type 0} where
 
   abbrev pub at_stage : Stage I → View I F → View I F
   at_stage stage v = record v { stage = stage }
+
+  -- the number that the view has drawn
+  abbrev pub drawn_number : View I F → ℕ
+  drawn_number v = unwrap_or v.pending 0
+
+  -- the view after it handed over the number that it had drawn
+  abbrev pub handed_over : View I F → View I F
+  handed_over v = record v { main = record v.main { born = v.main.born ++ drawn_number v ∷ [] }; pending = None }
+
+  -- the view of the pass that gets that number: it has seen as much, and made nothing
+  abbrev pub child : View I F → View I F
+  child v = resting (newcomer (drawn_number v) v.main.fixed v.main.seen) 0
+
+  -- a number was drawn, which is the number found: it is new, and with the room it makes up 2^62
+  pub record DrawsNumber {T : Type 0} (m : Me T (View I F)) (r : ℕ) (m' : Me T (View I F)) : Type 0 where
+    pub now_is : m' ≡ (record m.0 { room = m.0.room - 1; pending = Some r }, m.1)
+    pub with_room : r + m.0.room ≡ 2 ^ 62
+    pub positive : 0 < r
+    pub unborn : Contains m.0.main.born r → ⊥
+
+  abbrev pub drew_number : {T : Type 0} → Step T → Me T (View I F) → ℕ → Me T (View I F) → Type 0
+  drew_number st m r m' = DrawsNumber m r m'
 
 module _ {T I F : Type 0} (items : T → List (ℕ × I)) (fixed : T → F) where
   -- a ticket was drawn, which is the number found

@@ -41,6 +41,8 @@
 //!
 //! | Kind of step | On | View that changes | In the value |
 //! |---|---|---|---|
+//! | draw a number | fetch_add on `numbers` | the splitter's | nothing |
+//! | split | a load | the new pass's comes to be; the splitter's notes that it handed the number over | nothing |
 //! | draw a ticket | fetch_add on `ticket` | own | the turn's place is fixed |
 //! | look; where the own ticket is served, the value is taken in the same step | load of `serving` | own: the list as it was taken | nothing |
 //! | run | the slot, by plain access | none | one call is applied |
@@ -50,6 +52,7 @@
 mod keeps;
 mod pass;
 mod plays;
+mod splits;
 mod turns;
 mod turnstile;
 mod view;

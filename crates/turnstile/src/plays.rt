@@ -2,7 +2,7 @@
 
 use crate::keeps::Keeps;
 use crate::view::View;
-use atomic_table::{Play, TableRule};
+use atomic_table::{Play, Split, TableRule};
 use std::marker::PhantomData;
 use std::snapshot::Snapshot;
 
@@ -51,4 +51,24 @@ impl<T: Keeps> Play<T, View<T::Item, T::Fixed>> for PassOn<T> {
     ghost use Rattle.turnstile.specs.Steps.{passed};
 
     ghost then = { passed T.items T.fixed };
+}
+
+/// A number is drawn for a new pass.
+pub struct DrawNumber;
+
+impl<T, I, F> Play<T, View<I, F>> for DrawNumber {
+    ghost use Rattle.turnstile.specs.Steps.{drew_number};
+
+    ghost then = { drew_number };
+}
+
+/// The number that was drawn goes to a new pass.
+pub struct HandOver;
+
+impl<I, F> Split<View<I, F>> for HandOver {
+    ghost use Rattle.turnstile.specs.Steps.{handed_over, child};
+
+    ghost left = { handed_over };
+
+    ghost right = { child };
 }

@@ -15,6 +15,8 @@ pub(crate) const TICKET: usize = 0;
 
 pub(crate) const SERVING: usize = 1;
 
+pub(crate) const NUMBERS: usize = 2;
+
 /// A value under a ticket lock. Each turn is one event: the value leaves its slot, one call runs on
 /// it, and it goes back. The ticket that a turn draws fixes its place.
 #[derive(Drop)]
