@@ -2,3 +2,4 @@ pub mod Totals
 pub mod Histories
 pub mod Moves
 pub mod Numbers
+pub mod Joins

@@ -34,10 +34,11 @@ module _ {T I F : Type 0} {g : Ghosts T I F} where
   abbrev pub IsPassOf : Turnstile T I F → Pass T I F g → Type 0
   IsPassOf turnstile p = p.seat.table_id ≡ turnstile.table.shared.table_id
 
-  -- the same turnstile, number, fixed part and births
+  -- the same turnstile, number, room, fixed part and births
   pub record IsSamePass (old new : Pass T I F g) : Type 0 where
     pub turnstile : new.seat.table_id ≡ old.seat.table_id
     pub number_same : number new ≡ number old
+    pub room_same : room new ≡ room old
     pub fixed_same : fixed new ≡ fixed old
     pub born_same : born new ≡ born old
 

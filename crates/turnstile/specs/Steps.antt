@@ -6,7 +6,7 @@ use Rattle.turnstile.specs.declared.view.Stage.{Stage}
 use Rattle.turnstile.specs.declared.view.Stage.TheVariants.{Idle, Waiting, Serving, Reached}
 use Rattle.turnstile.specs.declared.view.Part.{Part}
 use Rattle.turnstile.specs.declared.view.View.{View}
-use Rattle.turnstile.specs.History.{of_number, BeginsWith, AddsAtMostOne}
+use Rattle.turnstile.specs.History.{of_number, BeginsWith, AddsAtMostOne, longer}
 
 -- the items of a number that may be missing
 abbrev pub made_in : {I : Type 0} → List (ℕ × I) → Option ℕ → List I
@@ -62,6 +62,28 @@ module _ {I F : Type 0} where
 
   abbrev pub drew_number : {T : Type 0} → Step T → Me T (View I F) → ℕ → Me T (View I F) → Type 0
   drew_number st m r m' = DrawsNumber m r m'
+
+  -- a copy of what a view knows. It has no number, and has made and given nothing
+  abbrev pub copy_of : View I F → View I F
+  copy_of v = resting (record v.main { number = None; made = []; born = [] }) 0
+
+  -- a view to which another was joined: it has the parts of both, and the sum of their rooms
+  abbrev pub joined : View I F → View I F → View I F
+  joined v w = record v { others = v.others ++ w.main ∷ w.others; room = v.room + w.room }
+
+  -- what is left of a view that was joined away
+  abbrev pub spent : View I F
+  spent = resting blank 0
+
+  -- where a copy was joined, the longer of the two lists is what the pass has seen; it begins with both
+  abbrev pub ComparesWith : {T : Type 0} → Me T (View I F) → Me T (View I F) → List (Part I F) → Type 0
+  ComparesWith m m' [] = Unit {0}
+  ComparesWith m m' (c ∷ cs) =
+      let list = longer m.0.main.seen c.seen in
+      (m' ≡ (record m.0 { main = record m.0.main { seen = list }; others = [] }, m.1)) × BeginsWith list m.0.main.seen × BeginsWith list c.seen
+
+  abbrev pub compared : {T : Type 0} → Step T → Me T (View I F) → ℕ → Me T (View I F) → Type 0
+  compared st m r m' = ComparesWith m m' m.0.others
 
 module _ {T I F : Type 0} (items : T → List (ℕ × I)) (fixed : T → F) where
   -- a ticket was drawn, which is the number found

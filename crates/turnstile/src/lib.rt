@@ -43,6 +43,9 @@
 //! |---|---|---|---|
 //! | draw a number | fetch_add on `numbers` | the splitter's | nothing |
 //! | split | a load | the new pass's comes to be; the splitter's notes that it handed the number over | nothing |
+//! | copy | a load | the copy's comes to be | nothing |
+//! | join | a load | both | nothing |
+//! | compare: of two lists that were seen, the longer begins with the shorter | a load | own: what it has seen | nothing |
 //! | draw a ticket | fetch_add on `ticket` | own | the turn's place is fixed |
 //! | look; where the own ticket is served, the value is taken in the same step | load of `serving` | own: the list as it was taken | nothing |
 //! | run | the slot, by plain access | none | one call is applied |
@@ -50,6 +53,7 @@
 #![tactic(auto)]
 
 mod keeps;
+mod meets;
 mod pass;
 mod plays;
 mod splits;

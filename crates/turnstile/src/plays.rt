@@ -2,7 +2,7 @@
 
 use crate::keeps::Keeps;
 use crate::view::View;
-use atomic_table::{Play, Split, TableRule};
+use atomic_table::{Join, Play, Split, TableRule};
 use std::marker::PhantomData;
 use std::snapshot::Snapshot;
 
@@ -71,4 +71,35 @@ impl<I, F> Split<View<I, F>> for HandOver {
     ghost left = { handed_over };
 
     ghost right = { child };
+}
+
+/// A copy of what a pass knows.
+pub struct Copied;
+
+impl<I, F> Split<View<I, F>> for Copied {
+    ghost use Rattle.turnstile.specs.Steps.{copy_of};
+
+    ghost left = { λ v. v };
+
+    ghost right = { copy_of };
+}
+
+/// A view is joined to another.
+pub struct Joined;
+
+impl<I, F> Join<View<I, F>> for Joined {
+    ghost use Rattle.turnstile.specs.Steps.{joined, spent};
+
+    ghost both = { joined };
+
+    ghost spent = { spent };
+}
+
+/// What a pass has seen is compared with the copy that was joined to it.
+pub struct Compare;
+
+impl<T, I, F> Play<T, View<I, F>> for Compare {
+    ghost use Rattle.turnstile.specs.Steps.{compared};
+
+    ghost then = { compared };
 }

@@ -1,7 +1,7 @@
 ghost use Rattle.std.specs.Prelude.{◌≡◌, ℕ, [], ◌∷◌, Some, IfSome};
 ghost use Rattle.turnstile.specs.declared.view.Stage.TheVariants.{Serving, Idle};
 ghost use Rattle.turnstile.specs.History.{AddsAtMostOne};
-ghost use Rattle.turnstile.specs.Passes.{fixed, room, IsPassOf, IsSamePass, IsTurn};
+ghost use Rattle.turnstile.specs.Passes.{fixed, IsPassOf, IsSamePass, IsTurn};
 ghost use Rattle.turnstile.specs.Steps.{as_pass, at_stage, turned_to, Fits, IsReady};
 
 use crate::keeps::{Call, Keeps};
@@ -19,7 +19,6 @@ impl<T: Keeps> Turnstile<T> {
         requires own { IsPassOf self.now pass.old }
         requires may { IfSome (fixed pass.old) (C.may_run call) }
         ensures same { IsSamePass pass.old pass.new }
-        ensures room { room pass.new ≡ room pass.old }
         ensures turn { IsTurn (C.does call) pass.old pass.new result }
     {
         let number = pass.number;
