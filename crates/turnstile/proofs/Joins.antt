@@ -50,6 +50,10 @@ module _ {I F : Type 0} where
   births-append [] m = refl
   births-append (p ∷ ps) m = ap (λ z. p.born ++ z) (births-append ps m) ∙ sym (append_assoc p.born (births_of ps) (births_of m))
 
+nil_parts : (a b : List ℕ) → a ++ b ≡ [] → (a ≡ []) × (b ≡ [])
+nil_parts [] b e = (refl, e)
+nil_parts (x ∷ xs) b e = absurd (cc)
+
 module _ {A : Type 0} where
   each-append : (P : A → Type 0) (l m : List A) → Each P l → Each P m → Each P (l ++ m)
   each-append P [] m a b = b
@@ -92,31 +96,31 @@ module _ {T I F : Type 0} (items : T → List (ℕ × I)) (fixed : T → F) wher
       let a = o.each id v at in let b = o.each other w there in let idle_line : waits v ≡ 0 = ap in_line idle in
       let two = total-two (times 0) s.views id other v w apart at there in let one = o.apart 0 in
       let zero_v : one_if 0 v.pending ≡ 0 = ap (one_if 0) none_v in let zero_w : one_if 0 w.pending ≡ 0 = ap (one_if 0) none_w in
-      let sum = total-append (λ (p : Part I F). one_if 0 p.number) v.others (w.main ∷ w.others) in
+      let sum = total-append (λ (p : Part I F). one_if 0 p.number) (parts w) v.others in
       let all : times 0 (joined v w) ≡ times 0 v + times 0 w = omega arith in
       let out_v : one_if_some v.pending ≡ 0 = ap one_if_some none_v in let out_w : one_if_some w.pending ≡ 0 = ap one_if_some none_w in
-      let births : births_of (parts (joined v w)) ≡ births_of (parts v) ++ births_of (parts w) = births-append (parts v) (parts w) in
+      let births : births_of (parts (joined v w)) ≡ v.main.born ++ (births_of (parts w) ++ births_of v.others) = ap (λ z. v.main.born ++ z) (births-append (parts w) v.others) in
       record {
         stage = a.stage;
-        each = (a.each.0, each-append (PartOk h) v.others (w.main ∷ w.others) a.each.1 b.each);
+        each = (a.each.0, each-append (PartOk h) (parts w) v.others b.each a.each.1);
         line = omega arith;
         zero = λ some_zero. dite (ℕ_discrete (times 0 v) 0)
             (λ lacks. let x = a.other lacks in let y = b.zero (omega arith) in let xr = x.room in let yd = y.drawn in let yl = y.left in record {
               drawn = omega arith;
               left = omega arith;
               pending = subst (λ (q : Option ℕ). IfSome q (λ n. n ≡ h.handed)) (sym none_v) tt;
-              born = births ∙ ((λ i. x.born i ++ births_of (parts w)) ∙ y.born);
+              born = let none = nil_parts v.main.born (births_of v.others) x.born in births ∙ ((λ i. none.0 i ++ (births_of (parts w) ++ none.1 i)) ∙ (append-nil (births_of (parts w)) ∙ y.born));
             })
             (λ has. let x = a.zero (omega arith) in let y = b.other (omega arith) in let xd = x.drawn in let xl = x.left in let yr = y.room in record {
               drawn = x.drawn;
               left = omega arith;
               pending = x.pending;
-              born = births ∙ ((λ i. births_of (parts v) ++ y.born i) ∙ (append-nil (births_of (parts v)) ∙ x.born));
+              born = births ∙ ((λ i. v.main.born ++ (y.born i ++ births_of v.others)) ∙ x.born);
             });
         other = λ no_zero. let x = a.other (omega arith) in let y = b.other (omega arith) in let xr = x.room in let yr = y.room in record {
           room = omega arith;
           pending = none_v;
-          born = births ∙ ((λ i. x.born i ++ y.born i));
+          born = let none = nil_parts v.main.born (births_of v.others) x.born in births ∙ (λ i. none.0 i ++ (y.born i ++ none.1 i));
         };
       }
 
@@ -128,7 +132,7 @@ module _ {T I F : Type 0} (items : T → List (ℕ × I)) (fixed : T → F) wher
       let l : List (View I F) = set s.views id both in
       let same_times : (n : ℕ) → total (times n) (set l other spent) ≡ total (times n) s.views = λ n.
       let a = total-set (times n) s.views id v both at in let b = total-set (times n) l other w spent there' in
-      let sum = total-append (λ (p : Part I F). one_if n p.number) v.others (w.main ∷ w.others) in
+      let sum = total-append (λ (p : Part I F). one_if n p.number) (parts w) v.others in
       let zero_v : one_if n v.pending ≡ 0 = ap (one_if n) none_v in let zero_w : one_if n w.pending ≡ 0 = ap (one_if n) none_w in omega arith in (
         h,
         record {
@@ -137,7 +141,7 @@ module _ {T I F : Type 0} (items : T → List (ℕ × I)) (fixed : T → F) wher
           line = let a = total-set waits s.views id v both at in let b = total-set waits l other w spent there' in let c = o.line in omega arith;
           in_turn = o.in_turn;
           rights = let a = total-set rights s.views id v both at in let b = total-set rights l other w spent there' in let c = o.rights in
-              let sum = total-append (λ (p : Part I F). one_if_some p.number) v.others (w.main ∷ w.others) in omega arith;
+              let sum = total-append (λ (p : Part I F). one_if_some p.number) (parts w) v.others in omega arith;
           apart = λ n. let e = same_times n in let a = o.apart n in omega arith;
           drawn = λ n le. same_times n ∙ o.drawn n le;
           past = o.past;

@@ -3,3 +3,4 @@ pub mod Histories
 pub mod Moves
 pub mod Numbers
 pub mod Joins
+pub mod Closing

@@ -72,7 +72,7 @@ module _ {I F : Type 0} where
     other = λ no_zero. let z = o.other no_zero in record { room = z.room; pending = z.pending; born = z.born };
   }
 
-  past_same : (h : Facts I F) (next now : ℕ) (owner : ℕ → ℕ) (busy : Bool) → PastOk h → PastOk (record h { next = next; now = now; owner = owner; busy = busy })
+  pub past_same : (h : Facts I F) (next now : ℕ) (owner : ℕ → ℕ) (busy : Bool) → PastOk h → PastOk (record h { next = next; now = now; owner = owner; busy = busy })
   past_same h next now owner busy p = record { some_number = p.some_number; made = p.made; all_born = p.all_born; none_else = p.none_else }
 
   -- who has the ticket that is served is the only one

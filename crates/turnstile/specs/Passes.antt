@@ -1,5 +1,6 @@
 -- What a contract says of a turnstile and its passes.
-use Rattle.std.specs.Prelude.{◌≡◌, ℕ, ◌++◌, ◌≤◌, List, Option, Some, length}
+use Rattle.std.specs.Prelude.{◌≡◌, ℕ, ◌++◌, ◌≤◌, List, Option, Some, length, map, Contains, All}
+use Rattle.turnstile.specs.declared.view.Part.{Part}
 use Rattle.turnstile.specs.declared.keeps.Keeps.{Ghosts}
 use Rattle.turnstile.specs.declared.pass.Pass.{Pass}
 use Rattle.turnstile.specs.declared.turnstile.Turnstile.{Turnstile}
@@ -30,6 +31,10 @@ module _ {T I F : Type 0} {g : Ghosts T I F} where
   abbrev pub born : Pass T I F g → List ℕ
   born p = p.seat.me.0.main.born
 
+  -- all that it knows
+  abbrev pub known : Pass T I F g → Part I F
+  known p = p.seat.me.0.main
+
   -- it is a pass of this turnstile
   abbrev pub IsPassOf : Turnstile T I F → Pass T I F g → Type 0
   IsPassOf turnstile p = p.seat.table_id ≡ turnstile.table.shared.table_id
@@ -41,6 +46,14 @@ module _ {T I F : Type 0} {g : Ghosts T I F} where
     pub room_same : room new ≡ room old
     pub fixed_same : fixed new ≡ fixed old
     pub born_same : born new ≡ born old
+
+  -- the numbers of these passes, in order
+  abbrev pub numbers : List (Pass T I F g) → List ℕ
+  numbers passes = map number passes
+
+  -- pass 0 is among them, and so is each pass to which one of them gave its number
+  abbrev pub AreAll : List (Pass T I F g) → Type 0
+  AreAll passes = Contains (numbers passes) 0 × All (λ p. All (Contains (numbers passes)) (born p)) passes
 
   -- One turn. The value before it began with all that the pass had seen. One call of the pass led to the value after it and to the reply, and added at most one item, with the pass's number. The
   -- pass has then seen the list after the call, and made what it had made and the item

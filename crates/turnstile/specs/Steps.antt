@@ -1,11 +1,12 @@
 -- What each step tells the pass that takes it.
-use Rattle.std.specs.Prelude.{◌≡◌, ◌≢◌, ℕ, ◌+◌, ◌-◌, ◌%◌, ◌^◌, ◌<◌, List, [], ◌∷◌, ◌++◌, Option, Some, None, IfSome, Contains}
+use Rattle.std.specs.Prelude.{◌≡◌, ◌≢◌, ℕ, ◌+◌, ◌-◌, ◌%◌, ◌^◌, ◌<◌, List, [], ◌∷◌, ◌++◌, Option, Some, None, IfSome, Contains, ◌≤◌, ◌⊎◌}
 use Rattle.std.specs.Option.{unwrap_or}
 use Rattle.atomic_table.specs.Table.{Me, Step}
 use Rattle.turnstile.specs.declared.view.Stage.{Stage}
 use Rattle.turnstile.specs.declared.view.Stage.TheVariants.{Idle, Waiting, Serving, Reached}
 use Rattle.turnstile.specs.declared.view.Part.{Part}
 use Rattle.turnstile.specs.declared.view.View.{View}
+use Rattle.turnstile.specs.Rule.{Each, births_of, parts, times}
 use Rattle.turnstile.specs.History.{of_number, BeginsWith, AddsAtMostOne, longer}
 
 -- the items of a number that may be missing
@@ -69,11 +70,25 @@ module _ {I F : Type 0} where
 
   -- a view to which another was joined: it has the parts of both, and the sum of their rooms
   abbrev pub joined : View I F → View I F → View I F
-  joined v w = record v { others = v.others ++ w.main ∷ w.others; room = v.room + w.room }
+  joined v w = record v { others = (w.main ∷ w.others) ++ v.others; room = v.room + w.room }
 
   -- what is left of a view that was joined away
   abbrev pub spent : View I F
   spent = resting blank 0
+
+  -- a view that knows nothing came to be
+  abbrev pub entered : {T : Type 0} → Step T → Me T (View I F) → ℕ → Me T (View I F) → Type 0
+  entered st m r m' = m'.0 ≡ spent
+
+  -- where the own ticket is served this was noted, and the value was left where it lies; else nothing changed
+  abbrev pub ReachesAt : {T : Type 0} → Me T (View I F) → ℕ → Me T (View I F) → Stage I → Type 0
+  ReachesAt m r m' Idle = Unit {0}
+  ReachesAt m r m' (Waiting k) = (r ≡ k % 2 ^ 64 → m' ≡ (at_stage (Reached k) m.0, m.1)) × (r ≢ k % 2 ^ 64 → m' ≡ m)
+  ReachesAt m r m' (Serving k list) = Unit {0}
+  ReachesAt m r m' (Reached k) = Unit {0}
+
+  abbrev pub reached : {T : Type 0} → Step T → Me T (View I F) → ℕ → Me T (View I F) → Type 0
+  reached st m r m' = ReachesAt m r m' m.0.stage
 
   -- where a copy was joined, the longer of the two lists is what the pass has seen; it begins with both
   abbrev pub ComparesWith : {T : Type 0} → Me T (View I F) → Me T (View I F) → List (Part I F) → Type 0
@@ -127,3 +142,9 @@ module _ {T I F : Type 0} (items : T → List (ℕ × I)) (fixed : T → F) wher
     pub alone : me.0.others ≡ []
     pub fixed_is : me.0.main.fixed ≡ Some (fixed value)
     pub adds : AddsAtMostOne number list (items value)
+
+  -- what the rule says of the value x where the view v, whose turn it is, closes the lock
+  pub record Closes (v : View I F) (x : T) : Type 0 where
+    pub each : Each (λ p. Fits p x) (parts v)
+    pub apart : (n : ℕ) → times n v ≤ 1
+    pub complete : 0 < times 0 v → (e : ℕ × I) → Contains (items x) e → (e.0 ≡ 0) ⊎ Contains (births_of (parts v)) e.0

@@ -3,8 +3,9 @@
 //! *Stands on* `atomic_table`, which proves single steps on shared words, and `crossbeam_utils` for
 //! the wait. *Promise*: over any value that keeps a list of numbered items (`Keeps`) and any call on
 //! it (`Call`), each turn runs one call on the value; the list before it begins with all that the
-//! pass had seen; each pass knows the items that it made. Nothing is said of waiting, fairness or
-//! progress.
+//! pass had seen; each pass knows the items that it made. Pass 0 makes more passes, two passes may
+//! tell each other what they have seen, and who closes the lock gets a value whose list has, for
+//! each pass, what the pass made and no more. Nothing is said of waiting, fairness or progress.
 //!
 //! # The rule of the lock
 //!
@@ -49,9 +50,12 @@
 //! | draw a ticket | fetch_add on `ticket` | own | the turn's place is fixed |
 //! | look; where the own ticket is served, the value is taken in the same step | load of `serving` | own: the list as it was taken | nothing |
 //! | run | the slot, by plain access | none | one call is applied |
+//! | reach, to close; the value is left where it lies | load of `serving` | own: that it has the last turn | nothing |
 //! | pass on; the value is given back in the same step | fetch_add on `serving` | own: what it has seen and made | the turn ends |
 #![tactic(auto)]
 
+mod close;
+mod ends;
 mod keeps;
 mod meets;
 mod pass;
@@ -61,6 +65,7 @@ mod turns;
 mod turnstile;
 mod view;
 
+pub use ends::{PassEnd, Unclosed};
 pub use keeps::{Call, Keeps};
 pub use pass::Pass;
 pub use turnstile::Turnstile;

@@ -10,7 +10,6 @@ pub(crate) type Place<T> = Seat<T, View<<T as Keeps>::Item, <T as Keeps>::Fixed>
 
 /// One caller's place at a turnstile. It has a number that no other pass has, and it knows the list
 /// that it has seen, the items that it made and the numbers that it gave to new passes.
-#[derive(Drop)]
 pub struct Pass<T: Keeps> {
     pub(crate) seat: Seat<T, View<T::Item, T::Fixed>>,
     pub(crate) number: u64,
@@ -51,5 +50,27 @@ impl<T: Keeps> Pass<T> {
             number: 0,
             room: (1 << 62) - 1,
         }
+    }
+
+    // What the pass steps with.
+    pub(crate) fn into_place(self) -> Place<T>
+        ensures { result ≡ self.seat }
+    {
+        let Pass {
+            seat,
+            number: _,
+            room: _,
+        } = self;
+        seat
+    }
+}
+
+impl<T: Keeps> Drop for Pass<T> {
+    fn drop(self) {
+        let Pass {
+            seat: _,
+            number: _,
+            room: _,
+        } = self;
     }
 }

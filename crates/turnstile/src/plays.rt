@@ -103,3 +103,21 @@ impl<T, I, F> Play<T, View<I, F>> for Compare {
 
     ghost then = { compared };
 }
+
+/// A view that knows nothing comes to be.
+pub struct Enter;
+
+impl<T, I, F> Play<T, View<I, F>> for Enter {
+    ghost use Rattle.turnstile.specs.Steps.{entered};
+
+    ghost then = { entered };
+}
+
+/// A look at the ticket that is served, which leaves the value where it lies.
+pub struct Reach;
+
+impl<T, I, F> Play<T, View<I, F>> for Reach {
+    ghost use Rattle.turnstile.specs.Steps.{reached};
+
+    ghost then = { reached };
+}

@@ -20,5 +20,5 @@ load-requires g c = let sized = c.args.self.now.sized in let rest = c.args.to.no
   both.0 ∙ c.requires.own.1,
   omega (arith, sized.0),
   compares g.T.Keeps.items g.T.Keeps.fixed _ _ _ (copy_of c.args.from.now.seat.me.0).main
-      (ap (λ m. m.0.others) both.2 ∙ (λ i. (rest i).0.others ++ (is i).0.main ∷ (is i).0.others)) refl refl,
+      (ap (λ m. m.0.others) both.2 ∙ (λ i. ((is i).0.main ∷ (is i).0.others) ++ (rest i).0.others)) refl refl,
 )
