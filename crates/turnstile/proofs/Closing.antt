@@ -1,11 +1,10 @@
 -- What the rule of the lock says once a view has the last turn.
-use Rattle.std.proofs.Common.{◌≡◌, ◌≢◌, ◌⊎◌, ℕ, zero, suc, ◌+◌, ◌-◌, ◌%◌, ◌^◌, ◌<◌, ◌≤◌, Bool, true, false, cond, eqb, List, [], ◌∷◌, ◌++◌, map, length, Option, Some, None, set, get_or, refl, sym, ap, ◌∙◌, subst, arith, inl, inr, ⊎_elim, eq-eqb, append_assoc}
-use Rattle.std.specs.Prelude.{IfSome, Contains, All}
+use Rattle.std.proofs.Common.{◌≡◌, ◌≢◌, ◌⊎◌, ℕ, zero, suc, ◌%◌, ◌^◌, ◌<◌, ◌≤◌, Bool, true, false, cond, eqb, List, [], ◌∷◌, ◌++◌, map, length, Some, get_or, refl, sym, ap, ◌∙◌, subst, arith, inl, inr, ⊎_elim, eq-eqb, append_assoc}
+use Rattle.std.specs.Prelude.{Contains, All}
 use Rattle.std.specs.List.{filter, AllPairs}
 use Rattle.std.proofs.lemmas.List.{set-get_or, map-append}
 use Rattle.std.proofs.lemmas.List.Elements.{All-contains, Contains-append_cases, Contains-append_right, Contains-get_or}
-use mathlib.Core.Option as maybe
-use mathlib.Core.Option.{some, none, some-injective, some-ne-none}
+use mathlib.Core.Option.{some, none, some-injective}
 use mathlib.Core.Logic.{dite}
 use native.Mathlib.Decide.{ℕ_discrete, dec_le}
 use lib.ListN.{get_elem?}
@@ -14,15 +13,15 @@ use Rattle.atomic_table.proofs.Lists.{at_map}
 use Rattle.turnstile.specs.declared.keeps.Keeps.{Ghosts}
 use Rattle.turnstile.specs.declared.pass.Pass.{Pass}
 use Rattle.turnstile.specs.declared.view.Stage.{Stage}
-use Rattle.turnstile.specs.declared.view.Stage.TheVariants.{Idle, Waiting, Serving, Reached}
+use Rattle.turnstile.specs.declared.view.Stage.TheVariants.{Idle, Waiting, Reached}
 use Rattle.turnstile.specs.declared.view.Part.{Part}
 use Rattle.turnstile.specs.declared.view.View.{View}
 use Rattle.turnstile.specs.History.{of_number, BeginsWith}
-use Rattle.turnstile.specs.Rule.{total, Each, one_if_some, one_if, births_of, parts, times, rights, in_line, waits, Facts, StageOk, PartOk, HasZero, LacksZero, ViewOk, PastOk, SlotOk, Holds, Rule}
+use Rattle.turnstile.specs.Rule.{total, Each, one_if_some, one_if, births_of, parts, times, rights, in_line, Facts, StageOk, PartOk, ViewOk, SlotOk, Rule}
 use Rattle.turnstile.specs.Steps.{Fits, at_stage, spent, ReachesAt, reached, Closes}
 use Rattle.turnstile.specs.Passes.{number, fixed, seen, made, born, known, numbers, AreAll}
 use Rattle.turnstile.proofs.Totals.{total-at, total-two}
-use Rattle.turnstile.proofs.Moves.{Change, changed, same_counts, unmoved, my_turn, relined, each-map, if_some-map, if_some-at, one_if-same, past_same}
+use Rattle.turnstile.proofs.Moves.{changed, same_counts, unmoved, my_turn, relined, each-map, if_some-map, if_some-at, one_if-same}
 use Rattle.turnstile.proofs.Joins.{added}
 
 module _ {I : Type 0} where

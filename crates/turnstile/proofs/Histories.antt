@@ -1,6 +1,5 @@
 -- Lists of numbered items that grow at the end.
-use Rattle.std.proofs.Common.{◌≡◌, ◌≢◌, ℕ, List, [], ◌∷◌, ◌++◌, map, refl, sym, ap, ◌∙◌, append_assoc, eq-eqb, ne_eqb, cond, eqb, true, false, Bool, subst}
-use Rattle.std.specs.List.{filter}
+use Rattle.std.proofs.Common.{◌≡◌, ◌≢◌, ℕ, List, [], ◌∷◌, ◌++◌, map, refl, sym, ap, ◌∙◌, append_assoc, eq-eqb, ne_eqb, eqb}
 use Rattle.std.proofs.lemmas.List.Elements.{filter-append}
 use Rattle.std.proofs.lemmas.List.{map-append, append-nil}
 use Rattle.turnstile.specs.History.{of_number, by_number, BeginsWith}

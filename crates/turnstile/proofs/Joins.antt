@@ -1,5 +1,5 @@
 -- Copies, joins and comparisons keep the rule of the lock.
-use Rattle.std.proofs.Common.{◌≡◌, ◌≢◌, ℕ, zero, suc, ◌+◌, ◌-◌, ◌%◌, ◌^◌, ◌<◌, ◌≤◌, Bool, true, false, cond, leb, eqb, List, [], ◌∷◌, ◌++◌, length, append-nil, append_assoc, Option, Some, None, set, get_or, refl, sym, ap, ◌∙◌, subst, arith, ⊎_elim, leb-true, leb-false}
+use Rattle.std.proofs.Common.{◌≡◌, ◌≢◌, ℕ, ◌+◌, ◌<◌, ◌≤◌, Bool, true, false, cond, leb, List, [], ◌∷◌, ◌++◌, length, append-nil, append_assoc, Option, None, set, refl, sym, ap, ◌∙◌, subst, arith, ⊎_elim, leb-true, leb-false}
 use Rattle.std.specs.Prelude.{IfSome}
 use Rattle.std.proofs.lemmas.List.{set-get_or}
 use mathlib.Core.Option.{some, none}
@@ -8,15 +8,14 @@ use native.Mathlib.Decide.{ℕ_discrete}
 use lib.ListN.{get_elem?}
 use Rattle.atomic_table.specs.Table.{State, Me, step, keeps, Allows, Splits, Joins}
 use Rattle.atomic_table.proofs.Lists.{at_set, at_snoc, set_again, set_else}
-use Rattle.turnstile.specs.declared.view.Stage.{Stage}
 use Rattle.turnstile.specs.declared.view.Stage.TheVariants.{Idle}
 use Rattle.turnstile.specs.declared.view.Part.{Part}
 use Rattle.turnstile.specs.declared.view.View.{View}
 use Rattle.turnstile.specs.History.{BeginsWith, longer}
-use Rattle.turnstile.specs.Rule.{total, Each, one_if_some, one_if, births_of, parts, times, rights, in_line, waits, Facts, StageOk, PartOk, HasZero, LacksZero, ViewOk, PastOk, SlotOk, Holds, Rule}
+use Rattle.turnstile.specs.Rule.{total, Each, one_if_some, one_if, births_of, parts, times, rights, in_line, waits, Facts, PartOk, ViewOk, Holds, Rule}
 use Rattle.turnstile.specs.Steps.{copy_of, joined, spent, ComparesWith, compared}
 use Rattle.turnstile.proofs.Totals.{total-set, total-push, total-append, total-two}
-use Rattle.turnstile.proofs.Moves.{Change, changed, same_counts}
+use Rattle.turnstile.proofs.Moves.{changed, same_counts}
 
 module _ {X : Type 0} where
   same_head : (x y : X) (xs ys : List X) → x ∷ xs ≡ y ∷ ys → x ≡ y

@@ -1,6 +1,6 @@
 -- Each step of a turn keeps the rule of the lock.
-use Rattle.std.proofs.Common.{◌≡◌, ◌≢◌, ℕ, zero, suc, ◌+◌, ◌-◌, ◌%◌, ◌^◌, ◌<◌, ◌≤◌, Bool, true, false, eqb, List, [], ◌∷◌, ◌++◌, Option, Some, None, set, get_or, refl, sym, ap, ◌∙◌, subst, arith, eq-eqb, ne_eqb, eqb-true, cond, inl, inr, ⊎_elim}
-use Rattle.std.specs.Prelude.{IfSome, Contains}
+use Rattle.std.proofs.Common.{◌≡◌, ◌≢◌, ℕ, zero, suc, ◌+◌, ◌%◌, ◌^◌, ◌<◌, ◌≤◌, Bool, true, false, eqb, List, [], ◌∷◌, ◌++◌, Option, Some, None, set, get_or, refl, sym, ap, ◌∙◌, subst, arith, eq-eqb, ne_eqb, cond, ⊎_elim}
+use Rattle.std.specs.Prelude.{IfSome}
 use Rattle.std.proofs.lemmas.List.{set-get_or}
 use mathlib.Core.Option as maybe
 use mathlib.Core.Option.{some, none, some-injective, some-ne-none}
@@ -14,10 +14,10 @@ use Rattle.turnstile.specs.declared.view.Stage.TheVariants.{Idle, Waiting, Servi
 use Rattle.turnstile.specs.declared.view.Part.{Part}
 use Rattle.turnstile.specs.declared.view.View.{View}
 use Rattle.turnstile.specs.History.{of_number, by_number, BeginsWith}
-use Rattle.turnstile.specs.Rule.{total, Each, one_if_some, one_if, births_of, parts, times, rights, in_line, waits, Facts, StageOk, PartOk, HasZero, LacksZero, ViewOk, PastOk, SlotOk, Holds, Rule}
-use Rattle.turnstile.specs.Steps.{first_view, made_in, turned_to, at_stage, drew, Fits, LooksAt, looked, GivesBack, passed, IsReady}
-use Rattle.turnstile.proofs.Totals.{total-set, total-at, total-two, total-le}
-use Rattle.turnstile.proofs.Histories.{own_after, other_after, begins-itself, begins-longer}
+use Rattle.turnstile.specs.Rule.{total, Each, one_if, parts, times, rights, in_line, waits, Facts, StageOk, PartOk, ViewOk, PastOk, SlotOk, Holds, Rule}
+use Rattle.turnstile.specs.Steps.{first_view, made_in, turned_to, at_stage, drew, LooksAt, looked, GivesBack, passed, IsReady}
+use Rattle.turnstile.proofs.Totals.{total-set, total-two, total-le}
+use Rattle.turnstile.proofs.Histories.{other_after, begins-itself, begins-longer}
 
 next_mod : (n : ℕ) → (n % 2 ^ 64 + 1) % 2 ^ 64 ≡ (n + 1) % 2 ^ 64
 next_mod n = omega arith

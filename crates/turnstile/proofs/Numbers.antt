@@ -1,5 +1,5 @@
 -- Drawing a number and handing it over keep the rule of the lock.
-use Rattle.std.proofs.Common.{◌≡◌, ◌≢◌, ℕ, zero, suc, ◌+◌, ◌-◌, ◌%◌, ◌^◌, ◌<◌, ◌≤◌, Bool, true, false, eqb, List, [], ◌∷◌, ◌++◌, append-nil, Option, Some, None, set, get_or, refl, sym, ap, ◌∙◌, subst, arith, ⊎_elim}
+use Rattle.std.proofs.Common.{◌≡◌, ◌≢◌, ℕ, ◌+◌, ◌-◌, ◌%◌, ◌^◌, ◌<◌, ◌≤◌, List, [], ◌∷◌, ◌++◌, append-nil, Option, Some, None, set, get_or, refl, sym, ap, ◌∙◌, subst, arith, ⊎_elim}
 use Rattle.std.specs.Prelude.{IfSome, Contains}
 use Rattle.std.specs.Option.{unwrap_or}
 use Rattle.std.proofs.lemmas.List.Elements.{Contains-append_left, Contains-push, Contains-push_cases}
@@ -13,11 +13,11 @@ use Rattle.turnstile.specs.declared.view.Stage.{Stage}
 use Rattle.turnstile.specs.declared.view.Stage.TheVariants.{Idle, Waiting, Serving, Reached}
 use Rattle.turnstile.specs.declared.view.Part.{Part}
 use Rattle.turnstile.specs.declared.view.View.{View}
-use Rattle.turnstile.specs.History.{of_number, BeginsWith}
-use Rattle.turnstile.specs.Rule.{total, Each, one_if_some, one_if, births_of, parts, times, rights, in_line, waits, Facts, StageOk, PartOk, HasZero, LacksZero, ViewOk, PastOk, SlotOk, Holds, Rule}
+use Rattle.turnstile.specs.History.{of_number}
+use Rattle.turnstile.specs.Rule.{total, Each, one_if_some, one_if, births_of, parts, times, rights, in_line, waits, Facts, StageOk, PartOk, ViewOk, PastOk, Holds, Rule}
 use Rattle.turnstile.specs.Steps.{drawn_number, handed_over, child, DrawsNumber, drew_number}
 use Rattle.turnstile.proofs.Totals.{total-set, total-push, total-two}
-use Rattle.turnstile.proofs.Moves.{if_some-at, if_some-map, one_if-small, one_if-same, one_if-other, each-map, same_parts, Change, changed}
+use Rattle.turnstile.proofs.Moves.{if_some-at, if_some-map, one_if-small, one_if-other, each-map, same_parts, changed}
 
 module _ {I F : Type 0} where
   same_stage : (h : Facts I F) (numbers handed : ℕ) (births : List ℕ) (j : ℕ) (st : Stage I) → StageOk h j st → StageOk (record h { numbers = numbers; handed = handed; births = births }) j st

@@ -61,6 +61,8 @@ mod meets;
 mod pass;
 mod plays;
 mod splits;
+#[cfg(test)]
+mod tests;
 mod turns;
 mod turnstile;
 mod view;

@@ -1,8 +1,8 @@
-use Rattle.std.proofs.Common.{◌≡◌, ◌<◌, ap, sym, ◌∙◌, subst, arith}
+use Rattle.std.proofs.Common.{◌<◌, ap, sym, ◌∙◌, subst, arith}
 use Rattle.turnstile.specs.declared.view.Stage.TheVariants.{Reached}
 use Rattle.turnstile.specs.Rule.{rights}
 use Rattle.turnstile.specs.Steps.{at_stage}
-use Rattle.turnstile.proofs.Closing.{gathering, right_of_some, closing_begins, closing_made, closing_fixed, closing_apart, closing_complete}
+use Rattle.turnstile.proofs.Closing.{right_of_some, closing_begins, closing_made, closing_fixed, closing_apart, closing_complete}
 use Rattle.turnstile.proofs.turnstile.Turnstile.close.Goals as goal
 
 pub reach-requires-clause-rests : goal.reach-requires-clause-rests

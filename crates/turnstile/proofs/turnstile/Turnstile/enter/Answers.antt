@@ -1,4 +1,4 @@
-use Rattle.std.proofs.Common.{rules, ◌≡◌, ◌<◌, ap, sym, ◌∙◌, subst, arith}
+use Rattle.std.proofs.Common.{◌<◌, ap, sym, ◌∙◌, subst, arith}
 use Rattle.turnstile.specs.Rule.{rights}
 use Rattle.turnstile.proofs.Moves.{draws, looks}
 use Rattle.turnstile.proofs.turnstile.Turnstile.enter.Goals as goal

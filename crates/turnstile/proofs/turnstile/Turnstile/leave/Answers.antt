@@ -1,4 +1,4 @@
-use Rattle.std.proofs.Common.{rules, ◌≡◌, ◌<◌, ap, sym, ◌∙◌, subst, arith}
+use Rattle.std.proofs.Common.{arith}
 use Rattle.turnstile.proofs.Moves.{passes}
 use Rattle.turnstile.proofs.turnstile.Turnstile.leave.Goals as goal
 

@@ -1,4 +1,4 @@
-use Rattle.std.proofs.Common.{◌≡◌, ◌<◌, ℕ, Some, ap, sym, ◌∙◌, subst, arith}
+use Rattle.std.proofs.Common.{◌<◌, ℕ, Some, ap, sym, ◌∙◌, subst, arith}
 use Rattle.turnstile.proofs.Numbers.{draws_number, hands_over}
 use Rattle.turnstile.proofs.turnstile.Turnstile.split.Goals as goal
 

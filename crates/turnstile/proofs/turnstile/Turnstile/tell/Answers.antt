@@ -1,4 +1,4 @@
-use Rattle.std.proofs.Common.{◌≡◌, ◌∷◌, ◌++◌, [], refl, ap, sym, ◌∙◌, arith}
+use Rattle.std.proofs.Common.{◌∷◌, ◌++◌, refl, ap, ◌∙◌, arith}
 use Rattle.turnstile.specs.Steps.{copy_of}
 use Rattle.turnstile.proofs.Joins.{copies, joins, compares}
 use Rattle.turnstile.proofs.turnstile.Turnstile.tell.Goals as goal

@@ -1,5 +1,5 @@
-use Rattle.std.proofs.Common.{◌≡◌, ℕ, ◌≤◌, ◌++◌, List, [], ◌∷◌, Option, Some, length, get_or, ap, sym, ◌∙◌, subst}
-use Rattle.turnstile.specs.History.{of_number, by_number, AddsAtMostOne}
+use Rattle.std.proofs.Common.{◌≡◌, ℕ, List, Some, get_or, ap, sym, ◌∙◌, subst}
+use Rattle.turnstile.specs.History.{of_number}
 use Rattle.turnstile.specs.Steps.{made_in, turned_to, Fits}
 use Rattle.turnstile.proofs.Moves.{if_some-at}
 use Rattle.turnstile.proofs.Histories.{own_after}
