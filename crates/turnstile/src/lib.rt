@@ -14,8 +14,8 @@
 //!
 //! Tickets and the slot
 //! - The first two words count modulo 2^64. The tickets that are out are the numbers from the count
-//!   of turns that have ended up to the count of tickets that were drawn. Each is in one view, which
-//!   has a number or a right to draw one.
+//!   of turns that have ended up to the count of tickets that were drawn. Each is in a view of its
+//!   own, which has a number.
 //! - The slot is out only with the view whose ticket is served. That view has the list of the value
 //!   as it was taken. Or else that view has left the value at home and keeps its turn for good.
 //!
@@ -45,6 +45,7 @@
 //! | draw a number | fetch_add on `numbers` | the splitter's | nothing |
 //! | split | a load | the new pass's comes to be; the splitter's notes that it handed the number over | nothing |
 //! | copy | a load | the copy's comes to be | nothing |
+//! | enter, to close: a place that knows nothing comes to be, and the passes are joined to it | a load | the new place's | nothing |
 //! | join | a load | both | nothing |
 //! | compare: of two lists that were seen, the longer begins with the shorter | a load | own: what it has seen | nothing |
 //! | draw a ticket | fetch_add on `ticket` | own | the turn's place is fixed |
