@@ -1,0 +1,69 @@
+ghost use Rattle.std.specs.Prelude.{◌≡◌, ℕ, [], ◌∷◌, Some, IfSome};
+ghost use Rattle.turnstile.specs.declared.view.Stage.TheVariants.{Serving, Idle};
+ghost use Rattle.turnstile.specs.History.{AddsAtMostOne};
+ghost use Rattle.turnstile.specs.Passes.{fixed, IsPassOf, IsSamePass, IsTurn};
+ghost use Rattle.turnstile.specs.Steps.{as_pass, at_stage, turned_to, Fits, IsReady};
+
+use crate::keeps::{Call, Keeps};
+use crate::pass::{Pass, Place};
+use crate::plays::{Draw, Look, PassOn};
+use crate::turnstile::{SERVING, TICKET, Turnstile};
+use crossbeam_utils::Backoff;
+use std::sync::Wait;
+
+impl<T: Keeps> Turnstile<T> {
+    /// One turn: draws a ticket, waits until it is served, runs the call on the value and passes
+    /// on. A ticket lock (Mellor-Crummey and Scott, 1991) serves the turns in the order in which
+    /// they drew their tickets.
+    pub fn turn<R: Wait, C: Call<T>>(&self, rt: &R, pass: &mut Pass<T>, call: C) -> C::Reply
+        requires own { IsPassOf self.now pass.old }
+        requires may { IfSome (fixed pass.old) (C.may_run call) }
+        ensures same { IsSamePass pass.old pass.new }
+        ensures turn { IsTurn (C.does call) pass.old pass.new result }
+    {
+        let number = pass.number;
+        self.enter(rt, &mut pass.seat);
+        let reply = self.serve(&mut pass.seat, number, call);
+        self.leave(&mut pass.seat);
+        reply
+    }
+
+    // Draws a ticket, and takes the value once it is served.
+    fn enter<R: Wait>(&self, rt: &R, place: &mut Place<T>)
+        requires own { place.old.table_id ≡ self.now.table.shared.table_id }
+        requires rests { (number room : ℕ) × (place.old.me ≡ as_pass number room place.old.me.0) }
+        ensures own { place.new.table_id ≡ place.old.table_id }
+        ensures taken { (ticket : ℕ) × (x : T) × (place.new.me ≡ (at_stage (Serving ticket (T.items x)) place.old.me.0, (0, x) ∷ [])) × Fits T.items T.fixed place.old.me.0.main x }
+    {
+        let ticket = self.table.shared.fetch_add::<Draw<T>>(place, TICKET, 1);
+        let backoff = Backoff::new();
+        for _ in rt.forever() {
+            if self.table.shared.load::<Look<T>>(place, SERVING) == ticket {
+                return;
+            }
+            backoff.snooze();
+        }
+        unreachable!()
+    }
+
+    // Runs the call on the value, which the pass has.
+    fn serve<C: Call<T>>(&self, place: &mut Place<T>, number: u64, call: C) -> C::Reply
+        requires own { place.old.table_id ≡ self.now.table.shared.table_id }
+        requires taken { (x : T) × (place.old.me.1 ≡ (0, x) ∷ []) × C.may_run call (T.fixed x) }
+        ensures own { place.new.table_id ≡ place.old.table_id }
+        ensures ran { (x y : T) × (place.old.me.1 ≡ (0, x) ∷ []) × (place.new.me ≡ (place.old.me.0, (0, y) ∷ [])) × (T.fixed y ≡ T.fixed x) × AddsAtMostOne number (T.items x) (T.items y) × C.does call x y number result }
+    {
+        let value = place.slot_mut(&self.table.shared, 0);
+        call.run(value, number)
+    }
+
+    // Gives the value back, and lets the next ticket be served.
+    fn leave(&self, place: &mut Place<T>)
+        requires own { place.old.table_id ≡ self.now.table.shared.table_id }
+        requires ready { IsReady T.items T.fixed place.old.me }
+        ensures own { place.new.table_id ≡ place.old.table_id }
+        ensures gave { (y : T) → place.old.me.1 ≡ (0, y) ∷ [] → (place.new.me ≡ (record place.old.me.0 { main = turned_to (T.items y) place.old.me.0.main; stage = Idle }, [])) }
+    {
+        self.table.shared.fetch_add::<PassOn<T>>(place, SERVING, 1);
+    }
+}
