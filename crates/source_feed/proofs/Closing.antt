@@ -1,19 +1,18 @@
 -- What is told closes with the end of the source, its only one, or has none and a refusal comes.
-use Rattle.std.proofs.Common.{◌≡◌, ◌++◌, ◌&&◌, ℕ, List, [], ◌∷◌, map, Option, Some, None, Bool, true, false, not, Result, Ok, Err, refl, sym, ap, subst, ◌∙◌, append_assoc}
+use Rattle.std.proofs.Common.{◌≡◌, ◌++◌, ◌&&◌, ℕ, List, [], ◌∷◌, map, Option, Some, None, Bool, true, false, not, Result, Ok, Err, refl, subst, ◌∙◌, append_assoc}
 use Rattle.std.specs.Prelude.{◌+◌, ◌==◌, ◌||◌, ℤ, codes, length, nat_le, option_map, IfOk, IfSome, if◌then◌else◌}
 use Rattle.std.specs.Str.{bytes_eq}
 use Rattle.std.specs.List.{list_all}
 use Rattle.std.proofs.lemmas.List.{map-append}
 use Rattle.std.proofs.lemmas.List.Folds.{list_all-append, list_all-map}
 use Rattle.csv.specs.Reading.{default_config, records, strip_bom}
-use Rattle.stream_base.specs.declared.entry.Entry.{Entry}
 use Rattle.stream_base.specs.declared.what.What.{What}
 use Rattle.stream_base.specs.declared.what.What.TheVariants.{Tuple, Mark, Water, End}
 use Rattle.source_feed.specs.Feeding.{Feeding, ended_of, told_in, told_of, unread}
 use Rattle.source_feed.specs.declared.whole.TheConstants.{SOURCE_MAX}
 use Rattle.source_feed.specs.Pace.{as_waters, made_by, paced, told_from, with_made_from, with_water}
 use Rattle.source_feed.specs.Record.{◌>>=◌, field, is_empty, is_header, key_in, mark_of, time_in, tuple_of, value_in, water_of, what_of}
-use Rattle.source_feed.specs.Rows.{Said, ending, rows_of, said_by, said_from, told_by, with_record}
+use Rattle.source_feed.specs.Rows.{Said, ending, rows_of, said_by, said_from, with_record}
 use Rattle.source_feed.specs.RowsLeft.{is_ended, told_at}
 use Rattle.source_feed.specs.SaidLeft.{said_after}
 use Rattle.source_feed.specs.Told.{IsWhole, Told, Refusal, only_refused, too_long, entry_of, is_end, is_inner}

@@ -1,10 +1,11 @@
 -- What a feed gave, and what it still tells, is what it told at first.
-use Rattle.std.proofs.Common.{◌≡◌, ◌++◌, ℕ, List, [], ◌∷◌, Option, Some, None, Bool, true, refl, sym, ap, subst, ◌∙◌, append_assoc}
-use Rattle.std.specs.Prelude.{IfSome, option_map, unwrap_or, ⊤}
+use Rattle.std.proofs.Common.{◌≡◌, ◌++◌, ℕ, List, [], ◌∷◌, Option, Some, None, true, refl, sym, ap, append_assoc}
+use Rattle.std.specs.Prelude.{IfSome, if◌then◌else◌, is_ok, option_map, unwrap_or, ⊤, Result, Ok, Err, false}
+use Rattle.std.specs.Result.{is_err}
 use Rattle.std.proofs.lemmas.List.{append-nil}
 use Rattle.stream_base.specs.declared.entry.Entry.{Entry}
 use Rattle.source_feed.specs.FeedFault.{Ends}
-use Rattle.source_feed.specs.Told.{IsWhole, Refusal, StaysTold, Told, nothing_left, only_refused, with_first}
+use Rattle.source_feed.specs.Told.{IsWhole, Refusal, StaysTold, Told, nothing_left, with_first}
 
 -- what was told at first is what was given, and then what is told now
 abbrev pub Gave : Option Told → Option Told → List Entry → Type 0
@@ -53,3 +54,9 @@ gave_refused None old new given (Some refusal) g e = tt
 gave_refused (Some told) old new given (Some refusal) g e =
     let last = rw g.1 at e in
     ap (λ (t : Told). t.refusal) last.0
+
+-- a push that didn't fail
+pub pushed : {X T E : Type 0} (answer : Result T E) (old new : List X) (entry : X) → is_err answer ≡ false
+    → new ≡ (if is_ok answer then old ++ entry ∷ [] else old) → new ≡ old ++ entry ∷ []
+pushed (Ok x) old new entry e h = h
+pushed (Err x) old new entry e h = cc e

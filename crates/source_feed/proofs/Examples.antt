@@ -1,5 +1,5 @@
 -- What the definitions give at worked examples.
-use Rattle.std.proofs.Common.{◌≡◌, [], ◌∷◌, refl, Option, None, Some, Ok, Err}
+use Rattle.std.proofs.Common.{◌≡◌, [], ◌∷◌, refl, None, Some, Ok, Err}
 use Rattle.std.specs.Prelude.{codes, pos, negsuc}
 use Rattle.csv.specs.Machine.{next_record}
 use Rattle.csv.specs.Reading.{records_from, strip_bom}
@@ -8,7 +8,7 @@ use Rattle.stream_base.specs.declared.what.What.TheVariants.{Tuple, Mark, Water,
 use Rattle.source_feed.specs.Record.{time_in, value_in, what_of}
 use Rattle.source_feed.specs.Rows.{rows_of, said_from, with_made}
 use Rattle.source_feed.specs.Told.{bad_row, entry_of}
-use Rattle.source_feed.specs.declared.row_why.RowWhy.TheVariants.{Kind, Fields, Time, Value, Key}
+use Rattle.source_feed.specs.declared.row_why.RowWhy.TheVariants.{Time, Value}
 
 least_value : value_in (codes "-9223372036854775808") ≡ Ok (negsuc 9223372036854775807)
 least_value = refl

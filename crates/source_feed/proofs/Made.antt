@@ -1,12 +1,12 @@
 -- The watermarks that are made, by two counters and by all that was said.
-use Rattle.std.proofs.Common.{◌≡◌, ◌+◌, ◌-◌, ◌++◌, ℕ, List, [], ◌∷◌, length, Bool, true, false, refl, sym, ap, subst, arith, ◌∙◌, length-append}
-use Rattle.std.specs.Prelude.{max, Option, Some, None, filter, fold, if◌then◌else◌}
+use Rattle.std.proofs.Common.{◌≡◌, ◌+◌, ◌-◌, ◌++◌, ℕ, List, [], ◌∷◌, length, Bool, true, false, refl, arith, length-append}
+use Rattle.std.specs.Prelude.{max, Some, None, filter, if◌then◌else◌}
 use Rattle.std.proofs.lemmas.List.Sums.{fold-append}
 use Rattle.std.proofs.lemmas.List.Elements.{filter-append}
 use Rattle.stream_base.specs.declared.what.What.{What}
 use Rattle.stream_base.specs.declared.what.What.TheVariants.{Tuple, Mark, Water, End}
 use Rattle.source_feed.specs.Pace.{as_waters, made_by, paced, told_from, with_made_from}
-use Rattle.source_feed.specs.Rows.{Said, ending, greatest_time, is_made, is_tuple, made_after, told_by, tuple_count, tuple_time, with_made}
+use Rattle.source_feed.specs.Rows.{Said, greatest_time, is_made, is_tuple, made_after, told_by, tuple_count, tuple_time, with_made}
 use Rattle.source_feed.specs.declared.pace.Pace.{Pace}
 
 count_push : (before : List What) (what : What) → tuple_count (before ++ what ∷ []) ≡ tuple_count before + length (filter is_tuple (what ∷ []))

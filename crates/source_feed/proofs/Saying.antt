@@ -1,13 +1,13 @@
 -- What the records that are left say, one after another.
-use Rattle.std.proofs.Common.{◌≡◌, ◌≤◌, ◌<◌, ◌+◌, ◌^◌, ℕ, zero, suc, List, [], ◌∷◌, length, Bool, true, false, refl, sym, ap, subst, arith, ◌∙◌}
-use Rattle.std.specs.Prelude.{◌==◌, Result, Ok, Err, Option, Some, None, IfOk, if◌then◌else◌}
+use Rattle.std.proofs.Common.{◌≡◌, ◌<◌, ◌+◌, ◌^◌, ℕ, List, [], ◌∷◌, length, Bool, true, false, refl, arith, ◌∙◌}
+use Rattle.std.specs.Prelude.{◌==◌, Result, Ok, Err, Option, Some, IfOk, if◌then◌else◌}
 use Rattle.std.proofs.lemmas.Bool.Decides.{nat_tests}
 use Rattle.csv.specs.declared.reader.Reader.{Reader}
 use Rattle.stream_base.specs.declared.what.What.{What}
 use Rattle.source_feed.specs.Record.{is_header, what_of}
-use Rattle.source_feed.specs.RecordsLeft.{IsReadable, TookRecord, records_left}
-use Rattle.source_feed.specs.Rows.{Said, said_by, said_from, with_record}
-use Rattle.source_feed.specs.SaidLeft.{GoesOn, TookData, nothing_said, said_after, with_what}
+use Rattle.source_feed.specs.RecordsLeft.{TookRecord, records_left}
+use Rattle.source_feed.specs.Rows.{said_by, said_from}
+use Rattle.source_feed.specs.SaidLeft.{TookData, nothing_said, said_after, with_what}
 use Rattle.source_feed.specs.Told.{bad_row}
 use Rattle.source_feed.specs.declared.row_why.RowWhy.{RowWhy}
 

@@ -1,5 +1,5 @@
 -- What a feed's fault says of what it told.
-use Rattle.std.specs.Prelude.{◌≡◌, ℕ, Bool, true, false, Option, None, Some, ⊤}
+use Rattle.std.specs.Prelude.{◌≡◌, Option, None, Some, ⊤}
 use Rattle.source_feed.specs.Told.{Refusal, Told, bad_row, only_refused, too_long}
 use Rattle.source_feed.specs.declared.feed_fault.FeedFault.{FeedFault}
 use Rattle.source_feed.specs.declared.feed_fault.FeedFault.TheVariants.{Read, TooLong, Row, NoMemory}

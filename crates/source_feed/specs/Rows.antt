@@ -2,7 +2,7 @@
 use Rattle.std.specs.Prelude.{◌==◌, ◌&&◌, ◌+◌, ◌-◌, ◌%◌, ◌++◌, ℕ, max, Bool, true, false, List, [], ◌∷◌, length, map, filter, fold, Option, None, Some, Result, Ok, Err, if◌then◌else◌, nat_le}
 use Rattle.csv.specs.Reading.{default_config, records, strip_bom}
 use Rattle.stream_base.specs.declared.what.What.{What}
-use Rattle.stream_base.specs.declared.what.What.TheVariants.{Tuple, Mark, Water, End}
+use Rattle.stream_base.specs.declared.what.What.TheVariants.{Tuple, Water, End}
 use Rattle.source_feed.specs.Record.{is_header, what_of}
 use Rattle.source_feed.specs.Told.{Refusal, bad_row, Told, entry_of}
 use Rattle.source_feed.specs.declared.row_why.RowWhy.{RowWhy}

@@ -1,13 +1,11 @@
 -- What the rows of a source have left.
-use Rattle.std.specs.Prelude.{◌≡◌, ◌≤◌, ◌<◌, ◌+◌, ◌^◌, ◌==◌, ℕ, Bool, true, false, List, [], ◌∷◌, length, Option, None, Some, Result, Ok, Err, ⊤, IfSome, if◌then◌else◌}
+use Rattle.std.specs.Prelude.{◌≡◌, ◌≤◌, ◌<◌, ◌+◌, ◌^◌, ℕ, Bool, true, false, length, Option, None, Some, ⊤, IfSome}
 use Rattle.stream_base.specs.declared.limits.TheConstants.{TIME_MAX}
-use Rattle.stream_base.specs.declared.what.What.{What}
-use Rattle.csv.specs.declared.reader.Reader.{Reader}
 use Rattle.source_feed.specs.Pace.{told_from, with_water}
 use Rattle.source_feed.specs.RecordsLeft.{IsReadable, records_left, text_left}
-use Rattle.source_feed.specs.Rows.{Said, said_by, said_from}
+use Rattle.source_feed.specs.Rows.{Said}
 use Rattle.source_feed.specs.Coming.{Coming}
-use Rattle.source_feed.specs.Told.{Told, bad_row, nothing_left, only_refused, time_of}
+use Rattle.source_feed.specs.Told.{Told, bad_row, nothing_left, only_refused}
 use Rattle.source_feed.specs.declared.pace.Pace.{Pace}
 use Rattle.source_feed.specs.declared.row_fault.RowFault.{RowFault}
 use Rattle.source_feed.specs.declared.row_fault.RowFault.TheVariants.{Refused, NoMemory}

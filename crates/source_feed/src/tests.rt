@@ -1,3 +1,5 @@
+mod drained;
+
 use crate::{Feed, FeedFault, FileFeed, RowFault, RowWhy, Rows, WholeFault, read_whole, route};
 use std::alloc::{AllocError, Global};
 use std::str;

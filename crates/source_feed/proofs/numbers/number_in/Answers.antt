@@ -1,5 +1,5 @@
 -- Before the 19th digit the number is below 10^18.
-use Rattle.std.proofs.Common.{◌≤◌, ◌<◌, ◌^◌, lit<, arith}
+use Rattle.std.proofs.Common.{◌≤◌, ◌^◌, lit<, arith}
 use Rattle.std.proofs.Math.Nat.{pow-le-pow_right}
 use Rattle.source_feed.proofs.numbers.number_in.Goals as goal
 

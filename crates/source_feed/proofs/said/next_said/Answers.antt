@@ -1,4 +1,4 @@
-use Rattle.std.proofs.Common.{sym, ◌∙◌, arith}
+use Rattle.std.proofs.Common.{sym, ◌∙◌}
 use Rattle.csv.specs.Records.{fields_of}
 use Rattle.source_feed.specs.RecordsLeft.{records_left}
 use Rattle.source_feed.proofs.Saying.{refuses, says_next}
