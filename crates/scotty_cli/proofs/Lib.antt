@@ -1,2 +1,4 @@
 pub mod Feedings
+pub mod Sourced
 pub mod Told
+pub mod WordFacts

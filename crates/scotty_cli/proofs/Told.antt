@@ -1,5 +1,5 @@
 -- What the bytes that were read say of the bytes that a file tells.
-use Rattle.std.proofs.Common.{◌≡◌, ◌∙◌, ◌≤◌, ◌<◌, ◌+◌, ◌++◌, ℕ, List, [], length, Option, Some, None, Result, Ok, Err, inl, inr, refl, ap, sym, subst, arith, append-nil, length-append, false, ltb, leb}
+use Rattle.std.proofs.Common.{◌≡◌, ◌∙◌, ◌<◌, ◌+◌, ◌++◌, ℕ, List, [], length, Option, Some, None, Result, Ok, Err, inl, inr, refl, ap, sym, subst, arith, append-nil, length-append, false, leb}
 use Rattle.std.proofs.lemmas.Bool.Decides.{nat_tests}
 use Rattle.std.specs.Prelude.{IfOk, IfErr, IfSome, IsErrOf, OnOk, Vec}
 use Rattle.std.specs.declared.alloc.Global.{Global}
@@ -40,10 +40,12 @@ long_is_refused bytes h =
     let long : leb (length bytes) BYTES_MAX ≡ false = grind (arith, nat_tests) in
     rw long refl
 
-rose_from_none : (faults reads after : ℕ) → Rose 0 faults → (0 < faults → Rose reads after) → Rose reads after
+-- a count that rose from none rose above it
+pub rose_from_none : (faults reads after : ℕ) → Rose 0 faults → (0 < faults → Rose reads after) → Rose reads after
 rose_from_none faults reads after (inl more) h = h more
 rose_from_none faults reads after (inr last) h = h (omega arith)
 
+-- what holds of an error, weakened
 pub if_err : {T E : Type 0} (r : Result T E) (P Q : E → Type 0) → IfErr r P → ((e : E) → P e → Q e) → IfErr r Q
 if_err (Ok x) P Q h f = tt
 if_err (Err e) P Q h f = f e h

@@ -1,5 +1,5 @@
 -- Why a run stops, by the words, by what the files tell, and by the counts of failed opens and reads before and after it.
-use Rattle.std.specs.Prelude.{◌≡◌, ◌<◌, ◌⊎◌, ℕ, true, false, List, length, Option, Some, None, Result, Ok, Err, Vec}
+use Rattle.std.specs.Prelude.{◌≡◌, ◌<◌, ℕ, true, false, List, length, Option, Some, None, Result, Ok, Err, Vec}
 use Rattle.std.specs.declared.alloc.Global.{Global}
 use Rattle.source_feed.specs.declared.whole_fault.WholeFault.{WholeFault}
 use Rattle.source_feed.specs.declared.whole_fault.WholeFault.TheVariants.{Read as WholeRead, TooLong as WholeTooLong, NoMemory as WholeMemory}
@@ -16,7 +16,6 @@ use Rattle.window_defs.specs.declared.defs_fault.DefsFault.TheVariants.{NoMemory
 use Rattle.emission_text.specs.declared.fault.Fault.{Fault}
 use Rattle.emission_text.specs.declared.fault.Fault.TheVariants.{Usage, Unbuilt, Defs, Unopened, Row, Read, FullSource, FullShard, NoMemory}
 use Rattle.scotty_cli.specs.Feeding.{has_mark}
-use Rattle.scotty_cli.specs.Words.{IsCommand, IsName, plain_words}
 
 -- a count before and after
 pub record Count : Type 0 where

@@ -10,9 +10,24 @@ abbrev pub way_word : Way → List ℕ
 way_word turns = codes "turns"
 way_word mail = codes "mail"
 
+-- the word of a way
+abbrev pub IsWay : List ℕ → Type 0
+IsWay word = (way : Way) × (word ≡ way_word way)
+
 -- a name is any nonempty word
 abbrev pub IsName : List ℕ → Type 0
 IsName word = 0 < length word
+
+-- the decimal text, with no sign and no leading zero, of a number from `least` to `most`
+pub record IsNumberWithin (least most : ℕ) (word : List ℕ) : Type 0 where
+  pub number : ℕ
+  pub at_least : least ≤ number
+  pub at_most : number ≤ most
+  pub spelled : word ≡ decimal number
+
+-- 1 to 16 names
+abbrev pub AreSources : List (List ℕ) → Type 0
+AreSources sources = (1 ≤ length sources) × (length sources ≤ 16) × All IsName sources
 
 -- the words of a run: a definitions file, 1 to 16 shards, how feeds hand on, and 1 to 16 sources; numbers are decimal, with no sign and no leading zero
 pub record IsRun (words : List (List ℕ)) : Type 0 where
@@ -48,6 +63,10 @@ pub record IsMade (words : List (List ℕ)) : Type 0 where
 abbrev pub IsCommand : List (List ℕ) → Type 0
 IsCommand words = IsRun words ⊎ IsMade words
 
--- the words of the run that is built: one shard, one source, by turns
+-- how a run of one shard and one source by turns is spelled
 abbrev pub plain_words : List ℕ → List ℕ → List (List ℕ)
 plain_words defs source = codes "run" ∷ defs ∷ codes "1" ∷ codes "turns" ∷ source ∷ []
+
+-- the words are those of a run of one shard and one source, by turns
+abbrev pub IsPlainRun : List (List ℕ) → Type 0
+IsPlainRun words = (run : IsRun words) × (run.shards ≡ 1) × (run.way ≡ turns) × (length run.sources ≡ 1)

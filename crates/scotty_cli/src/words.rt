@@ -1,27 +1,36 @@
-//! The words of the command line.
-ghost use Rattle.std.specs.Prelude.{◌≡◌, ◌≤◌, ◌<◌, ◌↔◌, ◌∷◌, ◌^◌, [], ℕ, List, length, map, decimal, codes, string_bytes, IsTrue, IfSome, None};
-ghost use Rattle.scotty_cli.specs.Words.{IsCommand, IsMade, IsName, IsRun, plain_words};
+//! The words of the command line, those after the program's name: which of them are commands, and
+//! which are the run of one shard and one source by turns.
+ghost use Rattle.std.specs.Prelude.{◌≡◌, ◌↔◌, ℕ, List, map, decimal, string_bytes, All, IsTrue, IfSome, IfNone};
+ghost use Rattle.scotty_cli.specs.Words.{IsCommand, IsMade, IsName, IsNumberWithin, IsPlainRun, IsRun, IsWay, AreSources, plain_words};
 
 use itoa::Buffer;
 
-/// The words of the run that is built: the name of the definitions, and of the one source.
+/// The names in the words of a run of one shard and one source by turns: of the definitions, and of
+/// the source.
 #[derive(Clone, Copy, Debug)]
 pub struct PlainRun<'a> {
     pub defs: &'a str,
     pub source: &'a str,
 }
 
-/// Whether the words are those of a command.
-pub fn is_command(words: &[String]) -> bool {
+/// Whether the words are those of a command: `run`, or `made`.
+pub fn is_command(words: &[String]) -> bool
+    ensures { IsTrue result ↔ IsCommand (map string_bytes words.now) }
+{
     is_run(words) || is_made(words)
 }
 
 /// The run of one shard and one source by turns, if the words are those of one.
-pub fn plain_run(words: &[String]) -> Option<PlainRun<'_>> {
+pub fn plain_run(words: &[String]) -> Option<PlainRun<'_>>
+    ensures found { IfSome result (λ p. (map string_bytes words.now ≡ plain_words p.defs.now p.source.now) × IsName p.defs.now × IsName p.source.now) }
+    ensures none { IfNone result ((defs source : List ℕ) → IsName defs → IsName source → ¬ (map string_bytes words.now ≡ plain_words defs source)) }
+{
     match words {
         [run, defs, shards, way, source] => {
-            let plain = run.as_str() == "run" && shards.as_str() == "1" && way.as_str() == "turns";
-            if plain && is_name(defs) && is_name(source) {
+            let plain = says(run.as_str(), "run")
+                && says(shards.as_str(), "1")
+                && says(way.as_str(), "turns");
+            if plain && is_name(defs.as_str()) && is_name(source.as_str()) {
                 Some(PlainRun {
                     defs: defs.as_str(),
                     source: source.as_str(),
@@ -34,51 +43,95 @@ pub fn plain_run(words: &[String]) -> Option<PlainRun<'_>> {
     }
 }
 
-fn is_run(words: &[String]) -> bool {
+/// The runs of one shard and one source by turns are those that `plain_words` spells; each is a
+/// command.
+#[tactic(auto, using(crate::proofs::WordFacts::plain_is_spelled, crate::proofs::WordFacts::spelled_is_plain))]
+pub fn plain_words_spell_the_plain_runs()
+    ensures spelled { (words : List (List ℕ)) → IsPlainRun words → (defs : List ℕ) × (source : List ℕ) × IsName defs × IsName source × (words ≡ plain_words defs source) }
+    ensures plain { (defs source : List ℕ) → IsName defs → IsName source → IsPlainRun (plain_words defs source) }
+    ensures command { (defs source : List ℕ) → IsName defs → IsName source → IsCommand (plain_words defs source) }
+{}
+
+// `run DEFS SHARDS FEED SOURCE..`, with 1 to 16 sources.
+fn is_run(words: &[String]) -> bool
+    ensures { IsTrue result ↔ IsRun (map string_bytes words.now) }
+{
     match words {
         [run, defs, shards, way, sources @ ..] => {
-            run.as_str() == "run"
-                && is_name(defs)
-                && is_number_within(shards, 1, 16)
-                && is_way(way)
+            says(run.as_str(), "run")
+                && is_name(defs.as_str())
+                && is_number_within(shards.as_str(), 1, 16)
+                && is_way(way.as_str())
                 && are_sources(sources)
         }
         _ => false,
     }
 }
 
-fn is_made(words: &[String]) -> bool {
+// `made SEED ROWS SOURCES SHARDS FEED`.
+fn is_made(words: &[String]) -> bool
+    ensures { IsTrue result ↔ IsMade (map string_bytes words.now) }
+{
     match words {
         [made, seed, rows, sources, shards, way] => {
-            made.as_str() == "made"
-                && is_number_within(seed, 0, u64::MAX)
-                && is_number_within(rows, 1, 1_000_000)
-                && is_number_within(sources, 1, 16)
-                && is_number_within(shards, 1, 16)
-                && is_way(way)
+            says(made.as_str(), "made")
+                && is_number_within(seed.as_str(), 0, u64::MAX)
+                && is_number_within(rows.as_str(), 1, 1_000_000)
+                && is_number_within(sources.as_str(), 1, 16)
+                && is_number_within(shards.as_str(), 1, 16)
+                && is_way(way.as_str())
         }
         _ => false,
     }
 }
 
-fn are_sources(sources: &[String]) -> bool {
-    !sources.is_empty() && sources.len() <= 16 && sources.iter().all(|source| is_name(source))
+// 1 to 16 names.
+fn are_sources(words: &[String]) -> bool
+    ensures { IsTrue result ↔ AreSources (map string_bytes words.now) }
+{
+    !words.is_empty() && words.len() <= 16 && are_names(words)
 }
 
-fn is_name(word: &String) -> bool {
-    !word.as_str().is_empty()
+fn are_names(words: &[String]) -> bool
+    ensures { IsTrue result ↔ All IsName (map string_bytes words.now) }
+{
+    words.iter().all(|word| is_name(word.as_str()))
 }
 
-fn is_way(word: &String) -> bool {
-    word.as_str() == "turns" || word.as_str() == "mail"
+// Whether the word is this text.
+fn says(word: &str, text: &str) -> bool
+    ensures { IsTrue result ↔ (word.now ≡ text.now) }
+{
+    word == text
+}
+
+// Any nonempty word, also one that begins with `-`.
+fn is_name(word: &str) -> bool
+    ensures { IsTrue result ↔ IsName word.now }
+{
+    !word.is_empty()
+}
+
+// How feeds hand on their entries.
+fn is_way(word: &str) -> bool
+    ensures { IsTrue result ↔ IsWay word.now }
+{
+    word == "turns" || word == "mail"
 }
 
 // Decimal, with no sign and no leading zero.
-fn is_number_within(word: &String, least: u64, most: u64) -> bool {
-    match word.as_str().parse::<u64>() {
-        Ok(number) => {
-            least <= number && number <= most && Buffer::new().format(number) == word.as_str()
-        }
+fn is_number_within(word: &str, least: u64, most: u64) -> bool
+    ensures { IsTrue result ↔ IsNumberWithin least most word.now }
+{
+    match word.parse::<u64>() {
+        Ok(number) => is_spelled(word, number) && least <= number && number <= most,
         Err(_) => false,
     }
+}
+
+// Whether the word is what a display writes of the number.
+fn is_spelled(word: &str, number: u64) -> bool
+    ensures { IsTrue result ↔ (word.now ≡ decimal number) }
+{
+    word == Buffer::new().format(number)
 }

@@ -1,8 +1,7 @@
 -- What the feed gives is what was told, and the shard takes it in.
-use Rattle.std.proofs.Common.{◌≡◌, ◌∙◌, ap, sym, subst, true, false, Some, None, Ok, Option}
+use Rattle.std.proofs.Common.{◌≡◌, ◌∙◌, ap, subst, false, Some, None, Ok, Option}
 use Rattle.std.specs.Prelude.{IfSome}
 use Rattle.stream_base.specs.declared.entry.Entry.{Entry}
-use Rattle.stream_base.specs.Model.Journal.{has_ended}
 use Rattle.source_feed.specs.Told.{IsOf, StaysTold, with_first}
 use Rattle.source_feed.specs.Told.{is_end as ends}
 use Rattle.source_feed.specs.FeedFault.{refusal_of}
