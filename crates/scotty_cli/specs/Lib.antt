@@ -3,3 +3,4 @@ pub mod Feeding
 pub mod Statuses
 pub mod Causes
 pub mod Settling
+pub mod Running
