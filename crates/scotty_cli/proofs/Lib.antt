@@ -1,4 +1,5 @@
 pub mod Feedings
+pub mod Headline
 pub mod Sourced
 pub mod Told
 pub mod WordFacts
