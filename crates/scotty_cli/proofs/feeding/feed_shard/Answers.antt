@@ -36,9 +36,9 @@ loop-preserved g c =
       defs = c.take_in-progress.ensures.same.0 ∙ c.loop.invariant.defs;
       sources = c.take_in-progress.ensures.same.1 ∙ c.loop.invariant.sources;
       open_before = λ p.
-        let a = c.take_in-progress.ensures.ended p in
-        ended_with c.loop.shard.journal c.take_in-progress.new.shard.journal entry (f.ended c.next.new.self) (c.loop.invariant.open_before a.0 ∙ running) a.1 (of.0 ∙ c.loop.invariant.source) ending;
+          let a = c.take_in-progress.ensures.ended p in
+          ended_with c.loop.shard.journal c.take_in-progress.new.shard.journal entry (f.ended c.next.new.self) (c.loop.invariant.open_before a.0 ∙ running) a.1 (of.0 ∙ c.loop.invariant.source) ending;
       quiet = c.in-Ok-Some.ensures.quiet ∙ c.loop.invariant.quiet;
       takes = λ start told.
-        takes_one start (f.told c.loop.feed) (f.told c.next.new.self) c.loop.progress c.take_in-progress.result c.loop.shard.journal c.take_in-progress.new.shard.journal entry (c.loop.invariant.takes start told) given c.take_in-progress.ensures.taken;
+          takes_one start (f.told c.loop.feed) (f.told c.next.new.self) c.loop.progress c.take_in-progress.result c.loop.shard.journal c.take_in-progress.new.shard.journal entry (c.loop.invariant.takes start told) given c.take_in-progress.ensures.taken;
     }

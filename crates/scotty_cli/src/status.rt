@@ -1,0 +1,66 @@
+ghost use Rattle.std.specs.Prelude.{◌≡◌};
+ghost use Rattle.scotty_cli.specs.Statuses.{code_of, status_of};
+
+use emission_text::Fault;
+
+/// How a run ended. The program ends with its code.
+#[derive(Clone, Copy, Debug, PartialEq, Eq)]
+pub enum Status {
+    /// The report was written.
+    Done,
+    /// The words aren't in the grammar of the command line.
+    Usage,
+    /// The definitions were read and refused.
+    BadDefs,
+    /// A file couldn't be opened.
+    OpenFault,
+    /// A record of a source was refused.
+    BadRow,
+    /// A read of a file failed.
+    ReadFault,
+    /// A source has too many bytes, or a shard would have too many entries.
+    Full,
+    /// Memory ran out.
+    NoMemory,
+    /// A write of the report failed.
+    WriteFault,
+    /// The command, the definitions or the records are right, and aren't served yet.
+    Unbuilt,
+}
+
+impl Status {
+    /// The exit code: 0 to 8 in the order of the variants, and 20 for what isn't built yet.
+    pub fn code(&self) -> u8
+        ensures { result ≡ code_of self.now }
+    {
+        match self {
+            Status::Done => 0,
+            Status::Usage => 1,
+            Status::BadDefs => 2,
+            Status::OpenFault => 3,
+            Status::BadRow => 4,
+            Status::ReadFault => 5,
+            Status::Full => 6,
+            Status::NoMemory => 7,
+            Status::WriteFault => 8,
+            Status::Unbuilt => 20,
+        }
+    }
+}
+
+/// The status of a run that ended with a fault.
+pub fn status_of(fault: &Fault) -> Status
+    ensures { result ≡ status_of fault.now }
+{
+    match fault {
+        Fault::Usage => Status::Usage,
+        Fault::Unbuilt => Status::Unbuilt,
+        Fault::Defs(window_defs::DefsFault::NoMemory) => Status::NoMemory,
+        Fault::Defs(_) => Status::BadDefs,
+        Fault::Unopened { .. } => Status::OpenFault,
+        Fault::Row { .. } => Status::BadRow,
+        Fault::Read { .. } => Status::ReadFault,
+        Fault::FullSource { .. } | Fault::FullShard { .. } => Status::Full,
+        Fault::NoMemory => Status::NoMemory,
+    }
+}
