@@ -1,5 +1,5 @@
 -- Reports, position by position and shard by shard.
-use Rattle.std.proofs.Common.{◌≡◌, ◌+◌, ◌<◌, ◌++◌, ℕ, List, [], ◌∷◌, All, Some, length, map, take, drop, get_or, slice_get, sym, ap, ◌∙◌, append_assoc, refl, inl, inr, ◌≤◌, arith}
+use Rattle.std.proofs.Common.{◌≡◌, ◌+◌, ◌<◌, ◌++◌, ℕ, List, [], ◌∷◌, Some, length, map, take, drop, get_or, slice_get, sym, ap, ◌∙◌, append_assoc, refl, inl, inr, arith}
 use Rattle.std.specs.Option.{option_map_or}
 use Rattle.std.proofs.lemmas.List.Elements.{All-head, All-tail}
 use Rattle.std.proofs.lemmas.List.{at_drop_more, take_more}

@@ -17,14 +17,6 @@ with_back-twice : (front more : List ℕ) (told : Option (List ℕ)) → with_ba
 with_back-twice front more None = refl
 with_back-twice front more (Some written) = ap (λ bytes. Some bytes) (append_assoc written front more)
 
-with_back-nil : (told : Option (List ℕ)) → told ≡ with_back [] told
-with_back-nil None = refl
-with_back-nil (Some written) = ap (λ bytes. Some bytes) (sym (append-nil written))
-
--- nothing went out yet
-pub sends-none : (text : List ℕ) (told : Option (List ℕ)) → Sends text text told told
-sends-none text told = record { front = []; splits = refl; written = with_back-nil told }
-
 -- all of a text went out
 pub sends-all : {text : List ℕ} {old new : Option (List ℕ)} → new ≡ with_back text old → Sends text [] old new
 sends-all {text = text} written = record { front = text; splits = sym (append-nil text); written = written }

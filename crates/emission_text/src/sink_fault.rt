@@ -1,18 +1,11 @@
 use std::error::Error;
 use std::fmt;
-use stream_base::Failed;
 
 /// Why a text wasn't written whole.
 #[derive(Clone, Copy, Debug, PartialEq, Eq)]
 pub enum SinkFault {
     /// A write of the sink failed.
     Write,
-}
-
-impl From<Failed> for SinkFault {
-    fn from(_failed: Failed) -> SinkFault {
-        SinkFault::Write
-    }
 }
 
 impl fmt::Display for SinkFault {

@@ -1,3 +1,4 @@
 mod faults;
 mod lines;
+mod reports;
 mod writes;
