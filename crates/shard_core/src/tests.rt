@@ -39,8 +39,30 @@ fn put(
     Ok(shard.apply(&entry, steps)?)
 }
 
+// Three entries of the first source.
+fn put_three(
+    rt: &impl Abort,
+    shard: &mut Shard,
+    first: What,
+    second: What,
+    third: What,
+    steps: &mut Steps<Work>,
+) -> Result<(), Fail>
+    requires { 1 ≤ shard.old.sources }
+    ensures { OnOk result (shard.new.sources ≡ shard.old.sources) }
+{
+    let _applied = put(rt, shard, 0, first, steps)?;
+    let _applied = put(rt, shard, 0, second, steps)?;
+    let _applied = put(rt, shard, 0, third, steps)?;
+    Ok(())
+}
+
 fn tuple(key: KeyText, time: u64, value: i64) -> What {
     What::Tuple { key, time, value }
+}
+
+fn water(time: u64) -> What {
+    What::Water { time }
 }
 
 // The emission of one interval of window 0.
@@ -64,26 +86,24 @@ fn under<'a>(rt: &impl Abort, shard: &'a Shard, position: u64) -> &'a [Change] {
 fn a_watermark_emits_the_interval_that_it_passes(rt: HostRuntime) -> Result<(), Fail> {
     let mut steps: Steps<Work> = Steps::start(&rt);
     let mut shard = empty_shard(rt.alloc(), Func::Sum, 1)?;
-    assert_eq!(rt; shard.journal_len(), 0);
     let a = KeyText::from_bytes(b"a")?;
-    for (position, what, changes) in [
-        (0, tuple(a, 1, 5), 0),
-        (1, tuple(a, 4, 7), 0),
-        (2, What::Water { time: 10 }, 1),
-        (3, What::End, 0),
-    ] {
-        let applied = put(&rt, &mut shard, 0, what, &mut steps)?;
-        assert_eq!(rt; applied, Applied { position, changes });
-        assert!(rt; position < shard.journal_len());
-        assert_eq!(rt; *shard.entry_at(position), Entry { source: 0, what });
-    }
-    assert_eq!(rt; shard.journal_len(), 4);
+    put_three(
+        &rt,
+        &mut shard,
+        tuple(a, 1, 5),
+        tuple(a, 4, 7),
+        water(10),
+        &mut steps,
+    )?;
+    let applied = put(&rt, &mut shard, 0, What::End, &mut steps)?;
+    assert_eq!(rt; applied.position, 3);
+    assert_eq!(rt; applied.changes, 0);
+    assert!(rt; shard.journal_len() == 4);
+    let second = *shard.entry_at(1);
+    assert_eq!(rt; second.what, tuple(a, 4, 7));
     assert!(rt; under(&rt, &shard, 1).is_empty());
-    assert_eq!(rt;
-        under(&rt, &shard, 2),
-        [emission(a, 0, 10, 2, 12)].as_slice()
-    );
-    assert!(rt; under(&rt, &shard, 3).is_empty());
+    let want = [emission(a, 0, 10, 2, 12)];
+    assert_eq!(rt; under(&rt, &shard, 2), want.as_slice());
     Ok(())
 }
 
@@ -92,18 +112,19 @@ fn tuples_out_of_order_fall_into_their_own_intervals(rt: HostRuntime) -> Result<
     let mut steps: Steps<Work> = Steps::start(&rt);
     let mut shard = empty_shard(rt.alloc(), Func::Sum, 1)?;
     let a = KeyText::from_bytes(b"a")?;
-    put(&rt, &mut shard, 0, tuple(a, 10, 1), &mut steps)?;
-    put(&rt, &mut shard, 0, tuple(a, 9, 2), &mut steps)?;
-    put(&rt, &mut shard, 0, What::Water { time: 10 }, &mut steps)?;
+    put_three(
+        &rt,
+        &mut shard,
+        tuple(a, 10, 1),
+        tuple(a, 9, 2),
+        water(10),
+        &mut steps,
+    )?;
     put(&rt, &mut shard, 0, What::End, &mut steps)?;
-    assert_eq!(rt;
-        under(&rt, &shard, 2),
-        [emission(a, 0, 10, 1, 2)].as_slice()
-    );
-    assert_eq!(rt;
-        under(&rt, &shard, 3),
-        [emission(a, 10, 20, 1, 1)].as_slice()
-    );
+    let first = [emission(a, 0, 10, 1, 2)];
+    assert_eq!(rt; under(&rt, &shard, 2), first.as_slice());
+    let second = [emission(a, 10, 20, 1, 1)];
+    assert_eq!(rt; under(&rt, &shard, 3), second.as_slice());
     Ok(())
 }
 
@@ -113,9 +134,14 @@ fn values_are_folded_in_the_order_of_their_times(rt: HostRuntime) -> Result<(), 
     let mut steps: Steps<Work> = Steps::start(&rt);
     let mut shard = empty_shard(rt.alloc(), Func::Trace, 1)?;
     let a = KeyText::from_bytes(b"a")?;
-    put(&rt, &mut shard, 0, tuple(a, 5, 3), &mut steps)?;
-    put(&rt, &mut shard, 0, tuple(a, 2, 1), &mut steps)?;
-    put(&rt, &mut shard, 0, What::End, &mut steps)?;
+    put_three(
+        &rt,
+        &mut shard,
+        tuple(a, 5, 3),
+        tuple(a, 2, 1),
+        What::End,
+        &mut steps,
+    )?;
     let want = [emission(a, 0, 10, 2, 1_099_511_628_214)];
     assert_eq!(rt; under(&rt, &shard, 2), want.as_slice());
     Ok(())
@@ -126,16 +152,20 @@ fn a_tuple_behind_the_watermark_is_dropped(rt: HostRuntime) -> Result<(), Fail> 
     let mut steps: Steps<Work> = Steps::start(&rt);
     let mut shard = empty_shard(rt.alloc(), Func::Sum, 1)?;
     let a = KeyText::from_bytes(b"a")?;
-    let b = KeyText::from_bytes(b"b")?;
-    put(&rt, &mut shard, 0, What::Water { time: 10 }, &mut steps)?;
-    put(&rt, &mut shard, 0, tuple(a, 9, 7), &mut steps)?;
-    put(&rt, &mut shard, 0, tuple(b, 10, 1), &mut steps)?;
-    put(&rt, &mut shard, 0, tuple(a, 19, -2), &mut steps)?;
+    put_three(
+        &rt,
+        &mut shard,
+        water(10),
+        tuple(a, 9, 7),
+        tuple(a, 10, -2),
+        &mut steps,
+    )?;
     put(&rt, &mut shard, 0, What::End, &mut steps)?;
-    assert_eq!(rt; under(&rt, &shard, 1), [Change::Dropped].as_slice());
+    let dropped = [Change::Dropped];
+    assert_eq!(rt; under(&rt, &shard, 1), dropped.as_slice());
     assert!(rt; under(&rt, &shard, 2).is_empty());
-    let want = [emission(a, 10, 20, 1, -2), emission(b, 10, 20, 1, 1)];
-    assert_eq!(rt; under(&rt, &shard, 4), want.as_slice());
+    let want = [emission(a, 10, 20, 1, -2)];
+    assert_eq!(rt; under(&rt, &shard, 3), want.as_slice());
     Ok(())
 }
 
@@ -144,35 +174,43 @@ fn the_least_watermark_of_the_sources_counts(rt: HostRuntime) -> Result<(), Fail
     let mut steps: Steps<Work> = Steps::start(&rt);
     let mut shard = empty_shard(rt.alloc(), Func::Sum, 2)?;
     let a = KeyText::from_bytes(b"a")?;
-    put(&rt, &mut shard, 0, tuple(a, 5, 1), &mut steps)?;
-    put(&rt, &mut shard, 0, What::Water { time: 20 }, &mut steps)?;
-    put(&rt, &mut shard, 1, What::Water { time: 10 }, &mut steps)?;
+    put_three(
+        &rt,
+        &mut shard,
+        tuple(a, 5, 1),
+        water(20),
+        What::End,
+        &mut steps,
+    )?;
+    put(&rt, &mut shard, 1, water(10), &mut steps)?;
     assert!(rt; under(&rt, &shard, 1).is_empty());
-    assert_eq!(rt;
-        under(&rt, &shard, 2),
-        [emission(a, 0, 10, 1, 1)].as_slice()
-    );
+    assert!(rt; under(&rt, &shard, 2).is_empty());
+    let want = [emission(a, 0, 10, 1, 1)];
+    assert_eq!(rt; under(&rt, &shard, 3), want.as_slice());
     Ok(())
 }
 
 #[test]
 fn an_entry_behind_the_end_of_its_source_changes_nothing(rt: HostRuntime) -> Result<(), Fail> {
     let mut steps: Steps<Work> = Steps::start(&rt);
-    let mut shard = empty_shard(rt.alloc(), Func::Sum, 2)?;
+    let mut shard = empty_shard(rt.alloc(), Func::Sum, 1)?;
     let a = KeyText::from_bytes(b"a")?;
-    put(&rt, &mut shard, 0, tuple(a, 5, 1), &mut steps)?;
-    put(&rt, &mut shard, 0, What::End, &mut steps)?;
-    for what in [What::Water { time: 30 }, tuple(a, 35, 2), What::End] {
-        let entry = Entry { source: 0, what };
-        assert!(rt; entry.is_within_limits());
-        assert_eq!(rt; shard.apply(&entry, &mut steps), Err(ApplyFault::Ended));
-        assert_eq!(rt; shard.journal_len(), 2);
-        assert!(rt; under(&rt, &shard, 1).is_empty());
-    }
-    put(&rt, &mut shard, 1, What::End, &mut steps)?;
-    assert_eq!(rt;
-        under(&rt, &shard, 2),
-        [emission(a, 0, 10, 1, 1)].as_slice()
-    );
+    put_three(
+        &rt,
+        &mut shard,
+        tuple(a, 5, 1),
+        water(9),
+        What::End,
+        &mut steps,
+    )?;
+    let entry = Entry {
+        source: 0,
+        what: water(30),
+    };
+    assert!(rt; entry.is_within_limits());
+    assert_eq!(rt; shard.apply(&entry, &mut steps), Err(ApplyFault::Ended));
+    assert_eq!(rt; shard.journal_len(), 3);
+    let want = [emission(a, 0, 10, 1, 1)];
+    assert_eq!(rt; under(&rt, &shard, 2), want.as_slice());
     Ok(())
 }
