@@ -31,18 +31,22 @@ fn words_of(alloc: Global, words: &[&str]) -> Result<Vec<String>, AllocError> {
     Ok(all)
 }
 
-fn file(alloc: Global, name: &str, text: &str) -> Result<MemFile, AllocError> {
+// A file, with the numbers of the reads that fail.
+fn file(alloc: Global, name: &str, text: &str, failing: Vec<u64>) -> Result<MemFile, AllocError> {
     Ok(MemFile {
         name: String::from_str(alloc, name)?,
         bytes: Vec::from_slice(alloc, text.as_bytes())?,
-        failing: Vec::new(alloc),
+        failing,
         refuse: false,
     })
 }
 
 // The files of a run: definitions, and one source.
 fn files_of(alloc: Global, defs: &str, rows: &str) -> Result<[MemFile; 2], AllocError> {
-    Ok([file(alloc, "d", defs)?, file(alloc, "s", rows)?])
+    Ok([
+        file(alloc, "d", defs, Vec::new(alloc))?,
+        file(alloc, "s", rows, Vec::new(alloc))?,
+    ])
 }
 
 // A sink with room for these many bytes, which takes eight a write.
@@ -66,7 +70,6 @@ fn run<R: Threads>(
 fn words_of_no_command_are_refused(rt: HostRuntime) -> Result<(), Fail> {
     let files = files_of(rt.alloc(), DEFS, ROWS)?;
     for words in [
-        [].as_slice(),
         ["run", "d", "0", "turns", "s"].as_slice(),
         ["run", "d", "01", "turns", "s"].as_slice(),
         ["run", "d", "1", "post", "s"].as_slice(),
@@ -247,15 +250,19 @@ fn failed_reads_are_named_by_their_file(rt: HostRuntime) -> Result<(), Fail> {
         (false, 4u64, "fault read 0\n"),
     ] {
         for failing in 0..reads + 1 {
-            let [mut defs, mut source] = files_of(rt.alloc(), DEFS, ROWS)?;
             let calls = vec![in rt.alloc(); failing]?;
-            if of_defs {
-                defs.failing = calls;
+            let none = Vec::new(rt.alloc());
+            let (of_d, of_s) = if of_defs {
+                (calls, none)
             } else {
-                source.failing = calls;
-            }
+                (none, calls)
+            };
+            let files = [
+                file(rt.alloc(), "d", DEFS, of_d)?,
+                file(rt.alloc(), "s", ROWS, of_s)?,
+            ];
             let mut sink = sink_of(rt.alloc(), 200)?;
-            let status = run(&rt, rt.alloc(), &RUN, &[defs, source], &mut sink)?;
+            let status = run(&rt, rt.alloc(), &RUN, &files, &mut sink)?;
             let (want, text) = if failing < reads {
                 (Status::ReadFault, line)
             } else {

@@ -76,7 +76,7 @@ impl<'a> Lent<'a> {
     }
 
     fn into_faults(self) -> u64
-        ensures { result ≡ self.faults }
+        ensures { result ≡ self.entry.faults }
     {
         let Lent { source, faults } = self;
         let _faults = source.into_faults();
