@@ -1,0 +1,313 @@
+mod shelf;
+
+use crate::scotty::scotty;
+use crate::status::Status;
+use shelf::Shelf;
+use std::alloc::{AllocError, Global};
+use std::test::Fail;
+use std::thread::Threads;
+use stream_base::{MemFile, MemSink, OpenGate};
+
+const DEFS: &str = "[[window]]\nkind = \"tumbling\"\nlength = 10\nfunc = \"sum\"\n";
+
+const ROWS: &str = "t,1,5,a\nt,4,7,a\nw,10\n";
+
+const REPORT: &str = "shard 0
+j 0 t 1 5 a
+j 0 t 4 7 a
+j 0 w 10
++ 0 0 10 2 12 a
+j 0 e
+end
+";
+
+const RUN: [&str; 5] = ["run", "d", "1", "turns", "s"];
+
+fn words_of(alloc: Global, words: &[&str]) -> Result<Vec<String>, AllocError> {
+    let mut all = Vec::new(alloc);
+    for word in words {
+        all.push(String::from_str(alloc, word)?)?;
+    }
+    Ok(all)
+}
+
+// A file, with the numbers of the reads that fail.
+fn file(alloc: Global, name: &str, text: &str, failing: Vec<u64>) -> Result<MemFile, AllocError> {
+    Ok(MemFile {
+        name: String::from_str(alloc, name)?,
+        bytes: Vec::from_slice(alloc, text.as_bytes())?,
+        failing,
+        refuse: false,
+    })
+}
+
+// The files of a run: definitions, and one source.
+fn files_of(alloc: Global, defs: &str, rows: &str) -> Result<[MemFile; 2], AllocError> {
+    Ok([
+        file(alloc, "d", defs, Vec::new(alloc))?,
+        file(alloc, "s", rows, Vec::new(alloc))?,
+    ])
+}
+
+// A sink with room for these many bytes, which takes eight a write.
+fn sink_of(alloc: Global, room: u64) -> Result<MemSink, Fail> {
+    Ok(MemSink::new(alloc, room, Vec::new(alloc), 8)?)
+}
+
+fn run<R: Threads>(
+    rt: &R,
+    alloc: Global,
+    words: &[&str],
+    files: &[MemFile],
+    sink: &mut MemSink,
+) -> Result<Status, Fail> {
+    let words = words_of(alloc, words)?;
+    let mut files = Shelf::new(files);
+    Ok(scotty(alloc, rt, &words, &mut files, sink, &OpenGate))
+}
+
+#[test]
+fn words_of_no_command_are_refused(rt: HostRuntime) -> Result<(), Fail> {
+    let files = files_of(rt.alloc(), DEFS, ROWS)?;
+    for words in [
+        ["run", "d", "0", "turns", "s"].as_slice(),
+        ["run", "d", "01", "turns", "s"].as_slice(),
+        ["run", "d", "1", "post", "s"].as_slice(),
+        ["run", "d", "1", "turns"].as_slice(),
+        ["run", "", "1", "turns", "s"].as_slice(),
+    ] {
+        let mut sink = sink_of(rt.alloc(), 100)?;
+        let status = run(&rt, rt.alloc(), words, &files, &mut sink)?;
+        assert_eq!(rt; status, Status::Usage);
+        assert_eq!(rt; str::from_utf8(sink.bytes())?, "fault usage\n");
+    }
+    Ok(())
+}
+
+#[test]
+fn commands_that_are_not_built_are_told_apart(rt: HostRuntime) -> Result<(), Fail> {
+    let files = files_of(rt.alloc(), DEFS, ROWS)?;
+    for words in [
+        ["run", "d", "2", "turns", "s"].as_slice(),
+        ["run", "d", "1", "mail", "s"].as_slice(),
+        ["run", "d", "1", "turns", "s", "s"].as_slice(),
+        ["made", "0", "1", "1", "1", "turns"].as_slice(),
+    ] {
+        let mut sink = sink_of(rt.alloc(), 100)?;
+        let status = run(&rt, rt.alloc(), words, &files, &mut sink)?;
+        assert_eq!(rt; status, Status::Unbuilt);
+        assert_eq!(rt; str::from_utf8(sink.bytes())?, "fault unbuilt\n");
+    }
+    Ok(())
+}
+
+#[test]
+fn definitions_stop_a_run_by_their_first_fault(rt: HostRuntime) -> Result<(), Fail> {
+    for (defs, status, line) in [
+        ("", Status::BadDefs, "fault defs shape top\n"),
+        ("lateness =\n", Status::BadDefs, "fault defs toml\n"),
+        ("window = []\n", Status::BadDefs, "fault defs many\n"),
+        (
+            "[[window]]\nkind = \"tumbling\"\nlength = 10\nfunc = \"median\"\n",
+            Status::BadDefs,
+            "fault defs shape 0\n",
+        ),
+        (
+            "[[window]]\nkind = \"sliding\"\nlength = 2001\nslide = 2\nfunc = \"sum\"\n",
+            Status::BadDefs,
+            "fault defs limit 0\n",
+        ),
+        (
+            "lateness = -1\n[[window]]\nkind = \"tumbling\"\nlength = 10\nfunc = \"sum\"\n",
+            Status::BadDefs,
+            "fault defs limit top\n",
+        ),
+        (
+            "lateness = 5\n[[window]]\nkind = \"tumbling\"\nlength = 10\nfunc = \"sum\"\n",
+            Status::Unbuilt,
+            "fault unbuilt\n",
+        ),
+        (
+            "[[window]]\nkind = \"session\"\ngap = 5\nfunc = \"count\"\n",
+            Status::Unbuilt,
+            "fault unbuilt\n",
+        ),
+    ] {
+        let files = files_of(rt.alloc(), defs, ROWS)?;
+        let mut sink = sink_of(rt.alloc(), 100)?;
+        assert_eq!(rt;
+            run(&rt, rt.alloc(), &RUN, &files, &mut sink)?,
+            status,
+            "{line}"
+        );
+        assert_eq!(rt; str::from_utf8(sink.bytes())?, line);
+    }
+    Ok(())
+}
+
+#[test]
+fn files_that_are_not_there_are_named(rt: HostRuntime) -> Result<(), Fail> {
+    let files = files_of(rt.alloc(), DEFS, ROWS)?;
+    for (defs, source, line) in [
+        ("d", "elsewhere", "fault open 0\n"),
+        ("elsewhere", "s", "fault open defs\n"),
+        ("elsewhere", "elsewhere", "fault open defs\n"),
+    ] {
+        let words = ["run", defs, "1", "turns", source];
+        let mut sink = sink_of(rt.alloc(), 100)?;
+        let status = run(&rt, rt.alloc(), &words, &files, &mut sink)?;
+        assert_eq!(rt; status, Status::OpenFault);
+        assert_eq!(rt; str::from_utf8(sink.bytes())?, line);
+    }
+    Ok(())
+}
+
+#[test]
+fn records_stop_a_run_by_their_number_and_reason(rt: HostRuntime) -> Result<(), Fail> {
+    for (rows, status, line) in [
+        (
+            "t,1000000000000001,1,a\n",
+            Status::BadRow,
+            "fault row 0 1 time\n",
+        ),
+        (
+            "t,1,9223372036854775808,a\n",
+            Status::BadRow,
+            "fault row 0 1 value\n",
+        ),
+        ("t,1,5", Status::BadRow, "fault row 0 1 fields\n"),
+        ("w,1\nt,1,5,\n", Status::BadRow, "fault row 0 2 key\n"),
+        (
+            "t,1,5,a\nkind,time,value,key\n",
+            Status::BadRow,
+            "fault row 0 2 kind\n",
+        ),
+        ("m,5,,a\nq,1\n", Status::BadRow, "fault row 0 2 kind\n"),
+        ("t,1,5,a\nm,5,,a\n", Status::Unbuilt, "fault unbuilt\n"),
+    ] {
+        let files = files_of(rt.alloc(), DEFS, rows)?;
+        let mut sink = sink_of(rt.alloc(), 100)?;
+        assert_eq!(rt;
+            run(&rt, rt.alloc(), &RUN, &files, &mut sink)?,
+            status,
+            "{line}"
+        );
+        assert_eq!(rt; str::from_utf8(sink.bytes())?, line);
+    }
+    Ok(())
+}
+
+#[test]
+fn runs_write_their_reports(rt: HostRuntime) -> Result<(), Fail> {
+    for (before, func, rows, report) in [
+        ("", "sum", ROWS, REPORT),
+        ("", "sum", "", "shard 0\nj 0 e\nend\n"),
+        (
+            "",
+            "sum",
+            "t,10,1,a\nt,9,2,a\nw,10\n",
+            "shard 0\nj 0 t 10 1 a\nj 0 t 9 2 a\nj 0 w 10\n+ 0 0 10 1 2 a\nj 0 e\n+ 0 10 20 1 1 a\nend\n",
+        ),
+        (
+            "",
+            "trace",
+            "t,5,3,a\nt,2,1,a\n",
+            "shard 0\nj 0 t 5 3 a\nj 0 t 2 1 a\nj 0 e\n+ 0 0 10 2 1099511628214 a\nend\n",
+        ),
+        (
+            "",
+            "sum",
+            "t,1,5,a\nt,1,5,a\n",
+            "shard 0\nj 0 t 1 5 a\nj 0 t 1 5 a\nj 0 e\n+ 0 0 10 2 10 a\nend\n",
+        ),
+        (
+            "every = 2\ndisorder = 3\n",
+            "sum",
+            "t,5,1,a\nt,4,2,a\nt,12,4,a\nt,9,8,a\n",
+            "shard 0\nj 0 t 5 1 a\nj 0 t 4 2 a\nj 0 w 2\nj 0 t 12 4 a\nj 0 t 9 8 a\nj 0 w 9\nj 0 e\n+ 0 0 10 3 11 a\n+ 0 10 20 1 4 a\nend\n",
+        ),
+    ] {
+        let defs = format!(in rt.alloc();
+            "{before}[[window]]\nkind = \"tumbling\"\nlength = 10\nfunc = \"{func}\"\n"
+        )?;
+        let files = files_of(rt.alloc(), defs.as_str(), rows)?;
+        let mut sink = sink_of(rt.alloc(), 1_000)?;
+        assert_eq!(rt;
+            run(&rt, rt.alloc(), &RUN, &files, &mut sink)?,
+            Status::Done
+        );
+        assert_eq!(rt; str::from_utf8(sink.bytes())?, report);
+    }
+    Ok(())
+}
+
+// In pieces of eight bytes the definitions take seven reads, the source three, and then one each that
+// finds the end.
+#[test]
+fn failed_reads_are_named_by_their_file(rt: HostRuntime) -> Result<(), Fail> {
+    for (of_defs, reads, line) in [
+        (true, 8u64, "fault read defs\n"),
+        (false, 4u64, "fault read 0\n"),
+    ] {
+        for failing in 0..reads + 1 {
+            let calls = vec![in rt.alloc(); failing]?;
+            let none = Vec::new(rt.alloc());
+            let (of_d, of_s) = if of_defs {
+                (calls, none)
+            } else {
+                (none, calls)
+            };
+            let files = [
+                file(rt.alloc(), "d", DEFS, of_d)?,
+                file(rt.alloc(), "s", ROWS, of_s)?,
+            ];
+            let mut sink = sink_of(rt.alloc(), 200)?;
+            let status = run(&rt, rt.alloc(), &RUN, &files, &mut sink)?;
+            let (want, text) = if failing < reads {
+                (Status::ReadFault, line)
+            } else {
+                (Status::Done, REPORT)
+            };
+            assert_eq!(rt; status, want, "read {failing}");
+            assert_eq!(rt; str::from_utf8(sink.bytes())?, text);
+        }
+    }
+    Ok(())
+}
+
+#[test]
+fn a_failed_write_leaves_a_front_of_the_report(rt: HostRuntime) -> Result<(), Fail> {
+    let files = files_of(rt.alloc(), DEFS, ROWS)?;
+    let writes = REPORT.len().div_ceil(8) as u64;
+    for failing in 0..writes {
+        let calls = vec![in rt.alloc(); failing]?;
+        let mut sink = MemSink::new(rt.alloc(), 200, calls, 8)?;
+        let status = run(&rt, rt.alloc(), &RUN, &files, &mut sink)?;
+        assert_eq!(rt; status, Status::WriteFault, "write {failing}");
+        let front = (8 * failing) as usize;
+        assert_eq!(rt;
+            sink.bytes(),
+            &REPORT.as_bytes()[..front],
+            "write {failing}"
+        );
+    }
+    Ok(())
+}
+
+#[test]
+fn a_sink_without_room_leaves_a_front_of_what_is_told(rt: HostRuntime) -> Result<(), Fail> {
+    let files = files_of(rt.alloc(), DEFS, ROWS)?;
+    let mut sink = sink_of(rt.alloc(), 3)?;
+    assert_eq!(rt;
+        run(&rt, rt.alloc(), &[], &files, &mut sink)?,
+        Status::Usage
+    );
+    assert_eq!(rt; str::from_utf8(sink.bytes())?, "fau");
+    let mut sink = sink_of(rt.alloc(), 3)?;
+    assert_eq!(rt;
+        run(&rt, rt.alloc(), &RUN, &files, &mut sink)?,
+        Status::WriteFault
+    );
+    assert_eq!(rt; str::from_utf8(sink.bytes())?, "sha");
+    Ok(())
+}
