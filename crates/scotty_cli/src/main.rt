@@ -12,6 +12,8 @@ mod real_source;
 mod running;
 mod scotty;
 mod status;
+#[cfg(test)]
+mod tests;
 mod words;
 
 use real_files::RealFiles;

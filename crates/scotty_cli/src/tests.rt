@@ -135,11 +135,8 @@ fn definitions_stop_a_run_by_their_first_fault(rt: HostRuntime) -> Result<(), Fa
     ] {
         let files = files_of(rt.alloc(), defs, ROWS)?;
         let mut sink = sink_of(rt.alloc(), 100)?;
-        assert_eq!(rt;
-            run(&rt, rt.alloc(), &RUN, &files, &mut sink)?,
-            status,
-            "{line}"
-        );
+        let ended = run(&rt, rt.alloc(), &RUN, &files, &mut sink)?;
+        assert_eq!(rt; ended, status);
         assert_eq!(rt; str::from_utf8(sink.bytes())?, line);
     }
     Ok(())
@@ -187,11 +184,8 @@ fn records_stop_a_run_by_their_number_and_reason(rt: HostRuntime) -> Result<(), 
     ] {
         let files = files_of(rt.alloc(), DEFS, rows)?;
         let mut sink = sink_of(rt.alloc(), 100)?;
-        assert_eq!(rt;
-            run(&rt, rt.alloc(), &RUN, &files, &mut sink)?,
-            status,
-            "{line}"
-        );
+        let ended = run(&rt, rt.alloc(), &RUN, &files, &mut sink)?;
+        assert_eq!(rt; ended, status);
         assert_eq!(rt; str::from_utf8(sink.bytes())?, line);
     }
     Ok(())
