@@ -44,6 +44,7 @@ fn print_report<K: Sink>(shard: Shard, sink: &mut K) -> Status
     ensures done { result ≡ Status.Done → K.written sink.new ≡ with_back (report_text (shard ∷ [])) (K.written sink.old) }
     ensures failed { result ≢ Status.Done → (result ≡ Status.WriteFault) × SendsFront (report_text (shard ∷ [])) (K.written sink.old) (K.written sink.new) × Rose (K.faults sink.old) (K.faults sink.new) }
 {
+    // The shard vouches for its journal: its entries are within their limits.
     let _entries = shard.journal_len();
     match write_report(&[shard], sink) {
         Ok(()) => Status::Done,

@@ -1,3 +1,4 @@
+mod base;
 mod shelf;
 
 use crate::scotty::scotty;
