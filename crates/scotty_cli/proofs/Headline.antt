@@ -86,7 +86,7 @@ reports words told shard old new run journal written =
     record {
       defs = run.defs;
       source = run.source;
-      spelled = run.spelled;
+      named = run.named;
       report = λ bytes records before tb tr to.
           let whole = held.entries records tr in
           let read = stands_in d shard held.defs held.sources journal in (

@@ -1,3 +1,4 @@
+pub mod Exact
 pub mod Feedings
 pub mod Headline
 pub mod Sourced

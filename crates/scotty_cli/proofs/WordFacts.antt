@@ -1,5 +1,5 @@
 -- What the tests of the words say of a list of words.
-use Rattle.std.proofs.Common.{◌≡◌, ℕ, ◌-◌, ◌^◌, ◌<◌, ◌≤◌, ◌↔◌, Bool, true, false, List, [], ◌∷◌, length, map, take, drop, get_or, refl, subst, ap, ◌∙◌, arith, rules, decimal, codes, All, IsTrue, Ok, Result}
+use Rattle.std.proofs.Common.{◌≡◌, ℕ, ◌-◌, ◌^◌, ◌<◌, ◌≤◌, ◌↔◌, Bool, true, false, List, [], ◌∷◌, length, map, take, drop, get_or, refl, subst, ap, ◌∙◌, arith, rules, decimal, codes, All, IsTrue, Ok, Result, inl}
 use Rattle.std.specs.Bool.{MatchBool}
 use Rattle.std.specs.List.{AllWithin, HoldsAt}
 use Rattle.std.specs.Str.Parse.{ParsesUnsigned}
@@ -7,7 +7,7 @@ use Rattle.std.proofs.Math.ListN.{get_or-map}
 use Rattle.std.proofs.lemmas.List.{length-map, length-drop, take_all}
 use Rattle.std.proofs.lemmas.List.Elements.{All-map, All-cons, All-nil}
 use Rattle.std.proofs.lemmas.Fmt.{parse-decimal, decimal_digit}
-use Rattle.scotty_cli.specs.Words.{turns, way_word, IsPlainRun, IsMade, IsName, IsNumberWithin, IsRun, IsWay, AreSources, plain_words}
+use Rattle.scotty_cli.specs.Words.{turns, way_word, IsCommand, IsPlainRun, IsMade, IsName, IsNumberWithin, IsRun, IsRunOn, IsWay, AreSources}
 
 -- a number that is written within the bounds is what `parse` returns
 pub reads_within : {E : Type 0} (least most : ℕ) (word : List ℕ) (r : Result ℕ E) → most < 2 ^ 64 → ParsesUnsigned 64 10 word r → IsNumberWithin least most word → (n : ℕ) × (r ≡ Ok n) × (least ≤ n) × (n ≤ most) × (word ≡ decimal n)
@@ -94,32 +94,36 @@ one_item [] l = absurd (omega arith)
 one_item (x ∷ y ∷ xs) l = absurd (omega arith)
 
 -- the words of a run of one shard and one source by turns are spelled by `plain_words`
-pub plain_is_spelled : (words : List (List ℕ)) → IsPlainRun words → (defs : List ℕ) × (source : List ℕ) × IsName defs × IsName source × (words ≡ plain_words defs source)
+pub plain_is_spelled : (words : List (List ℕ)) → IsPlainRun words → (defs : List ℕ) × (source : List ℕ) × IsRunOn words defs source
 plain_is_spelled words p =
     let one : decimal p.0.shards ≡ codes "1" = ap decimal p.1 ∙ decimal_digit 1 (omega arith) in
     let way : way_word p.0.way ≡ codes "turns" = ap way_word p.2 in
     let sources : p.0.sources ≡ get_or p.0.sources 0 [] ∷ [] = one_item p.0.sources p.3 in
     let spelled : words ≡ codes "run" ∷ p.0.defs ∷ decimal p.0.shards ∷ way_word p.0.way ∷ p.0.sources = p.0.spelled in
-    (p.0.defs, get_or p.0.sources 0 [], p.0.defs_name, p.0.source_names 0 [] (omega arith), cc)
+    (p.0.defs, get_or p.0.sources 0 [], record { spelled = cc; defs_name = p.0.defs_name; source_name = p.0.source_names 0 [] (omega arith) })
 
 -- and the other way round
-pub spelled_is_plain : (defs source : List ℕ) → IsName defs → IsName source → IsPlainRun (plain_words defs source)
-spelled_is_plain defs source d s =
+pub spelled_is_plain : (words : List (List ℕ)) (defs source : List ℕ) → IsRunOn words defs source → IsPlainRun words
+spelled_is_plain words defs source run =
     let one : decimal 1 ≡ codes "1" = decimal_digit 1 (omega arith) in (
       record {
         defs = defs;
         shards = 1;
         way = turns;
         sources = source ∷ [];
-        spelled = rw one refl;
-        defs_name = d;
+        spelled = rw one run.spelled;
+        defs_name = run.defs_name;
         some_shards = omega arith;
         few_shards = omega arith;
         some_sources = omega arith;
         few_sources = omega arith;
-        source_names = All-cons IsName source [] s (All-nil IsName);
+        source_names = All-cons IsName source [] run.source_name (All-nil IsName);
       },
       refl,
       refl,
       refl,
     )
+
+-- the words of the run that is built are a command
+pub run_is_command : (words : List (List ℕ)) (defs source : List ℕ) → IsRunOn words defs source → IsCommand words
+run_is_command words defs source named = inl (spelled_is_plain words defs source named).0

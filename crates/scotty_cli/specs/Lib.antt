@@ -4,3 +4,4 @@ pub mod Statuses
 pub mod Causes
 pub mod Settling
 pub mod Running
+pub mod Exactly

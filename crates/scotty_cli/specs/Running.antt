@@ -13,7 +13,7 @@ use Rattle.emission_text.specs.Sending.{SendsFront}
 use Rattle.emission_text.specs.declared.fault.Fault.{Fault}
 use Rattle.emission_text.specs.declared.fault.Fault.TheVariants.{Usage, Unbuilt, Defs, Unopened, Row, Read, FullSource, FullShard, NoMemory}
 use Rattle.scotty_cli.specs.Causes.{AreDefsOf, Counts, IsShardOf, StopsAtDefs, StopsAtSource, source_told}
-use Rattle.scotty_cli.specs.Words.{IsCommand, IsName, plain_words}
+use Rattle.scotty_cli.specs.Words.{IsCommand, IsRunOn}
 
 -- the bytes under each name, where they are told
 abbrev pub Telling : Type 0
@@ -32,12 +32,12 @@ StopsAtFiles told defs source counts fault =
 pub record IsRunOf (words : List (List ℕ)) (told : Telling) (shard : Sharded) : Type 0 where
   pub defs : List ℕ
   pub source : List ℕ
-  pub spelled : words ≡ plain_words defs source
+  pub named : IsRunOn words defs source
   pub files : IsShardOfFiles told defs source shard
 
 -- the words are those of no run that is built
 abbrev pub IsNoPlainRun : List (List ℕ) → Type 0
-IsNoPlainRun words = (defs source : List ℕ) → IsName defs → IsName source → ¬ (words ≡ plain_words defs source)
+IsNoPlainRun words = (defs source : List ℕ) → ¬ (IsRunOn words defs source)
 
 -- why the words stop a run: they are no command's, or those of one that isn't built
 abbrev pub StopsAtWords : List (List ℕ) → Fault → Type 0
@@ -55,7 +55,7 @@ StopsAtWords words NoMemory = ⊥
 pub record FilesStop (words : List (List ℕ)) (told : Telling) (counts : Counts) (fault : Fault) : Type 0 where
   pub defs : List ℕ
   pub source : List ℕ
-  pub spelled : words ≡ plain_words defs source
+  pub named : IsRunOn words defs source
   pub cause : StopsAtFiles told defs source counts fault
 
 -- why a run stops: the words do, or its files do
@@ -74,7 +74,7 @@ pub record IsReportOf (defs source text : List ℕ) : Type 0 where
 pub record Reports (words : List (List ℕ)) (told : Telling) (old new : Option (List ℕ)) : Type 0 where
   pub defs : List ℕ
   pub source : List ℕ
-  pub spelled : words ≡ plain_words defs source
+  pub named : IsRunOn words defs source
   pub report : (bytes records before : List ℕ) → told defs ≡ Some bytes → told source ≡ Some records → old ≡ Some before
       → (text : List ℕ) × (new ≡ Some (before ++ text)) × IsReportOf bytes records text
 

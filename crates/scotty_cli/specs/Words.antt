@@ -67,6 +67,12 @@ IsCommand words = IsRun words ⊎ IsMade words
 abbrev pub plain_words : List ℕ → List ℕ → List (List ℕ)
 plain_words defs source = codes "run" ∷ defs ∷ codes "1" ∷ codes "turns" ∷ source ∷ []
 
+-- the words are those of the run of one shard and one source by turns, over files of these names
+pub record IsRunOn (words : List (List ℕ)) (defs source : List ℕ) : Type 0 where
+  pub spelled : words ≡ plain_words defs source
+  pub defs_name : IsName defs
+  pub source_name : IsName source
+
 -- the words are those of a run of one shard and one source, by turns
 abbrev pub IsPlainRun : List (List ℕ) → Type 0
 IsPlainRun words = (run : IsRun words) × (run.shards ≡ 1) × (run.way ≡ turns) × (length run.sources ≡ 1)

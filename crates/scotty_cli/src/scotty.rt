@@ -1,11 +1,14 @@
 //! The top call.
-ghost use Rattle.std.specs.Prelude.{◌≡◌, ◌≢◌, ◌≤◌, ◌⊎◌, ◌∷◌, ℕ, List, [], map, string_bytes, IfOk, IfErr};
+ghost use Rattle.std.specs.Prelude.{◌≡◌, ◌≢◌, ◌≤◌, ◌↔◌, ◌⊎◌, ◌∷◌, ℕ, List, [], map, string_bytes, IfOk, IfErr};
 ghost use Rattle.stream_base.specs.Outside.{Rose, with_back};
 ghost use Rattle.shard_core.specs.Shard.{IsJournal};
 ghost use Rattle.emission_text.specs.Report.{report_text};
 ghost use Rattle.emission_text.specs.Sending.{SendsFront};
-ghost use Rattle.scotty_cli.specs.Running.{IsRunOf, IsShardOfFiles, Reports, ReportsFront, SaysFault, Stops, StopsAtFiles};
+ghost use Rattle.window_defs.specs.Reading.{reading_of};
+ghost use Rattle.scotty_cli.specs.Exactly.{IsCalledFor, IsToldRun, NothingFailed};
+ghost use Rattle.scotty_cli.specs.Running.{IsNoPlainRun, IsRunOf, IsShardOfFiles, Reports, ReportsFront, SaysFault, Stops, StopsAtFiles};
 ghost use Rattle.scotty_cli.specs.Statuses.{status_of};
+ghost use Rattle.scotty_cli.specs.Words.{IsCommand};
 
 use crate::definitions::read_definitions;
 use crate::running::run_source;
@@ -18,7 +21,9 @@ use std::thread::Threads;
 use stream_base::{Files, Gate, Sink};
 
 /// Runs the command that the words say. With `Done` the report was written to the sink; with
-/// `WriteFault` a front of it; with every other status the line of its fault, or a front of it.
+/// `WriteFault` a front of it; with every other status the line of its fault, or a front of it. The
+/// status is `Usage` exactly where the words are no command's. Where the files tell their bytes and no
+/// open or read failed, it is the one that the bytes call for, unless memory ran out or a write failed.
 pub fn scotty<F: Files, K: Sink, G: Gate, R: Threads>(
     alloc: Global,
     rt: &R,
@@ -30,6 +35,9 @@ pub fn scotty<F: Files, K: Sink, G: Gate, R: Threads>(
     ensures done { result ≡ Status.Done → Reports (map string_bytes words.now) (F.told files.old) (K.written sink.old) (K.written sink.new) }
     ensures write_fault { result ≡ Status.WriteFault → ReportsFront (map string_bytes words.now) (F.told files.old) (K.written sink.old) (K.written sink.new) × Rose (K.faults sink.old) (K.faults sink.new) }
     ensures stopped { result ≢ Status.Done → result ≢ Status.WriteFault → (fault : Fault) × (result ≡ status_of fault) × Stops (map string_bytes words.now) (F.told files.old) (record { opens = record { before = F.failed_opens files.old; after = F.failed_opens files.new }; reads = record { before = F.failed_reads files.old; after = F.failed_reads files.new } }) fault × SaysFault fault (K.written sink.old) (K.written sink.new) (K.faults sink.old) (K.faults sink.new) }
+    ensures usage { (result ≡ Status.Usage) ↔ ¬ (IsCommand (map string_bytes words.now)) }
+    ensures unbuilt { IsCommand (map string_bytes words.now) → IsNoPlainRun (map string_bytes words.now) → result ≡ Status.Unbuilt }
+    ensures exact { (run : IsToldRun (map string_bytes words.now) (F.told files.old)) → NothingFailed (record { opens = record { before = F.failed_opens files.old; after = F.failed_opens files.new }; reads = record { before = F.failed_reads files.old; after = F.failed_reads files.new } }) → result ≢ Status.NoMemory → result ≢ Status.WriteFault → IsCalledFor (reading_of run.bytes) run.records result }
     ensures out { F.out files.new ≡ F.out files.old }
 {
     match run(alloc, rt, words, files, gate) {
@@ -41,6 +49,7 @@ pub fn scotty<F: Files, K: Sink, G: Gate, R: Threads>(
 // The report of the one shard.
 fn print_report<K: Sink>(shard: Shard, sink: &mut K) -> Status
     ensures journal { IsJournal shard }
+    ensures either { (result ≡ Status.Done) ⊎ (result ≡ Status.WriteFault) }
     ensures done { result ≡ Status.Done → K.written sink.new ≡ with_back (report_text (shard ∷ [])) (K.written sink.old) }
     ensures failed { result ≢ Status.Done → (result ≡ Status.WriteFault) × SendsFront (report_text (shard ∷ [])) (K.written sink.old) (K.written sink.new) × Rose (K.faults sink.old) (K.faults sink.new) }
 {

@@ -1,13 +1,11 @@
 mod base;
-mod shelf;
 
 use crate::scotty::scotty;
 use crate::status::Status;
-use shelf::Shelf;
 use std::alloc::{AllocError, Global};
 use std::test::Fail;
 use std::thread::Threads;
-use stream_base::{MemFile, MemSink, OpenGate};
+use stream_base::{MemFile, MemFiles, MemSink, OpenGate};
 
 const DEFS: &str = "[[window]]\nkind = \"tumbling\"\nlength = 10\nfunc = \"sum\"\n";
 
@@ -33,10 +31,10 @@ fn words_of(alloc: Global, words: &[&str]) -> Result<Vec<String>, AllocError> {
 }
 
 // A file, with the numbers of the reads that fail.
-fn file(alloc: Global, name: &str, text: &str, failing: Vec<u64>) -> Result<MemFile, AllocError> {
+fn file(alloc: Global, name: &str, bytes: &[u8], failing: Vec<u64>) -> Result<MemFile, AllocError> {
     Ok(MemFile {
         name: String::from_str(alloc, name)?,
-        bytes: Vec::from_slice(alloc, text.as_bytes())?,
+        bytes: Vec::from_slice(alloc, bytes)?,
         failing,
         refuse: false,
     })
@@ -45,8 +43,8 @@ fn file(alloc: Global, name: &str, text: &str, failing: Vec<u64>) -> Result<MemF
 // The files of a run: definitions, and one source.
 fn files_of(alloc: Global, defs: &str, rows: &str) -> Result<[MemFile; 2], AllocError> {
     Ok([
-        file(alloc, "d", defs, Vec::new(alloc))?,
-        file(alloc, "s", rows, Vec::new(alloc))?,
+        file(alloc, "d", defs.as_bytes(), Vec::new(alloc))?,
+        file(alloc, "s", rows.as_bytes(), Vec::new(alloc))?,
     ])
 }
 
@@ -63,7 +61,7 @@ fn run<R: Threads>(
     sink: &mut MemSink,
 ) -> Result<Status, Fail> {
     let words = words_of(alloc, words)?;
-    let mut files = Shelf::new(files);
+    let mut files = MemFiles::new(files, 8);
     Ok(scotty(alloc, rt, &words, &mut files, sink, &OpenGate))
 }
 
@@ -161,6 +159,40 @@ fn files_that_are_not_there_are_named(rt: HostRuntime) -> Result<(), Fail> {
 }
 
 #[test]
+fn files_that_refuse_to_open_are_named(rt: HostRuntime) -> Result<(), Fail> {
+    for (of_defs, line) in [(true, "fault open defs\n"), (false, "fault open 0\n")] {
+        let mut files = files_of(rt.alloc(), DEFS, ROWS)?;
+        files[0].refuse = of_defs;
+        files[1].refuse = true;
+        let mut sink = sink_of(rt.alloc(), 100)?;
+        let status = run(&rt, rt.alloc(), &RUN, &files, &mut sink)?;
+        assert_eq!(rt; status, Status::OpenFault);
+        assert_eq!(rt; str::from_utf8(sink.bytes())?, line);
+    }
+    Ok(())
+}
+
+#[test]
+fn too_many_windows_and_too_many_bytes_are_refused(rt: HostRuntime) -> Result<(), Fail> {
+    let mut windows = String::new(rt.alloc());
+    for _ in 0..33 {
+        windows.push_str(DEFS)?;
+    }
+    let comment = vec![in rt.alloc(); b'#'; 1_048_577]?;
+    for (defs, line) in [
+        (windows.as_bytes(), "fault defs many\n"),
+        (comment.as_slice(), "fault defs long\n"),
+    ] {
+        let files = [file(rt.alloc(), "d", defs, Vec::new(rt.alloc()))?];
+        let mut sink = sink_of(rt.alloc(), 100)?;
+        let status = run(&rt, rt.alloc(), &RUN, &files, &mut sink)?;
+        assert_eq!(rt; status, Status::BadDefs);
+        assert_eq!(rt; str::from_utf8(sink.bytes())?, line);
+    }
+    Ok(())
+}
+
+#[test]
 fn records_stop_a_run_by_their_number_and_reason(rt: HostRuntime) -> Result<(), Fail> {
     for (rows, status, line) in [
         (
@@ -181,6 +213,7 @@ fn records_stop_a_run_by_their_number_and_reason(rt: HostRuntime) -> Result<(), 
             "fault row 0 2 kind\n",
         ),
         ("m,5,,a\nq,1\n", Status::BadRow, "fault row 0 2 kind\n"),
+        ("w,1\nq,1\n", Status::BadRow, "fault row 0 2 kind\n"),
         ("t,1,5,a\nm,5,,a\n", Status::Unbuilt, "fault unbuilt\n"),
     ] {
         let files = files_of(rt.alloc(), DEFS, rows)?;
@@ -216,6 +249,12 @@ fn runs_write_their_reports(rt: HostRuntime) -> Result<(), Fail> {
             "shard 0\nj 0 t 1 5 a\nj 0 t 1 5 a\nj 0 e\n+ 0 0 10 2 10 a\nend\n",
         ),
         (
+            "",
+            "sum",
+            "t,1000000000000000,9223372036854775807,a\nt,1000000000000000,9223372036854775807,a\n",
+            "shard 0\nj 0 t 1000000000000000 9223372036854775807 a\nj 0 t 1000000000000000 9223372036854775807 a\nj 0 e\n+ 0 1000000000000000 1000000000000010 2 18446744073709551614 a\nend\n",
+        ),
+        (
             "every = 2\ndisorder = 3\n",
             "sum",
             "t,5,1,a\nt,4,2,a\nt,12,4,a\nt,9,8,a\n",
@@ -236,6 +275,35 @@ fn runs_write_their_reports(rt: HostRuntime) -> Result<(), Fail> {
     Ok(())
 }
 
+#[test]
+fn each_window_shows_its_own_function(rt: HostRuntime) -> Result<(), Fail> {
+    let defs =
+        "[[window]]\nkind = \"tumbling\"\nlength = 10\nfunc = \"first\"\n[[window]]\nkind = \"tumbling\"\nlength = 10\nfunc = \"last\"\n";
+    let report = "shard 0\nj 0 t 5 1 a\nj 0 t 5 2 a\nj 0 e\n+ 0 0 10 2 1 a\n+ 1 0 10 2 2 a\nend\n";
+    let files = files_of(rt.alloc(), defs, "t,5,1,a\nt,5,2,a\n")?;
+    let mut sink = sink_of(rt.alloc(), 200)?;
+    assert_eq!(rt;
+        run(&rt, rt.alloc(), &RUN, &files, &mut sink)?,
+        Status::Done
+    );
+    assert_eq!(rt; str::from_utf8(sink.bytes())?, report);
+    Ok(())
+}
+
+#[test]
+fn a_run_in_pieces_of_one_byte_writes_its_report(rt: HostRuntime) -> Result<(), Fail> {
+    let files = files_of(rt.alloc(), DEFS, ROWS)?;
+    let mut sink = MemSink::new(rt.alloc(), 200, Vec::new(rt.alloc()), 1)?;
+    let words = words_of(rt.alloc(), &RUN)?;
+    let mut files = MemFiles::new(&files, 1);
+    assert_eq!(rt;
+        scotty(rt.alloc(), &rt, &words, &mut files, &mut sink, &OpenGate),
+        Status::Done
+    );
+    assert_eq!(rt; str::from_utf8(sink.bytes())?, REPORT);
+    Ok(())
+}
+
 // In pieces of eight bytes the definitions take seven reads, the source three, and then one each that
 // finds the end.
 #[test]
@@ -253,8 +321,8 @@ fn failed_reads_are_named_by_their_file(rt: HostRuntime) -> Result<(), Fail> {
                 (none, calls)
             };
             let files = [
-                file(rt.alloc(), "d", DEFS, of_d)?,
-                file(rt.alloc(), "s", ROWS, of_s)?,
+                file(rt.alloc(), "d", DEFS.as_bytes(), of_d)?,
+                file(rt.alloc(), "s", ROWS.as_bytes(), of_s)?,
             ];
             let mut sink = sink_of(rt.alloc(), 200)?;
             let status = run(&rt, rt.alloc(), &RUN, &files, &mut sink)?;
@@ -274,12 +342,16 @@ fn failed_reads_are_named_by_their_file(rt: HostRuntime) -> Result<(), Fail> {
 fn a_failed_write_leaves_a_front_of_the_report(rt: HostRuntime) -> Result<(), Fail> {
     let files = files_of(rt.alloc(), DEFS, ROWS)?;
     let writes = REPORT.len().div_ceil(8) as u64;
-    for failing in 0..writes {
+    for failing in 0..writes + 1 {
         let calls = vec![in rt.alloc(); failing]?;
         let mut sink = MemSink::new(rt.alloc(), 200, calls, 8)?;
         let status = run(&rt, rt.alloc(), &RUN, &files, &mut sink)?;
-        assert_eq!(rt; status, Status::WriteFault, "write {failing}");
-        let front = (8 * failing) as usize;
+        let (want, front) = if failing < writes {
+            (Status::WriteFault, (8 * failing) as usize)
+        } else {
+            (Status::Done, REPORT.len())
+        };
+        assert_eq!(rt; status, want, "write {failing}");
         assert_eq!(rt;
             sink.bytes(),
             &REPORT.as_bytes()[..front],

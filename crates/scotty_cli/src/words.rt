@@ -1,7 +1,7 @@
 //! The words of the command line, those after the program's name: which of them are commands, and
 //! which are the run of one shard and one source by turns.
 ghost use Rattle.std.specs.Prelude.{◌≡◌, ◌↔◌, ℕ, List, map, decimal, string_bytes, All, IsTrue, IfSome, IfNone};
-ghost use Rattle.scotty_cli.specs.Words.{IsCommand, IsMade, IsName, IsNumberWithin, IsPlainRun, IsRun, IsWay, AreSources, plain_words};
+ghost use Rattle.scotty_cli.specs.Words.{IsCommand, IsMade, IsName, IsNumberWithin, IsPlainRun, IsRun, IsRunOn, IsWay, AreSources};
 
 use itoa::Buffer;
 
@@ -22,8 +22,8 @@ pub fn is_command(words: &[String]) -> bool
 
 /// The run of one shard and one source by turns, if the words are those of one.
 pub fn plain_run(words: &[String]) -> Option<PlainRun<'_>>
-    ensures found { IfSome result (λ p. (map string_bytes words.now ≡ plain_words p.defs.now p.source.now) × IsName p.defs.now × IsName p.source.now) }
-    ensures none { IfNone result ((defs source : List ℕ) → IsName defs → IsName source → ¬ (map string_bytes words.now ≡ plain_words defs source)) }
+    ensures found { IfSome result (λ p. IsRunOn (map string_bytes words.now) p.defs.now p.source.now) }
+    ensures none { IfNone result ((defs source : List ℕ) → ¬ (IsRunOn (map string_bytes words.now) defs source)) }
 {
     match words {
         [run, defs, shards, way, source] => {
@@ -45,11 +45,11 @@ pub fn plain_run(words: &[String]) -> Option<PlainRun<'_>>
 
 /// The runs of one shard and one source by turns are those that `plain_words` spells; each is a
 /// command.
-#[tactic(auto, using(crate::proofs::WordFacts::plain_is_spelled, crate::proofs::WordFacts::spelled_is_plain))]
+#[tactic(auto, using(crate::proofs::WordFacts::plain_is_spelled))]
 pub fn plain_words_spell_the_plain_runs()
-    ensures spelled { (words : List (List ℕ)) → IsPlainRun words → (defs : List ℕ) × (source : List ℕ) × IsName defs × IsName source × (words ≡ plain_words defs source) }
-    ensures plain { (defs source : List ℕ) → IsName defs → IsName source → IsPlainRun (plain_words defs source) }
-    ensures command { (defs source : List ℕ) → IsName defs → IsName source → IsCommand (plain_words defs source) }
+    ensures spelled { (words : List (List ℕ)) → IsPlainRun words → (defs : List ℕ) × (source : List ℕ) × IsRunOn words defs source }
+    ensures plain { (words : List (List ℕ)) (defs source : List ℕ) → IsRunOn words defs source → IsPlainRun words }
+    ensures command { (words : List (List ℕ)) (defs source : List ℕ) → IsRunOn words defs source → IsCommand words }
 {}
 
 // `run DEFS SHARDS FEED SOURCE..`, with 1 to 16 sources.

@@ -11,6 +11,7 @@ use crate::source::Failed;
 use std::marker::Model;
 
 /// Files in memory. Of two files with one name the first is opened.
+#[derive(Drop)]
 pub struct MemFiles<'a> {
     files: &'a [MemFile],
     piece: u64,

@@ -14,4 +14,4 @@ returns-then-is_name-2-clause-found c =
     let source : IsName (string_bytes c.source-item.result) = grind (arith, common_steps) in
     let defs_text = c.as_str-then-is_name-2.ensures.value in
     let source_text = c.as_str-then-is_name-2-2.ensures.value in
-    (cc, rw defs_text defs, rw source_text source)
+    record { spelled = cc; defs_name = rw defs_text defs; source_name = rw source_text source }
