@@ -3,6 +3,7 @@ mod base;
 use crate::scotty::scotty;
 use crate::status::Status;
 use std::alloc::{AllocError, Global};
+use std::process::Abort;
 use std::test::Fail;
 use std::thread::Threads;
 use stream_base::{MemFile, MemFiles, MemSink, OpenGate};
@@ -65,9 +66,25 @@ fn run<R: Threads>(
     Ok(scotty(alloc, rt, &words, &mut files, sink, &OpenGate))
 }
 
+// A run of these words over these files ends with this status, and has written this text.
+fn ends<R: Abort + Threads>(
+    rt: &R,
+    alloc: Global,
+    words: &[&str],
+    files: &[MemFile],
+    status: Status,
+    text: &str,
+) -> Result<(), Fail> {
+    let mut sink = sink_of(alloc, 1_000)?;
+    assert_eq!(rt; run(rt, alloc, words, files, &mut sink)?, status);
+    assert_eq!(rt; str::from_utf8(sink.bytes())?, text);
+    Ok(())
+}
+
 #[test]
 fn words_of_no_command_are_refused(rt: HostRuntime) -> Result<(), Fail> {
     let files = files_of(rt.alloc(), DEFS, ROWS)?;
+    let line = "fault usage\n";
     for words in [
         ["run", "d", "0", "turns", "s"].as_slice(),
         ["run", "d", "01", "turns", "s"].as_slice(),
@@ -75,10 +92,7 @@ fn words_of_no_command_are_refused(rt: HostRuntime) -> Result<(), Fail> {
         ["run", "d", "1", "turns"].as_slice(),
         ["run", "", "1", "turns", "s"].as_slice(),
     ] {
-        let mut sink = sink_of(rt.alloc(), 100)?;
-        let status = run(&rt, rt.alloc(), words, &files, &mut sink)?;
-        assert_eq!(rt; status, Status::Usage);
-        assert_eq!(rt; str::from_utf8(sink.bytes())?, "fault usage\n");
+        ends(&rt, rt.alloc(), words, &files, Status::Usage, line)?;
     }
     Ok(())
 }
@@ -86,16 +100,14 @@ fn words_of_no_command_are_refused(rt: HostRuntime) -> Result<(), Fail> {
 #[test]
 fn commands_that_are_not_built_are_told_apart(rt: HostRuntime) -> Result<(), Fail> {
     let files = files_of(rt.alloc(), DEFS, ROWS)?;
+    let line = "fault unbuilt\n";
     for words in [
         ["run", "d", "2", "turns", "s"].as_slice(),
         ["run", "d", "1", "mail", "s"].as_slice(),
         ["run", "d", "1", "turns", "s", "s"].as_slice(),
         ["made", "0", "1", "1", "1", "turns"].as_slice(),
     ] {
-        let mut sink = sink_of(rt.alloc(), 100)?;
-        let status = run(&rt, rt.alloc(), words, &files, &mut sink)?;
-        assert_eq!(rt; status, Status::Unbuilt);
-        assert_eq!(rt; str::from_utf8(sink.bytes())?, "fault unbuilt\n");
+        ends(&rt, rt.alloc(), words, &files, Status::Unbuilt, line)?;
     }
     Ok(())
 }
@@ -133,10 +145,7 @@ fn definitions_stop_a_run_by_their_first_fault(rt: HostRuntime) -> Result<(), Fa
         ),
     ] {
         let files = files_of(rt.alloc(), defs, ROWS)?;
-        let mut sink = sink_of(rt.alloc(), 100)?;
-        let ended = run(&rt, rt.alloc(), &RUN, &files, &mut sink)?;
-        assert_eq!(rt; ended, status);
-        assert_eq!(rt; str::from_utf8(sink.bytes())?, line);
+        ends(&rt, rt.alloc(), &RUN, &files, status, line)?;
     }
     Ok(())
 }
@@ -150,10 +159,7 @@ fn files_that_are_not_there_are_named(rt: HostRuntime) -> Result<(), Fail> {
         ("elsewhere", "elsewhere", "fault open defs\n"),
     ] {
         let words = ["run", defs, "1", "turns", source];
-        let mut sink = sink_of(rt.alloc(), 100)?;
-        let status = run(&rt, rt.alloc(), &words, &files, &mut sink)?;
-        assert_eq!(rt; status, Status::OpenFault);
-        assert_eq!(rt; str::from_utf8(sink.bytes())?, line);
+        ends(&rt, rt.alloc(), &words, &files, Status::OpenFault, line)?;
     }
     Ok(())
 }
@@ -164,10 +170,7 @@ fn files_that_refuse_to_open_are_named(rt: HostRuntime) -> Result<(), Fail> {
         let mut files = files_of(rt.alloc(), DEFS, ROWS)?;
         files[0].refuse = of_defs;
         files[1].refuse = true;
-        let mut sink = sink_of(rt.alloc(), 100)?;
-        let status = run(&rt, rt.alloc(), &RUN, &files, &mut sink)?;
-        assert_eq!(rt; status, Status::OpenFault);
-        assert_eq!(rt; str::from_utf8(sink.bytes())?, line);
+        ends(&rt, rt.alloc(), &RUN, &files, Status::OpenFault, line)?;
     }
     Ok(())
 }
@@ -184,10 +187,7 @@ fn too_many_windows_and_too_many_bytes_are_refused(rt: HostRuntime) -> Result<()
         (comment.as_slice(), "fault defs long\n"),
     ] {
         let files = [file(rt.alloc(), "d", defs, Vec::new(rt.alloc()))?];
-        let mut sink = sink_of(rt.alloc(), 100)?;
-        let status = run(&rt, rt.alloc(), &RUN, &files, &mut sink)?;
-        assert_eq!(rt; status, Status::BadDefs);
-        assert_eq!(rt; str::from_utf8(sink.bytes())?, line);
+        ends(&rt, rt.alloc(), &RUN, &files, Status::BadDefs, line)?;
     }
     Ok(())
 }
@@ -217,10 +217,7 @@ fn records_stop_a_run_by_their_number_and_reason(rt: HostRuntime) -> Result<(), 
         ("t,1,5,a\nm,5,,a\n", Status::Unbuilt, "fault unbuilt\n"),
     ] {
         let files = files_of(rt.alloc(), DEFS, rows)?;
-        let mut sink = sink_of(rt.alloc(), 100)?;
-        let ended = run(&rt, rt.alloc(), &RUN, &files, &mut sink)?;
-        assert_eq!(rt; ended, status);
-        assert_eq!(rt; str::from_utf8(sink.bytes())?, line);
+        ends(&rt, rt.alloc(), &RUN, &files, status, line)?;
     }
     Ok(())
 }
@@ -265,12 +262,7 @@ fn runs_write_their_reports(rt: HostRuntime) -> Result<(), Fail> {
             "{before}[[window]]\nkind = \"tumbling\"\nlength = 10\nfunc = \"{func}\"\n"
         )?;
         let files = files_of(rt.alloc(), defs.as_str(), rows)?;
-        let mut sink = sink_of(rt.alloc(), 1_000)?;
-        assert_eq!(rt;
-            run(&rt, rt.alloc(), &RUN, &files, &mut sink)?,
-            Status::Done
-        );
-        assert_eq!(rt; str::from_utf8(sink.bytes())?, report);
+        ends(&rt, rt.alloc(), &RUN, &files, Status::Done, report)?;
     }
     Ok(())
 }
@@ -281,12 +273,7 @@ fn each_window_shows_its_own_function(rt: HostRuntime) -> Result<(), Fail> {
         "[[window]]\nkind = \"tumbling\"\nlength = 10\nfunc = \"first\"\n[[window]]\nkind = \"tumbling\"\nlength = 10\nfunc = \"last\"\n";
     let report = "shard 0\nj 0 t 5 1 a\nj 0 t 5 2 a\nj 0 e\n+ 0 0 10 2 1 a\n+ 1 0 10 2 2 a\nend\n";
     let files = files_of(rt.alloc(), defs, "t,5,1,a\nt,5,2,a\n")?;
-    let mut sink = sink_of(rt.alloc(), 200)?;
-    assert_eq!(rt;
-        run(&rt, rt.alloc(), &RUN, &files, &mut sink)?,
-        Status::Done
-    );
-    assert_eq!(rt; str::from_utf8(sink.bytes())?, report);
+    ends(&rt, rt.alloc(), &RUN, &files, Status::Done, report)?;
     Ok(())
 }
 
@@ -324,15 +311,12 @@ fn failed_reads_are_named_by_their_file(rt: HostRuntime) -> Result<(), Fail> {
                 file(rt.alloc(), "d", DEFS.as_bytes(), of_d)?,
                 file(rt.alloc(), "s", ROWS.as_bytes(), of_s)?,
             ];
-            let mut sink = sink_of(rt.alloc(), 200)?;
-            let status = run(&rt, rt.alloc(), &RUN, &files, &mut sink)?;
-            let (want, text) = if failing < reads {
+            let (status, text) = if failing < reads {
                 (Status::ReadFault, line)
             } else {
                 (Status::Done, REPORT)
             };
-            assert_eq!(rt; status, want, "read {failing}");
-            assert_eq!(rt; str::from_utf8(sink.bytes())?, text);
+            ends(&rt, rt.alloc(), &RUN, &files, status, text)?;
         }
     }
     Ok(())

@@ -7,7 +7,7 @@ use Rattle.source_feed.specs.declared.file_feed.FileFeed.TheInside.{Inside}
 
 abbrev pub reading_of : State → Reading
 reading_of Unread = unread
-reading_of (Open rows) = giving rows
+reading_of (Open rows) = giving rows.value
 reading_of (Stopped fault) = unreadable fault
 
 abbrev pub feeding_of : {S : Type 0} → Inside S → Feeding S
@@ -17,5 +17,5 @@ feeding_of a =
 -- the rows are those of this source
 abbrev pub HasRowsOf : ℕ → State → Type 0
 HasRowsOf source Unread = ⊤
-HasRowsOf source (Open rows) = rows.source ≡ source
+HasRowsOf source (Open rows) = (rows.value).source ≡ source
 HasRowsOf source (Stopped fault) = ⊤

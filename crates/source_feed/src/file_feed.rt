@@ -17,7 +17,7 @@ use stream_base::{Defs, Entry, Source};
 #[derive(Drop)]
 enum State {
     Unread,
-    Open(Rows),
+    Open(Box<Rows>),
     Stopped(FeedFault),
 }
 
@@ -114,16 +114,18 @@ impl<S: Source> Feed for FileFeed<S> {
     }
 }
 
-// The rows of a source, which is read whole.
+// The rows of a source, which is read whole. They are large, so they stay in one place, and a call of
+// `next` that gives one of them doesn't pay for their making.
+#[inline(never)]
 fn read_rows<S: Source>(
     alloc: Global,
     source: &mut S,
     index: u16,
     every: u64,
     disorder: u64,
-) -> Result<Rows, FeedFault>
-    ensures fresh { IfOk result (λ rows. (rows.source ≡ index) × (rows.ended ≡ false) × (rows.answered ≡ None)) }
-    ensures told { IfOk result (λ rows. StaysTold (option_map (told_in index every disorder) (S.rest source.old)) rows.told) }
+) -> Result<Box<Rows>, FeedFault>
+    ensures fresh { IfOk result (λ rows. (rows.value.source ≡ index) × (rows.value.ended ≡ false) × (rows.value.answered ≡ None)) }
+    ensures told { IfOk result (λ rows. StaysTold (option_map (told_in index every disorder) (S.rest source.old)) rows.value.told) }
     ensures refused { IfErr result (λ fault. Ends (refusal_of fault) (option_map (told_in index every disorder) (S.rest source.old)) (option_map only_refused (refusal_of fault))) }
     ensures read { IsErrOf result FeedFault.Read → Rose (S.faults source.old) (S.faults source.new) }
     ensures quiet { OnOk result (S.faults source.new ≡ S.faults source.old) }
@@ -132,7 +134,10 @@ fn read_rows<S: Source>(
 {
     let bytes = read_whole(alloc, source, SOURCE_MAX)?;
     let rows = Rows::new(alloc, bytes, index, every, disorder)?;
-    Ok(rows)
+    match Box::new(alloc, rows) {
+        Ok(rows) => Ok(rows),
+        Err(_) => Err(FeedFault::NoMemory),
+    }
 }
 
 // The next entry of the rows.

@@ -1,10 +1,9 @@
 ghost use Rattle.std.specs.Prelude.{◌≡◌, ◌≤◌, ◌↔◌, List, IfOk, OnOk, IfErr, Some, None, IsTrue};
 ghost use Rattle.std.specs.List.{position};
-ghost use Rattle.stream_base.specs.Limits.{definitions_of, limit_fault, AreWithinLimits, is_kind_within, is_beyond};
+ghost use Rattle.stream_base.specs.Limits.{definitions_of, limit_fault, AreWithinLimits, is_beyond};
 
 use crate::def::Def;
-use crate::kind::Kind;
-use crate::limits::{EVERY_MAX, JOURNAL_MAX, LENGTH_RATIO_MAX, TIME_MAX, WINDOWS_MAX};
+use crate::limits::{EVERY_MAX, TIME_MAX, WINDOWS_MAX};
 use crate::no_memory::NoMemory;
 use std::alloc::Global;
 use std::error::Error;
@@ -120,26 +119,8 @@ impl Defs {
     }
 }
 
-fn is_within(kind: &Kind) -> bool
-    ensures { result ≡ is_kind_within kind.now }
-{
-    match *kind {
-        Kind::Tumbling { length } => 1 <= length && length <= TIME_MAX,
-        Kind::Sliding { length, slide } => {
-            1 <= length
-                && length <= TIME_MAX
-                && 1 <= slide
-                && slide <= length
-                && length <= LENGTH_RATIO_MAX * slide
-        }
-        Kind::Session { gap } => 1 <= gap && gap <= TIME_MAX,
-        Kind::Marks => true,
-        Kind::Events { count } => 1 <= count && count <= JOURNAL_MAX,
-    }
-}
-
 fn first_beyond(windows: &[Def]) -> Option<usize>
     ensures { result ≡ position is_beyond windows.now }
 {
-    windows.iter().position(|w| !is_within(&w.kind))
+    windows.iter().position(|w| !w.kind.is_within_limits())
 }

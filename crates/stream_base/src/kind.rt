@@ -1,3 +1,8 @@
+ghost use Rattle.std.specs.Prelude.{◌≡◌};
+ghost use Rattle.stream_base.specs.Limits.{is_kind_within};
+
+use crate::limits::{JOURNAL_MAX, LENGTH_RATIO_MAX, TIME_MAX};
+
 /// A kind of window: which instances it has. Lengths, slides and gaps are in the sources' unit of
 /// time, and spans are half open.
 #[derive(Clone, Copy, Debug, PartialEq, Eq)]
@@ -12,4 +17,27 @@ pub enum Kind {
     Marks,
     /// Runs of so many tuples, in event order.
     Events { count: u64 },
+}
+
+impl Kind {
+    /// Whether its numbers are within their limits: lengths and gaps from 1 to the greatest time, a
+    /// slide from 1 to the length with at most 1,000 slides in it, and a count from 1 to the most
+    /// entries of a journal.
+    pub fn is_within_limits(&self) -> bool
+        ensures { result ≡ is_kind_within self.now }
+    {
+        match *self {
+            Kind::Tumbling { length } => 1 <= length && length <= TIME_MAX,
+            Kind::Sliding { length, slide } => {
+                1 <= length
+                    && length <= TIME_MAX
+                    && 1 <= slide
+                    && slide <= length
+                    && length <= LENGTH_RATIO_MAX * slide
+            }
+            Kind::Session { gap } => 1 <= gap && gap <= TIME_MAX,
+            Kind::Marks => true,
+            Kind::Events { count } => 1 <= count && count <= JOURNAL_MAX,
+        }
+    }
 }

@@ -1,6 +1,5 @@
 //! How an element of the array of windows reads as a window.
 ghost use Rattle.std.specs.Prelude.{◌≡◌, ◌≤◌, ◌↔◌, List, length, map, Err};
-ghost use Rattle.stream_base.specs.Limits.{is_kind_within};
 ghost use Rattle.toml.specs.Data.{Data};
 ghost use Rattle.toml.specs.View.{view, table_view};
 ghost use Rattle.window_defs.specs.Tables.{has_other};
@@ -15,7 +14,7 @@ use crate::raw_kind::RawKind;
 use crate::raw_window::RawWindow;
 use crate::table::{integer_at, text_at};
 use std::alloc::Global;
-use stream_base::{Def, Func, JOURNAL_MAX, Kind, LENGTH_RATIO_MAX, TIME_MAX};
+use stream_base::{Def, Func, Kind};
 use toml::{Table, Value};
 
 /// The windows of the elements, or the fault of the first that is in trouble.
@@ -191,23 +190,9 @@ fn natural(number: i64) -> Option<u64>
 fn within_limits(kind: Kind) -> Option<Kind>
     ensures { result ≡ within_limits kind }
 {
-    if is_within(kind) { Some(kind) } else { None }
-}
-
-fn is_within(kind: Kind) -> bool
-    ensures { result ≡ is_kind_within kind }
-{
-    match kind {
-        Kind::Tumbling { length } => 1 <= length && length <= TIME_MAX,
-        Kind::Sliding { length, slide } => {
-            1 <= length
-                && length <= TIME_MAX
-                && 1 <= slide
-                && slide <= length
-                && length <= LENGTH_RATIO_MAX * slide
-        }
-        Kind::Session { gap } => 1 <= gap && gap <= TIME_MAX,
-        Kind::Marks => true,
-        Kind::Events { count } => 1 <= count && count <= JOURNAL_MAX,
+    if kind.is_within_limits() {
+        Some(kind)
+    } else {
+        None
     }
 }
