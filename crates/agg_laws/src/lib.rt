@@ -22,8 +22,6 @@ mod probes;
 mod rises;
 mod steps;
 mod sum;
-#[cfg(test)]
-mod tests;
 mod trace;
 
 pub use agg_queue::AggQueue;

@@ -9,8 +9,6 @@ mod bounds;
 mod cell;
 mod cells;
 mod daba;
-#[cfg(test)]
-mod tests;
 mod turning;
 mod two_stacks;
 

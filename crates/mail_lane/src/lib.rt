@@ -16,8 +16,6 @@ mod receiver;
 mod role;
 mod sender;
 mod settled;
-#[cfg(test)]
-mod tests;
 
 pub use back::Back;
 pub use letter::Letter;

@@ -15,8 +15,6 @@ mod fold;
 mod past;
 mod recall;
 mod shard;
-#[cfg(test)]
-mod tests;
 
 pub use applied::{Applied, ApplyFault};
 pub use shard::Shard;

@@ -1,6 +1,5 @@
 pub mod Closing
 pub mod CsvSteps
-pub mod Draining
 pub mod Examples
 pub mod Giving
 pub mod Made

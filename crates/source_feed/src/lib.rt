@@ -18,8 +18,6 @@ mod row_why;
 mod rows;
 mod said;
 mod shard;
-#[cfg(test)]
-mod tests;
 mod whole;
 mod whole_fault;
 

@@ -62,8 +62,6 @@ mod meets;
 mod pass;
 mod plays;
 mod splits;
-#[cfg(test)]
-mod tests;
 mod turns;
 mod turnstile;
 mod view;

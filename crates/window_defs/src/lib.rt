@@ -13,8 +13,6 @@ mod raw_kind;
 mod raw_window;
 mod read;
 mod table;
-#[cfg(test)]
-mod tests;
 mod top;
 mod window;
 

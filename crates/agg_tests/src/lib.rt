@@ -1,0 +1,8 @@
+//! Tests of aggregates, trees and queues through their public calls: worked cases, and each generic item
+//! once at a type. They stand in a crate of their own, since a crate with tests is proved twice.
+#![tactic(auto)]
+
+#[cfg(test)]
+mod aggregates;
+#[cfg(test)]
+mod queues;

@@ -1,0 +1,198 @@
+ghost use Rattle.std.specs.Prelude.{◌≤◌, ◌+◌, OnOk};
+
+use agg_laws::{AggQueue, Lift, Monoid, Steps, Sum, Trace};
+use agg_queue::{Daba, TwoStacks};
+use std::collections::VecDeque;
+use std::process::Abort;
+use std::test::Fail;
+
+// Keeps the steps of a test apart.
+struct Work;
+
+// Three numbers go in, come out in the same order, and are added up before and between.
+fn adds_up_in_order<Q: AggQueue<Sum>>(
+    rt: &impl Abort,
+    queue: &mut Q,
+    steps: &mut Steps<Work>,
+) -> Result<(), Fail> {
+    queue.reserve(3)?;
+    queue.push(Sum::lift(1), steps);
+    queue.push(Sum::lift(2), steps);
+    queue.push(Sum::lift(3), steps);
+    assert_eq!(rt; queue.len(), 3);
+    assert_eq!(rt; queue.fold(steps), Sum { sum: 6 });
+    assert_eq!(rt; queue.pop(steps), Some(Sum { sum: 1 }));
+    assert_eq!(rt; queue.fold(steps), Sum { sum: 5 });
+    assert_eq!(rt; queue.pop(steps), Some(Sum { sum: 2 }));
+    assert_eq!(rt; queue.pop(steps), Some(Sum { sum: 3 }));
+    assert_eq!(rt; queue.pop(steps), None);
+    Ok(())
+}
+
+// The fold keeps the order of the numbers, and an emptied queue folds to the unit.
+fn keeps_the_order<Q: AggQueue<Trace>>(
+    rt: &impl Abort,
+    queue: &mut Q,
+    steps: &mut Steps<Work>,
+) -> Result<(), Fail> {
+    queue.reserve(2)?;
+    queue.push(Trace::lift(3), steps);
+    queue.push(Trace::lift(1), steps);
+    assert_eq!(rt; queue.fold(steps).b, 3_298_534_884_634);
+    queue.clear();
+    assert_eq!(rt; queue.len(), 0);
+    assert_eq!(rt; queue.fold(steps), Trace { a: 1, b: 0 });
+    Ok(())
+}
+
+// A caller of two stacks themselves has their bounds on credit.
+fn through_two_stacks(queue: &mut TwoStacks<Sum>, value: Sum, steps: &mut Steps<Work>) -> Sum
+    requires { 1 ≤ queue.old.spare }
+    ensures cost { steps.new + queue.new.credit ≤ steps.old + queue.old.credit + 3 }
+{
+    queue.push(value, steps);
+    let _first = queue.pop(steps);
+    queue.fold(steps)
+}
+
+// A caller of Daba itself has the bounds of each call, with no credit.
+fn through_daba(queue: &mut Daba<Sum>, value: Sum, steps: &mut Steps<Work>) -> Sum
+    requires { 1 ≤ queue.old.spare }
+    ensures cost { steps.new ≤ steps.old + 8 }
+{
+    queue.push(value, steps);
+    let _first = queue.pop(steps);
+    queue.fold(steps)
+}
+
+#[test]
+fn two_stacks_add_up_in_order(rt: HostRuntime) -> Result<(), Fail> {
+    let mut steps: Steps<Work> = Steps::start(&rt);
+    let mut queue: TwoStacks<Sum> = TwoStacks::fresh(rt.alloc());
+    adds_up_in_order(&rt, &mut queue, &mut steps)?;
+    queue.reserve(1)?;
+    assert_eq!(rt;
+        through_two_stacks(&mut queue, Sum::lift(4), &mut steps),
+        Sum { sum: 0 }
+    );
+    Ok(())
+}
+
+#[test]
+fn daba_adds_up_in_order(rt: HostRuntime) -> Result<(), Fail> {
+    let mut steps: Steps<Work> = Steps::start(&rt);
+    let mut queue: Daba<Sum> = Daba::fresh(rt.alloc());
+    adds_up_in_order(&rt, &mut queue, &mut steps)?;
+    queue.reserve(1)?;
+    assert_eq!(rt;
+        through_daba(&mut queue, Sum::lift(4), &mut steps),
+        Sum { sum: 0 }
+    );
+    Ok(())
+}
+
+#[test]
+fn two_stacks_keep_the_order(rt: HostRuntime) -> Result<(), Fail> {
+    let mut queue: TwoStacks<Trace> = TwoStacks::fresh(rt.alloc());
+    keeps_the_order(&rt, &mut queue, &mut Steps::start(&rt))
+}
+
+#[test]
+fn daba_keeps_the_order(rt: HostRuntime) -> Result<(), Fail> {
+    let mut queue: Daba<Trace> = Daba::fresh(rt.alloc());
+    keeps_the_order(&rt, &mut queue, &mut Steps::start(&rt))
+}
+
+// The numbers of a plain list, each standing for n -> 1099511628211 * n + number, one after another.
+fn traced(numbers: &VecDeque<i64>) -> Trace {
+    let mut all = Trace { a: 1, b: 0 };
+    for number in numbers {
+        all.a = all.a.wrapping_mul(1_099_511_628_211);
+        all.b = all
+            .b
+            .wrapping_mul(1_099_511_628_211)
+            .wrapping_add(number.cast_unsigned());
+    }
+    all
+}
+
+// The next number of a fixed sequence that looks random.
+fn next_draw(draw: u64) -> u64 {
+    draw.wrapping_mul(6_364_136_223_846_793_005)
+        .wrapping_add(1_442_695_040_888_963_407)
+}
+
+// One call on a queue and the same on a plain list, by lot: more pushes than pops, seldom a clear.
+fn same_call<Q: AggQueue<Trace>>(
+    rt: &impl Abort,
+    lot: u64,
+    queue: &mut Q,
+    list: &mut VecDeque<i64>,
+    steps: &mut Steps<Work>,
+) -> Result<(), Fail> {
+    match lot % 256 {
+        0 => {
+            queue.clear();
+            list.clear();
+        }
+        1..=120 => assert_eq!(rt; queue.pop(steps), list.pop_front().map(Trace::lift)),
+        _ => {
+            let number = lot.cast_signed();
+            queue.reserve(1)?;
+            queue.push(Trace::lift(number), steps);
+            list.push_back(number)?;
+        }
+    }
+    assert_eq!(rt; queue.len(), list.len() as u64);
+    assert_eq!(rt; queue.fold(steps), traced(list));
+    Ok(())
+}
+
+#[test]
+fn both_fold_as_a_plain_list_over_mixed_calls(rt: HostRuntime) -> Result<(), Fail> {
+    let mut steps: Steps<Work> = Steps::start(&rt);
+    let mut stacks: TwoStacks<Trace> = TwoStacks::fresh(rt.alloc());
+    let mut daba: Daba<Trace> = Daba::fresh(rt.alloc());
+    let mut lists = (VecDeque::new(rt.alloc()), VecDeque::new(rt.alloc()));
+    let mut draw = 1;
+    for _ in 0..4000 {
+        draw = next_draw(draw);
+        same_call(&rt, draw >> 33, &mut stacks, &mut lists.0, &mut steps)?;
+        same_call(&rt, draw >> 33, &mut daba, &mut lists.1, &mut steps)?;
+    }
+    Ok(())
+}
+
+// The numbers of a plain list added up.
+fn summed(numbers: &VecDeque<i64>) -> Sum {
+    let mut all = Sum { sum: 0 };
+    for number in numbers {
+        all.sum = all.sum.wrapping_add(i128::from(*number));
+    }
+    all
+}
+
+#[test]
+fn daba_keeps_its_bounds_over_ten_thousand_items(rt: HostRuntime) -> Result<(), Fail> {
+    let mut steps: Steps<Work> = Steps::start(&rt);
+    let mut queue: Daba<Sum> = Daba::fresh(rt.alloc());
+    let mut list = VecDeque::new(rt.alloc());
+    queue.reserve(10_000)?;
+    let mut pushed: u32 = 0;
+    for call in 0..20_000 {
+        let before = steps.count();
+        if pushed < 10_000 && call % 12 < 7 {
+            queue.push(Sum::lift(i64::from(pushed)), &mut steps);
+            list.push_back(i64::from(pushed))?;
+            pushed += 1;
+            assert!(rt; steps.count() <= before.saturating_add(4));
+        } else {
+            assert_eq!(rt; queue.pop(&mut steps), list.pop_front().map(Sum::lift));
+            assert!(rt; steps.count() <= before.saturating_add(3));
+        }
+        assert_eq!(rt; queue.fold(&mut steps), summed(&list));
+    }
+    assert_eq!(rt; pushed, 10_000);
+    assert_eq!(rt; queue.len(), 0);
+    Ok(())
+}

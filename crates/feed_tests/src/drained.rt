@@ -1,0 +1,40 @@
+//! The clauses of a feed tell which entries it gives in all.
+
+ghost use Rattle.std.specs.Prelude.{◌≡◌, Some, None, IfOk, IfErr, IfSome};
+ghost use Rattle.source_feed.specs.FeedFault.{refusal_of};
+ghost use Rattle.source_feed.specs.Feeding.{told_in};
+
+use source_feed::{Feed, FeedFault, FileFeed};
+use std::alloc::Global;
+use stream_base::{Defs, Entry, MemSource};
+
+// All entries of a feed that hasn't given its end: those that it told, or the refusal that it told.
+pub fn all_of<F: Feed>(alloc: Global, feed: &mut F) -> Result<Vec<Entry>, FeedFault>
+    ensures given { IfOk result (λ entries. IfSome (F.told feed.old) (λ told. told ≡ record { entries = entries.items; refusal = None })) }
+    ensures refused { IfErr result (λ fault. IfSome (refusal_of fault) (λ refusal. IfSome (F.told feed.old) (λ told. told.refusal ≡ Some refusal))) }
+{
+    let mut entries = Vec::new(alloc);
+    'turns: for _ in 0..u64::MAX {
+        match feed.next()? {
+            Some(entry) => {
+                if entries.push(entry).is_err() {
+                    return Err(FeedFault::NoMemory);
+                }
+            }
+            None => return Ok(entries),
+        }
+    }
+    Err(FeedFault::NoMemory)
+}
+
+// The entries of a source with these bytes, and the watermarks that are made, are exactly the rows
+// of the bytes.
+pub fn entries_of(alloc: Global, bytes: &[u8], defs: &Defs) -> Result<Vec<Entry>, FeedFault>
+    ensures given { IfOk result (λ entries. told_in 0 defs.now.every defs.now.disorder bytes.now ≡ record { entries = entries.items; refusal = None }) }
+    ensures refused { IfErr result (λ fault. IfSome (refusal_of fault) (λ refusal. (told_in 0 defs.now.every defs.now.disorder bytes.now).refusal ≡ Some refusal)) }
+{
+    let mut feed = FileFeed::new(alloc, MemSource::new(bytes, &[], 7), 0, defs);
+    let entries = all_of(alloc, &mut feed);
+    let _faults = feed.into_source().into_faults();
+    entries
+}

@@ -1,0 +1,216 @@
+ghost use Rattle.std.specs.Prelude.{◌≡◌, ◌≤◌, ◌<◌, IfOk, OnOk};
+
+use agg_laws::Steps;
+use shard_core::{Applied, ApplyFault, Shard};
+use std::alloc::Global;
+use std::process::Abort;
+use std::test::Fail;
+use stream_base::{Change, Def, Defs, Entry, Func, KeyText, Kind, Row, Shown, What};
+
+// Keeps the counters of a test apart.
+struct Work;
+
+// A shard with a tumbling window of length 10 under this function.
+fn empty_shard(alloc: Global, func: Func, sources: u16) -> Result<Shard, Fail>
+    requires some { 1 ≤ sources }
+    requires few { sources ≤ 16 }
+    ensures { IfOk result (λ shard. shard.sources ≡ sources) }
+{
+    let tumbling = Def {
+        kind: Kind::Tumbling { length: 10 },
+        func,
+    };
+    let defs = Defs::new(vec![in alloc; tumbling]?, 0, 0, 0)?;
+    Ok(Shard::new(alloc, defs, sources)?)
+}
+
+fn put(
+    rt: &impl Abort,
+    shard: &mut Shard,
+    source: u16,
+    what: What,
+    steps: &mut Steps<Work>,
+) -> Result<Applied, Fail>
+    requires { source < shard.old.sources }
+    ensures { OnOk result (shard.new.sources ≡ shard.old.sources) }
+{
+    let entry = Entry { source, what };
+    assert!(rt; entry.is_within_limits());
+    Ok(shard.apply(&entry, steps)?)
+}
+
+// Three entries of the first source.
+fn put_three(
+    rt: &impl Abort,
+    shard: &mut Shard,
+    first: What,
+    second: What,
+    third: What,
+    steps: &mut Steps<Work>,
+) -> Result<(), Fail>
+    requires { 1 ≤ shard.old.sources }
+    ensures { OnOk result (shard.new.sources ≡ shard.old.sources) }
+{
+    let _applied = put(rt, shard, 0, first, steps)?;
+    let _applied = put(rt, shard, 0, second, steps)?;
+    let _applied = put(rt, shard, 0, third, steps)?;
+    Ok(())
+}
+
+fn tuple(key: KeyText, time: u64, value: i64) -> What {
+    What::Tuple { key, time, value }
+}
+
+fn water(time: u64) -> What {
+    What::Water { time }
+}
+
+// The emission of one interval of window 0.
+fn emission(key: KeyText, low: u64, high: u64, number: u64, value: i128) -> Change {
+    Change::New(Row {
+        window: 0,
+        key,
+        low,
+        high,
+        number,
+        shown: Shown::Whole(value),
+    })
+}
+
+fn under<'a>(rt: &impl Abort, shard: &'a Shard, position: u64) -> &'a [Change] {
+    assert!(rt; position < shard.journal_len());
+    shard.changes_at(position)
+}
+
+#[test]
+fn a_watermark_emits_the_interval_that_it_passes(rt: HostRuntime) -> Result<(), Fail> {
+    let mut steps: Steps<Work> = Steps::start(&rt);
+    let mut shard = empty_shard(rt.alloc(), Func::Sum, 1)?;
+    let a = KeyText::from_bytes(b"a")?;
+    put_three(
+        &rt,
+        &mut shard,
+        tuple(a, 1, 5),
+        tuple(a, 4, 7),
+        water(10),
+        &mut steps,
+    )?;
+    let applied = put(&rt, &mut shard, 0, What::End, &mut steps)?;
+    assert_eq!(rt; applied.position, 3);
+    assert_eq!(rt; applied.changes, 0);
+    assert!(rt; shard.journal_len() == 4);
+    let second = *shard.entry_at(1);
+    assert_eq!(rt; second.what, tuple(a, 4, 7));
+    assert!(rt; under(&rt, &shard, 1).is_empty());
+    let want = [emission(a, 0, 10, 2, 12)];
+    assert_eq!(rt; under(&rt, &shard, 2), want.as_slice());
+    Ok(())
+}
+
+#[test]
+fn tuples_out_of_order_fall_into_their_own_intervals(rt: HostRuntime) -> Result<(), Fail> {
+    let mut steps: Steps<Work> = Steps::start(&rt);
+    let mut shard = empty_shard(rt.alloc(), Func::Sum, 1)?;
+    let a = KeyText::from_bytes(b"a")?;
+    put_three(
+        &rt,
+        &mut shard,
+        tuple(a, 10, 1),
+        tuple(a, 9, 2),
+        water(10),
+        &mut steps,
+    )?;
+    put(&rt, &mut shard, 0, What::End, &mut steps)?;
+    let first = [emission(a, 0, 10, 1, 2)];
+    assert_eq!(rt; under(&rt, &shard, 2), first.as_slice());
+    let second = [emission(a, 10, 20, 1, 1)];
+    assert_eq!(rt; under(&rt, &shard, 3), second.as_slice());
+    Ok(())
+}
+
+// The hash of 1 and then 3 is 1 * 1099511628211 + 3.
+#[test]
+fn values_are_folded_in_the_order_of_their_times(rt: HostRuntime) -> Result<(), Fail> {
+    let mut steps: Steps<Work> = Steps::start(&rt);
+    let mut shard = empty_shard(rt.alloc(), Func::Trace, 1)?;
+    let a = KeyText::from_bytes(b"a")?;
+    put_three(
+        &rt,
+        &mut shard,
+        tuple(a, 5, 3),
+        tuple(a, 2, 1),
+        What::End,
+        &mut steps,
+    )?;
+    let want = [emission(a, 0, 10, 2, 1_099_511_628_214)];
+    assert_eq!(rt; under(&rt, &shard, 2), want.as_slice());
+    Ok(())
+}
+
+#[test]
+fn a_tuple_behind_the_watermark_is_dropped(rt: HostRuntime) -> Result<(), Fail> {
+    let mut steps: Steps<Work> = Steps::start(&rt);
+    let mut shard = empty_shard(rt.alloc(), Func::Sum, 1)?;
+    let a = KeyText::from_bytes(b"a")?;
+    put_three(
+        &rt,
+        &mut shard,
+        water(10),
+        tuple(a, 9, 7),
+        tuple(a, 10, -2),
+        &mut steps,
+    )?;
+    put(&rt, &mut shard, 0, What::End, &mut steps)?;
+    let dropped = [Change::Dropped];
+    assert_eq!(rt; under(&rt, &shard, 1), dropped.as_slice());
+    assert!(rt; under(&rt, &shard, 2).is_empty());
+    let want = [emission(a, 10, 20, 1, -2)];
+    assert_eq!(rt; under(&rt, &shard, 3), want.as_slice());
+    Ok(())
+}
+
+#[test]
+fn the_least_watermark_of_the_sources_counts(rt: HostRuntime) -> Result<(), Fail> {
+    let mut steps: Steps<Work> = Steps::start(&rt);
+    let mut shard = empty_shard(rt.alloc(), Func::Sum, 2)?;
+    let a = KeyText::from_bytes(b"a")?;
+    put_three(
+        &rt,
+        &mut shard,
+        tuple(a, 5, 1),
+        water(20),
+        What::End,
+        &mut steps,
+    )?;
+    put(&rt, &mut shard, 1, water(10), &mut steps)?;
+    assert!(rt; under(&rt, &shard, 1).is_empty());
+    assert!(rt; under(&rt, &shard, 2).is_empty());
+    let want = [emission(a, 0, 10, 1, 1)];
+    assert_eq!(rt; under(&rt, &shard, 3), want.as_slice());
+    Ok(())
+}
+
+#[test]
+fn an_entry_behind_the_end_of_its_source_changes_nothing(rt: HostRuntime) -> Result<(), Fail> {
+    let mut steps: Steps<Work> = Steps::start(&rt);
+    let mut shard = empty_shard(rt.alloc(), Func::Sum, 1)?;
+    let a = KeyText::from_bytes(b"a")?;
+    put_three(
+        &rt,
+        &mut shard,
+        tuple(a, 5, 1),
+        water(9),
+        What::End,
+        &mut steps,
+    )?;
+    let entry = Entry {
+        source: 0,
+        what: water(30),
+    };
+    assert!(rt; entry.is_within_limits());
+    assert_eq!(rt; shard.apply(&entry, &mut steps), Err(ApplyFault::Ended));
+    assert_eq!(rt; shard.journal_len(), 3);
+    let want = [emission(a, 0, 10, 1, 1)];
+    assert_eq!(rt; under(&rt, &shard, 2), want.as_slice());
+    Ok(())
+}

@@ -1,5 +1,0 @@
-use Rattle.mail_lane.specs.Lane.{IsReceiverOf}
-use Rattle.mail_lane.proofs.tests.take_all.Given as goal
-
-abbrev pub invariant-loop : goal.invariant-loop
-invariant-loop g l = IsReceiverOf l.mail l.receiver

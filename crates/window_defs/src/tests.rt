@@ -1,3 +1,0 @@
-mod accepted;
-mod cuts;
-mod refused;
