@@ -214,3 +214,18 @@ fn an_entry_behind_the_end_of_its_source_changes_nothing(rt: HostRuntime) -> Res
     assert_eq!(rt; under(&rt, &shard, 2), want.as_slice());
     Ok(())
 }
+
+#[test]
+fn a_source_that_only_ended_can_say_no_more(rt: HostRuntime) -> Result<(), Fail> {
+    let mut steps: Steps<Work> = Steps::start(&rt);
+    let mut shard = empty_shard(rt.alloc(), Func::Sum, 1)?;
+    put(&rt, &mut shard, 0, What::End, &mut steps)?;
+    let entry = Entry {
+        source: 0,
+        what: water(30),
+    };
+    assert!(rt; entry.is_within_limits());
+    assert_eq!(rt; shard.apply(&entry, &mut steps), Err(ApplyFault::Ended));
+    assert_eq!(rt; shard.journal_len(), 1);
+    Ok(())
+}
