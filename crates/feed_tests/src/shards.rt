@@ -47,14 +47,19 @@ fn put_three(
     second: What,
     third: What,
     steps: &mut Steps<Work>,
-) -> Result<(), Fail>
+) -> Result<[Applied; 3], Fail>
     requires { 1 ≤ shard.old.sources }
     ensures { OnOk result (shard.new.sources ≡ shard.old.sources) }
 {
-    let _applied = put(rt, shard, 0, first, steps)?;
-    let _applied = put(rt, shard, 0, second, steps)?;
-    let _applied = put(rt, shard, 0, third, steps)?;
-    Ok(())
+    let first = put(rt, shard, 0, first, steps)?;
+    let second = put(rt, shard, 0, second, steps)?;
+    let third = put(rt, shard, 0, third, steps)?;
+    Ok([first, second, third])
+}
+
+// An entry at this position, which caused so many changes.
+fn at(position: u64, changes: u64) -> Applied {
+    Applied { position, changes }
 }
 
 fn tuple(key: KeyText, time: u64, value: i64) -> What {
@@ -87,7 +92,7 @@ fn a_watermark_emits_the_interval_that_it_passes(rt: HostRuntime) -> Result<(), 
     let mut steps: Steps<Work> = Steps::start(&rt);
     let mut shard = empty_shard(rt.alloc(), Func::Sum, 1)?;
     let a = KeyText::from_bytes(b"a")?;
-    put_three(
+    let three = put_three(
         &rt,
         &mut shard,
         tuple(a, 1, 5),
@@ -95,9 +100,9 @@ fn a_watermark_emits_the_interval_that_it_passes(rt: HostRuntime) -> Result<(), 
         water(10),
         &mut steps,
     )?;
-    let applied = put(&rt, &mut shard, 0, What::End, &mut steps)?;
-    assert_eq!(rt; applied.position, 3);
-    assert_eq!(rt; applied.changes, 0);
+    assert_eq!(rt; three, [at(0, 0), at(1, 0), at(2, 1)]);
+    let last = put(&rt, &mut shard, 0, What::End, &mut steps)?;
+    assert_eq!(rt; last, at(3, 0));
     assert!(rt; shard.journal_len() == 4);
     let second = *shard.entry_at(1);
     assert_eq!(rt; second.what, tuple(a, 4, 7));
