@@ -105,7 +105,8 @@ impl Monoid for Bundle {
         ensures counted { steps.new ≡ next_count steps.old }
 
         // The bundles of two lists of values combine to the bundle of both lists together.
-        ensures joined { (xs ys : List ℤ) → All (FitsSigned w64) xs → All (FitsSigned w64) ys → self.now ≡ bundle_of xs → right.now ≡ bundle_of ys → result ≡ bundle_of (xs ++ ys) }
+        ensures joined { (xs ys : List ℤ) → All (FitsSigned w64) xs → All (FitsSigned w64) ys
+            → self.now ≡ bundle_of xs → right.now ≡ bundle_of ys → result ≡ bundle_of (xs ++ ys) }
     {
         steps.tick();
         let mut parts: Steps<L> = Steps::aside();
@@ -151,7 +152,8 @@ impl Bundle {
     /// into the bundle, in their order; what Min, Max and their kin show of no value at all says
     /// nothing.
     pub fn show(&self, func: Func) -> Shown
-        ensures shown { (values : List ℤ) → self.now ≡ bundle_of values → result ≡ shown_of func values }
+        ensures shown { (values : List ℤ) → self.now ≡ bundle_of values
+            → result ≡ shown_of func values }
     {
         match func {
             Func::Count => Shown::Whole(i128::from(self.count.count)),

@@ -1,128 +1,168 @@
 -- Texts that go out in parts.
-use Rattle.std.proofs.Common.{◌≡◌, ◌++◌, ℕ, List, [], Result, Ok, Err, OnErr, Option, Some, None, length, take, drop, get_or, ◌+◌, ◌-◌, ◌<◌, ◌≤◌, refl, sym, ap, subst, ◌∙◌, append_assoc, append-nil, arith}
+use Rattle.std.proofs.Common.{◌≡◌, ◌++◌, ℕ, List, [], Result, Ok, Err, Option, Some, None, length, take, drop, get_or, ◌+◌, ◌-◌, ◌<◌, ◌≤◌, refl, sym, ap, subst, ◌∙◌, append_assoc, append-nil, arith}
 use Rattle.std.specs.List.{flat_map}
+use Rattle.std.specs.Result.{IsErr}
+use Rattle.std.proofs.lemmas.Bool.{false≢true}
 use Rattle.std.proofs.lemmas.Grind.{common_steps}
 use Rattle.std.proofs.lemmas.List.{at_drop_more, take-append-drop}
 use Rattle.std.proofs.Math.Seq.{take-append_seam}
-use Rattle.stream_base.specs.Outside.{with_back}
-use Rattle.emission_text.specs.Sending.{Sends, SendsFront}
-
--- a fact that holds, of a result that is an error
-pub on-err : {T E P : Type 0} (r : Result T E) → P → OnErr r P
-on-err (Ok value) p = tt
-on-err (Err error) p = p
+use Rattle.stream_base.specs.Outside.{Rose, with_back}
+use Rattle.emission_text.specs.Sending.{Appends, AppendsPrefix, Fails, Puts, Writes}
+use Rattle.emission_text.specs.declared.sink_fault.SinkFault.{SinkFault}
 
 -- what went out in two parts went out
 with_back-twice : (front more : List ℕ) (told : Option (List ℕ)) → with_back more (with_back front told) ≡ with_back (front ++ more) told
 with_back-twice front more None = refl
 with_back-twice front more (Some written) = ap (λ bytes. Some bytes) (append_assoc written front more)
 
--- all of a text went out
-pub sends-all : {text : List ℕ} {old new : Option (List ℕ)} → new ≡ with_back text old → Sends text [] old new
-sends-all {text = text} written = record { front = text; splits = sym (append-nil text); written = written }
+with_back-nothing : (told : Option (List ℕ)) → told ≡ with_back [] told
+with_back-nothing None = refl
+with_back-nothing (Some written) = ap (λ bytes. Some bytes) (sym (append-nil written))
 
--- a front of the text went out, and then a front of what was left
-pub sends-then : {text rest left : List ℕ} {old mid new : Option (List ℕ)} → Sends text rest old mid → Sends rest left mid new → Sends text left old new
-sends-then {left = left} {old = old} first second = record {
-  front = first.front ++ second.front;
-  splits = first.splits ∙ ap (λ bytes. first.front ++ bytes) second.splits ∙ sym (append_assoc first.front second.front left);
-  written = second.written ∙ ap (λ told. with_back second.front told) first.written ∙ with_back-twice first.front second.front old;
-}
+module _ {K : Type 0} {written : K → Option (List ℕ)} {faults : K → ℕ} where
+  -- all of a text is left
+  pub appends_nothing : (text : List ℕ) (sink : K) → AppendsPrefix written faults text text sink sink
+  appends_nothing text sink = record { prefix = []; splits = refl; appended = with_back-nothing (written sink); quiet = refl }
 
--- what stands behind a text stands behind what is left of it
-pub sends-before : {text left : List ℕ} {old new : Option (List ℕ)} (more : List ℕ) → Sends text left old new → Sends (text ++ more) (left ++ more) old new
-sends-before {left = left} more sent = record {
-  front = sent.front;
-  splits = ap (λ bytes. bytes ++ more) sent.splits ∙ append_assoc sent.front left more;
-  written = sent.written;
-}
+  -- all of a text went out
+  pub appends_all : {text : List ℕ} {old new : K} → Appends written faults text old new → AppendsPrefix written faults text [] old new
+  appends_all {text = text} all = record { prefix = text; splits = sym (append-nil text); appended = all.appended; quiet = all.quiet }
 
--- what went out is the first bytes of the text
-pub sends-front : {text left : List ℕ} {old new : Option (List ℕ)} → Sends text left old new → SendsFront text old new
-sends-front {text = text} {left = left} {old = old} sent =
-    let first : take (length sent.front) text ≡ sent.front = ap (λ bytes. take (length sent.front) bytes) sent.splits ∙ take-append_seam sent.front left in
-    record { count = length sent.front; written = sent.written ∙ ap (λ bytes. with_back bytes old) (sym first) }
+  -- nothing of a text is left
+  pub appends_whole : {text left : List ℕ} {old new : K} → left ≡ [] → AppendsPrefix written faults text left old new → Appends written faults text old new
+  appends_whole {text = text} {old = old} empty some =
+      let whole : some.prefix ≡ text = sym (some.splits ∙ ap (λ left. some.prefix ++ left) empty ∙ append-nil some.prefix) in
+      record { appended = some.appended ∙ ap (λ bytes. with_back bytes (written old)) whole; quiet = some.quiet }
 
--- where the first bytes of the text went out, the others are left
-front-left : {text : List ℕ} {old new : Option (List ℕ)} (some : SendsFront text old new) → Sends text (drop some.count text) old new
-front-left {text = text} some = record { front = take some.count text; splits = sym (take-append-drop some.count text); written = some.written }
+  -- a prefix of the text went out, and then a prefix of what was left
+  pub appends_then : {text rest left : List ℕ} {old mid new : K} → AppendsPrefix written faults text rest old mid → AppendsPrefix written faults rest left mid new → AppendsPrefix written faults text left old new
+  appends_then {left = left} {old = old} first second = record {
+    prefix = first.prefix ++ second.prefix;
+    splits = first.splits ∙ ap (λ bytes. first.prefix ++ bytes) second.splits ∙ sym (append_assoc first.prefix second.prefix left);
+    appended = second.appended ∙ ap (λ told. with_back second.prefix told) first.appended ∙ with_back-twice first.prefix second.prefix (written old);
+    quiet = second.quiet ∙ first.quiet;
+  }
 
-pub front-then : {text rest : List ℕ} {old mid new : Option (List ℕ)} → Sends text rest old mid → SendsFront rest mid new → SendsFront text old new
-front-then first some = sends-front (sends-then first (front-left some))
+  -- what stands behind a text stands behind what is left of it
+  pub appends_before : {text left : List ℕ} {old new : K} (more : List ℕ) → AppendsPrefix written faults text left old new → AppendsPrefix written faults (text ++ more) (left ++ more) old new
+  appends_before {left = left} more some = record {
+    prefix = some.prefix;
+    splits = ap (λ bytes. bytes ++ more) some.splits ∙ append_assoc some.prefix left more;
+    appended = some.appended;
+    quiet = some.quiet;
+  }
 
-pub front-before : {text : List ℕ} {old new : Option (List ℕ)} (more : List ℕ) → SendsFront text old new → SendsFront (text ++ more) old new
-front-before more some = sends-front (sends-before more (front-left some))
+  -- a write failed after a prefix of the text
+  fails_at : {text : List ℕ} {old new : K} (prefix left : List ℕ) → text ≡ prefix ++ left → written new ≡ with_back prefix (written old) → Rose (faults old) (faults new)
+      → Fails written faults text old new
+  fails_at {text = text} {old = old} prefix left splits appended failed =
+      let first : take (length prefix) text ≡ prefix = ap (λ bytes. take (length prefix) bytes) splits ∙ take-append_seam prefix left in
+      record { count = length prefix; appended = appended ∙ ap (λ bytes. with_back bytes (written old)) (sym first); failed = failed }
 
--- of a text of which a part is left, and then more: the part is pending, or went out
-pub sends-more : {text rest left : List ℕ} {old mid new : Option (List ℕ)} (pending part more : List ℕ) → rest ≡ part ++ more
-    → Sends text (pending ++ rest) old mid → Sends (pending ++ part) left mid new → Sends text (left ++ more) old new
-sends-more {text = text} {old = old} {mid = mid} pending part more is first second =
-    let behind = subst (λ bytes. Sends text bytes old mid) (ap (λ bytes. pending ++ bytes) is ∙ sym (append_assoc pending part more)) first in
-    sends-then behind (sends-before more second)
+  -- the failure of a write that took nothing
+  pub fails_at_once : {text rest : List ℕ} {old mid new : K} → AppendsPrefix written faults text rest old mid → written new ≡ written mid → Rose (faults mid) (faults new)
+      → Fails written faults text old new
+  fails_at_once {rest = rest} {new = new} first kept failed =
+      fails_at first.prefix rest first.splits (kept ∙ first.appended) (subst (λ n. Rose n (faults new)) first.quiet failed)
 
-pub front-more : {text rest : List ℕ} {old mid new : Option (List ℕ)} (pending part more : List ℕ) → rest ≡ part ++ more
-    → Sends text (pending ++ rest) old mid → SendsFront (pending ++ part) mid new → SendsFront text old new
-front-more {text = text} {old = old} {mid = mid} pending part more is first some =
-    let behind = subst (λ bytes. Sends text bytes old mid) (ap (λ bytes. pending ++ bytes) is ∙ sym (append_assoc pending part more)) first in
-    front-then behind (front-before more some)
+  -- the failure came in what was left
+  pub fails_then : {text rest : List ℕ} {old mid new : K} → AppendsPrefix written faults text rest old mid → Fails written faults rest mid new → Fails written faults text old new
+  fails_then {rest = rest} {old = old} {new = new} first failure =
+      let taken = take failure.count rest in
+      let left = drop failure.count rest in
+      fails_at (first.prefix ++ taken) left
+      (first.splits ∙ ap (λ bytes. first.prefix ++ bytes) (sym (take-append-drop failure.count rest)) ∙ sym (append_assoc first.prefix taken left))
+      (failure.appended ∙ ap (λ told. with_back taken told) first.appended ∙ with_back-twice first.prefix taken (written old))
+      (subst (λ n. Rose n (faults new)) first.quiet failure.failed)
 
--- two parts, one behind the other: both were put
-pub both-put : {left last : List ℕ} {old mid new : Option (List ℕ)} (pending part more : List ℕ)
-    → Sends (pending ++ part) left old mid → Sends (left ++ more) last mid new → Sends (pending ++ (part ++ more)) last old new
-both-put {left = left} {old = old} {mid = mid} pending part more first second =
-    let all = subst (λ bytes. Sends bytes (left ++ more) old mid) (append_assoc pending part more) (sends-before more first) in
-    sends-then all second
+  -- before more text
+  pub fails_before : {text : List ℕ} {old new : K} (more : List ℕ) → Fails written faults text old new → Fails written faults (text ++ more) old new
+  fails_before {text = text} more failure =
+      let taken = take failure.count text in
+      let left = drop failure.count text in
+      fails_at taken (left ++ more) (ap (λ bytes. bytes ++ more) (sym (take-append-drop failure.count text)) ∙ append_assoc taken left more) failure.appended failure.failed
 
--- the second failed
-pub second-failed : {left : List ℕ} {old mid new : Option (List ℕ)} (pending part more : List ℕ)
-    → Sends (pending ++ part) left old mid → SendsFront (left ++ more) mid new → SendsFront (pending ++ (part ++ more)) old new
-second-failed {left = left} {old = old} {mid = mid} pending part more first some =
-    let all = subst (λ bytes. Sends bytes (left ++ more) old mid) (append_assoc pending part more) (sends-before more first) in
-    front-then all some
+  -- a write failed, and so did the call
+  pub put_failed : {old : K} (text pending left : List ℕ) (new : K) (answer : Result (Unit {0}) SinkFault) → IsErr answer
+      → Fails written faults (pending ++ text) old new → Puts written faults text pending left old new answer
+  put_failed text pending left new (Ok done) failed failure = absurd (false≢true failed)
+  put_failed text pending left new (Err fault) failed failure = failure
 
--- the first failed
-pub first-failed : {old new : Option (List ℕ)} (pending part more : List ℕ) → SendsFront (pending ++ part) old new → SendsFront (pending ++ (part ++ more)) old new
-first-failed {old = old} {new = new} pending part more some =
-    subst (λ bytes. SendsFront bytes old new) (append_assoc pending part more) (front-before more some)
+  pub write_failed : {old : K} (text : List ℕ) (new : K) (answer : Result (Unit {0}) SinkFault) → IsErr answer → Fails written faults text old new → Writes written faults text old new answer
+  write_failed text new (Ok done) failed failure = absurd (false≢true failed)
+  write_failed text new (Err fault) failed failure = failure
 
--- the part that was pending went out, and then a further part was put
-pub flushed-then : {left : List ℕ} {old mid new : Option (List ℕ)} (pending part : List ℕ)
-    → mid ≡ with_back pending old → Sends part left mid new → Sends (pending ++ part) left old new
-flushed-then pending part flushed second = sends-then (sends-before part (sends-all flushed)) second
+  -- of a text of which a part is left, and then more: the part is pending, or went out
+  pub part_put : {text rest left : List ℕ} {old mid new : K} (pending part more : List ℕ) → rest ≡ part ++ more
+      → AppendsPrefix written faults text (pending ++ rest) old mid → AppendsPrefix written faults (pending ++ part) left mid new
+      → AppendsPrefix written faults text (left ++ more) old new
+  part_put {text = text} {old = old} {mid = mid} pending part more is first second =
+      let behind = subst (λ bytes. AppendsPrefix written faults text bytes old mid) (ap (λ bytes. pending ++ bytes) is ∙ sym (append_assoc pending part more)) first in
+      appends_then behind (appends_before more second)
 
--- or failed
-pub flushed-failed : {old mid new : Option (List ℕ)} (pending part : List ℕ)
-    → mid ≡ with_back pending old → SendsFront part mid new → SendsFront (pending ++ part) old new
-flushed-failed pending part flushed some = front-then (sends-before part (sends-all flushed)) some
+  -- or a write failed
+  pub part_failed : {text rest : List ℕ} {old mid new : K} (pending part more : List ℕ) → rest ≡ part ++ more
+      → AppendsPrefix written faults text (pending ++ rest) old mid → Fails written faults (pending ++ part) mid new → Fails written faults text old new
+  part_failed {text = text} {old = old} {mid = mid} pending part more is first failure =
+      let behind = subst (λ bytes. AppendsPrefix written faults text bytes old mid) (ap (λ bytes. pending ++ bytes) is ∙ sym (append_assoc pending part more)) first in
+      fails_then behind (fails_before more failure)
 
--- a write took the first bytes of what was left
-pub sends-taken : {text : List ℕ} {old mid new : Option (List ℕ)} (rest : List ℕ) (n : ℕ) → n ≤ length rest
-    → Sends text rest old mid → new ≡ with_back (take n rest) mid → Sends text (take (length rest - n) (drop n rest)) old new
-sends-taken {mid = mid} {new = new} rest n within first written =
-    let left : take (length rest - n) (drop n rest) ≡ drop n rest = grind (arith, common_steps) in
-    let taken : Sends rest (drop n rest) mid new = record { front = take n rest; splits = sym (take-append-drop n rest); written = written } in
-    rw left (sends-then first taken)
+  -- two parts, one behind the other
+  pub both_put : {left : List ℕ} {old mid : K} (pending part more last : List ℕ) (new : K) (answer : Result (Unit {0}) SinkFault)
+      → AppendsPrefix written faults (pending ++ part) left old mid → Puts written faults more left last mid new answer → Puts written faults (part ++ more) pending last old new answer
+  both_put {left = left} {old = old} {mid = mid} pending part more last new (Ok done) first second =
+      let all = subst (λ bytes. AppendsPrefix written faults bytes (left ++ more) old mid) (append_assoc pending part more) (appends_before more first) in
+      appends_then all second
+  both_put {left = left} {old = old} {mid = mid} pending part more last new (Err fault) first second =
+      let all = subst (λ bytes. AppendsPrefix written faults bytes (left ++ more) old mid) (append_assoc pending part more) (appends_before more first) in
+      fails_then all second
 
--- the part of one element of a list more
-pub element-put : {X : Type 0} {text left : List ℕ} {old mid new : Option (List ℕ)} (f : X → List ℕ) (xs : List X) (i : ℕ) (d : X) (pending : List ℕ) → i < length xs
-    → Sends text (pending ++ flat_map f (drop i xs)) old mid → Sends (pending ++ f (get_or xs i d)) left mid new
-    → Sends text (left ++ flat_map f (drop (i + 1) xs)) old new
-element-put f xs i d pending within =
-    sends-more pending (f (get_or xs i d)) (flat_map f (drop (i + 1) xs)) (at_drop_more (flat_map f) xs i d within)
+  -- the first of two parts failed
+  pub first_failed : {old new : K} (pending part more : List ℕ) → Fails written faults (pending ++ part) old new → Fails written faults (pending ++ (part ++ more)) old new
+  first_failed {old = old} {new = new} pending part more failure =
+      subst (λ bytes. Fails written faults bytes old new) (append_assoc pending part more) (fails_before more failure)
 
-pub element-failed : {X : Type 0} {text : List ℕ} {old mid new : Option (List ℕ)} (f : X → List ℕ) (xs : List X) (i : ℕ) (d : X) (pending : List ℕ) → i < length xs
-    → Sends text (pending ++ flat_map f (drop i xs)) old mid → SendsFront (pending ++ f (get_or xs i d)) mid new → SendsFront text old new
-element-failed f xs i d pending within =
-    front-more pending (f (get_or xs i d)) (flat_map f (drop (i + 1) xs)) (at_drop_more (flat_map f) xs i d within)
+  -- what was pending went out, and then a further part was put
+  pub flushed_then : {old mid : K} (pending part left : List ℕ) (new : K) (answer : Result (Unit {0}) SinkFault)
+      → Appends written faults pending old mid → Puts written faults part [] left mid new answer → Puts written faults part pending left old new answer
+  flushed_then pending part left new (Ok done) flushed second = appends_then (appends_before part (appends_all flushed)) second
+  flushed_then pending part left new (Err fault) flushed second = fails_then (appends_before part (appends_all flushed)) second
 
--- the same, of an element that has a name
-pub item-put : {X : Type 0} {text left : List ℕ} {old mid new : Option (List ℕ)} (f : X → List ℕ) (xs : List X) (i : ℕ) (x : X) (pending : List ℕ) → i < length xs → x ≡ get_or xs i x
-    → Sends text (pending ++ flat_map f (drop i xs)) old mid → Sends (pending ++ f x) left mid new
-    → Sends text (left ++ flat_map f (drop (i + 1) xs)) old new
-item-put {left = left} {mid = mid} {new = new} f xs i x pending within is first second =
-    element-put f xs i x pending within first (subst (λ item. Sends (pending ++ f item) left mid new) is second)
+  -- a text was put, and then what was pending went out
+  pub put_then_flushed : {text left : List ℕ} {old mid : K} (new : K) (answer : Result (Unit {0}) SinkFault)
+      → AppendsPrefix written faults text left old mid → Writes written faults left mid new answer → Writes written faults text old new answer
+  put_then_flushed new (Ok done) first second = appends_whole refl (appends_then first (appends_all second))
+  put_then_flushed new (Err fault) first second = fails_then first second
 
-pub item-failed : {X : Type 0} {text : List ℕ} {old mid new : Option (List ℕ)} (f : X → List ℕ) (xs : List X) (i : ℕ) (x : X) (pending : List ℕ) → i < length xs → x ≡ get_or xs i x
-    → Sends text (pending ++ flat_map f (drop i xs)) old mid → SendsFront (pending ++ f x) mid new → SendsFront text old new
-item-failed {mid = mid} {new = new} f xs i x pending within is first some =
-    element-failed f xs i x pending within first (subst (λ item. SendsFront (pending ++ f item) mid new) is some)
+  -- a write took the first bytes of what was left
+  pub appends_taken : {text : List ℕ} {old mid new : K} (rest : List ℕ) (n : ℕ) → n ≤ length rest
+      → AppendsPrefix written faults text rest old mid → written new ≡ with_back (take n rest) (written mid) → faults new ≡ faults mid
+      → AppendsPrefix written faults text (take (length rest - n) (drop n rest)) old new
+  appends_taken {mid = mid} {new = new} rest n within first appended quiet =
+      let left : take (length rest - n) (drop n rest) ≡ drop n rest = grind (arith, common_steps) in
+      let taken : AppendsPrefix written faults rest (drop n rest) mid new = record { prefix = take n rest; splits = sym (take-append-drop n rest); appended = appended; quiet = quiet } in
+      rw left (appends_then first taken)
+
+  -- the part of one element of a list more
+  pub element_put : {X : Type 0} {text left : List ℕ} {old mid new : K} (f : X → List ℕ) (xs : List X) (i : ℕ) (d : X) (pending : List ℕ) → i < length xs
+      → AppendsPrefix written faults text (pending ++ flat_map f (drop i xs)) old mid → AppendsPrefix written faults (pending ++ f (get_or xs i d)) left mid new
+      → AppendsPrefix written faults text (left ++ flat_map f (drop (i + 1) xs)) old new
+  element_put f xs i d pending within =
+      part_put pending (f (get_or xs i d)) (flat_map f (drop (i + 1) xs)) (at_drop_more (flat_map f) xs i d within)
+
+  pub element_failed : {X : Type 0} {text : List ℕ} {old mid new : K} (f : X → List ℕ) (xs : List X) (i : ℕ) (d : X) (pending : List ℕ) → i < length xs
+      → AppendsPrefix written faults text (pending ++ flat_map f (drop i xs)) old mid → Fails written faults (pending ++ f (get_or xs i d)) mid new → Fails written faults text old new
+  element_failed f xs i d pending within =
+      part_failed pending (f (get_or xs i d)) (flat_map f (drop (i + 1) xs)) (at_drop_more (flat_map f) xs i d within)
+
+  -- the same, of an element that has a name
+  pub item_put : {X : Type 0} {text left : List ℕ} {old mid new : K} (f : X → List ℕ) (xs : List X) (i : ℕ) (x : X) (pending : List ℕ) → i < length xs → x ≡ get_or xs i x
+      → AppendsPrefix written faults text (pending ++ flat_map f (drop i xs)) old mid → AppendsPrefix written faults (pending ++ f x) left mid new
+      → AppendsPrefix written faults text (left ++ flat_map f (drop (i + 1) xs)) old new
+  item_put {left = left} {mid = mid} {new = new} f xs i x pending within is first second =
+      element_put f xs i x pending within first (subst (λ item. AppendsPrefix written faults (pending ++ f item) left mid new) is second)
+
+  pub item_failed : {X : Type 0} {text : List ℕ} {old mid new : K} (f : X → List ℕ) (xs : List X) (i : ℕ) (x : X) (pending : List ℕ) → i < length xs → x ≡ get_or xs i x
+      → AppendsPrefix written faults text (pending ++ flat_map f (drop i xs)) old mid → Fails written faults (pending ++ f x) mid new → Fails written faults text old new
+  item_failed {mid = mid} {new = new} f xs i x pending within is first failure =
+      element_failed f xs i x pending within first (subst (λ item. Fails written faults (pending ++ f item) mid new) is failure)

@@ -11,7 +11,8 @@ fault_words Usage = codes "usage" ∷ []
 fault_words Unbuilt = codes "unbuilt" ∷ []
 fault_words (Defs fault) = defs_words fault
 fault_words (Unopened place) = codes "open" ∷ place_text (codes "defs") place ∷ []
-fault_words (Row source number why) = codes "row" ∷ decimal source ∷ decimal number ∷ why_text why ∷ []
+fault_words (Row source number why) =
+    codes "row" ∷ decimal source ∷ decimal number ∷ why_text why ∷ []
 fault_words (Read place) = codes "read" ∷ place_text (codes "defs") place ∷ []
 fault_words (FullSource source) = codes "full" ∷ codes "source" ∷ decimal source ∷ []
 fault_words (FullShard shard) = codes "full" ∷ codes "shard" ∷ decimal shard ∷ []

@@ -3,31 +3,43 @@ use Rattle.std.specs.Prelude.{◌≡◌, ◌+◌, ◌++◌, ℕ, List, [], ◌�
 use Rattle.std.specs.Option.{option_map_or}
 use Rattle.stream_base.specs.Limits.{Definitions}
 use Rattle.stream_base.specs.Model.Changes.{changes_at}
-use Rattle.stream_base.specs.Model.Text.{change_lines, changes_under, entry_line, journal_lines, line_of}
+use Rattle.stream_base.specs.Model.Text.{Form, change_lines, changes_under, entry_line, journal_lines, line_of, report_1, report_2}
 use Rattle.shard_core.specs.Shard.{Sharded}
+use Rattle.emission_text.specs.declared.report_form.ReportForm.{ReportForm}
+use Rattle.emission_text.specs.declared.report_form.ReportForm.TheVariants.{One, Two}
 
--- the lines at a position of a shard's journal: the entry's own, and those of the changes under it
-unfoldable pub lines_at : Sharded → ℕ → List ℕ
-lines_at s position =
-    option_map_or entry_line (slice_get s.journal position) [] ++ change_lines (changes_at s.defs s.sources s.journal position)
+-- the lines at a position of a shard's journal, in a form: the entry's own, and those of the changes under it
+unfoldable pub lines_at : Form → Sharded → ℕ → List ℕ
+lines_at form s position =
+    option_map_or entry_line (slice_get s.journal position) []
+    ++ change_lines form (changes_at s.defs s.sources s.journal position)
 
 -- the lines of a shard's journal
-abbrev pub lines_of : Sharded → List ℕ
-lines_of s = journal_lines (changes_under s.defs s.sources) [] s.journal
+abbrev pub lines_of : Form → Sharded → List ℕ
+lines_of form s = journal_lines (changes_under form s.defs s.sources) [] s.journal
 
 -- the header of a shard
 abbrev pub header_line : ℕ → List ℕ
 header_line k = line_of (codes "shard" ∷ decimal k ∷ [])
 
 -- the lines of shards from number k on: each shard's header, and the lines of its journal
-abbrev pub lines_from : ℕ → List Sharded → List ℕ
-lines_from k [] = []
-lines_from k (s ∷ shards) = (header_line k ++ lines_of s) ++ lines_from (k + 1) shards
+abbrev pub lines_from : Form → ℕ → List Sharded → List ℕ
+lines_from form k [] = []
+lines_from form k (s ∷ shards) = (header_line k ++ lines_of form s) ++ lines_from form (k + 1) shards
 
--- the report of shards
-unfoldable pub report_text : List Sharded → List ℕ
-report_text shards = lines_from 0 shards ++ codes "end\n"
+-- the lines of all shards, and the last line
+unfoldable pub shards_text : Form → List Sharded → List ℕ
+shards_text form shards = lines_from form 0 shards ++ codes "end\n"
+
+-- the report of shards in a form
+abbrev pub report_text : Form → List Sharded → List ℕ
+report_text form shards = form.front ++ shards_text form shards
 
 -- all shards have these definitions and this number of sources
 abbrev pub AreAlike : Definitions → ℕ → List Sharded → Type 0
 AreAlike d sources shards = All (λ s. (s.defs ≡ d) × (s.sources ≡ sources)) shards
+
+-- the form of a report
+abbrev pub form_of : ReportForm → Form
+form_of One = report_1
+form_of Two = report_2

@@ -1,14 +1,34 @@
--- How a text goes out to a sink, in parts.
-use Rattle.std.specs.Prelude.{◌≡◌, ◌++◌, ℕ, List, Option, take}
-use Rattle.stream_base.specs.Outside.{with_back}
+-- How a text goes out to a sink.
+-- `written` says which bytes it took, where it tells them, and `faults` how many writes failed.
+use Rattle.std.specs.Prelude.{◌≡◌, ◌++◌, ℕ, List, Option, take, Result, Ok, Err}
+use Rattle.stream_base.specs.Outside.{Rose, with_back}
+use Rattle.emission_text.specs.declared.sink_fault.SinkFault.{SinkFault}
 
--- a front of the text went out, behind what was written before; `left` is what is left of the text
-pub record Sends (text left : List ℕ) (old new : Option (List ℕ)) : Type 0 where
-  pub front : List ℕ
-  pub splits : text ≡ front ++ left
-  pub written : new ≡ with_back front old
+module _ {K : Type 0} (written : K → Option (List ℕ)) (faults : K → ℕ) where
+  -- the whole text went out, behind what was written before, and no write failed
+  pub record Appends (text : List ℕ) (old new : K) : Type 0 where
+    pub appended : written new ≡ with_back text (written old)
+    pub quiet : faults new ≡ faults old
 
--- the first bytes of the text went out, behind what was written before: some number of them
-pub record SendsFront (text : List ℕ) (old new : Option (List ℕ)) : Type 0 where
-  pub count : ℕ
-  pub written : new ≡ with_back (take count text) old
+  -- a prefix of the text went out, and no write failed; `left` is what is left of the text
+  pub record AppendsPrefix (text left : List ℕ) (old new : K) : Type 0 where
+    pub prefix : List ℕ
+    pub splits : text ≡ prefix ++ left
+    pub appended : written new ≡ with_back prefix (written old)
+    pub quiet : faults new ≡ faults old
+
+  -- a write failed, and some number of the text's first bytes went out before it
+  pub record Fails (text : List ℕ) (old new : K) : Type 0 where
+    pub count : ℕ
+    pub appended : written new ≡ with_back (take count text) (written old)
+    pub failed : Rose (faults old) (faults new)
+
+  -- the text is written whole; or a write fails
+  abbrev pub Writes : List ℕ → K → K → Result (Unit {0}) SinkFault → Type 0
+  Writes text old new (Ok done) = Appends text old new
+  Writes text old new (Err fault) = Fails text old new
+
+  -- the text is put behind what is pending, and what is left of both is pending; or a write fails
+  abbrev pub Puts : List ℕ → List ℕ → List ℕ → K → K → Result (Unit {0}) SinkFault → Type 0
+  Puts text pending left old new (Ok done) = AppendsPrefix (pending ++ text) left old new
+  Puts text pending left old new (Err fault) = Fails (pending ++ text) old new

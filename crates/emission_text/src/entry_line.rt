@@ -1,8 +1,6 @@
 //! The journal lines of entries.
-ghost use Rattle.std.specs.Prelude.{◌≡◌, ◌++◌, OnOk, OnErr};
 ghost use Rattle.stream_base.specs.Model.Text.{entry_line};
-ghost use Rattle.stream_base.specs.Outside.{Rose};
-ghost use Rattle.emission_text.specs.Sending.{Sends, SendsFront};
+ghost use Rattle.emission_text.specs.Sending.{Puts};
 
 use crate::pending::Pending;
 use crate::pieces::put_pieces;
@@ -12,10 +10,8 @@ use stream_base::{Entry, Sink, What};
 
 /// Puts the journal line of an entry.
 pub fn put_entry<K: Sink>(entry: &Entry, out: &mut Pending, sink: &mut K) -> Result<(), SinkFault>
-    ensures added { OnOk result (Sends (out.old ++ entry_line entry.now) out.new (K.written sink.old) (K.written sink.new)) }
-    ensures quiet { OnOk result (K.faults sink.new ≡ K.faults sink.old) }
-    ensures refused { OnErr result (SendsFront (out.old ++ entry_line entry.now) (K.written sink.old) (K.written sink.new)) }
-    ensures failed { OnErr result (Rose (K.faults sink.old) (K.faults sink.new)) }
+    ensures { Puts K.written K.faults (entry_line entry.now)
+        out.old out.new sink.old sink.new result }
 {
     let mut source = Buffer::new();
     let mut moment = Buffer::new();
@@ -38,6 +34,7 @@ pub fn put_entry<K: Sink>(entry: &Entry, out: &mut Pending, sink: &mut K) -> Res
             let time = moment.format(*time).as_bytes();
             put_pieces(&[b"j ", source, b" w ", time, b"\n"], out, sink)
         }
+        What::Idle => put_pieces(&[b"j ", source, b" i\n"], out, sink),
         What::End => put_pieces(&[b"j ", source, b" e\n"], out, sink),
     }
 }

@@ -1,28 +1,24 @@
 //! The lines of faults.
-ghost use Rattle.std.specs.Prelude.{◌≡◌, ◌++◌, ◌∷◌, [], codes, OnOk, OnErr};
+ghost use Rattle.std.specs.Prelude.{◌≡◌, ◌++◌, ◌∷◌, [], codes};
 ghost use Rattle.std.specs.Option.{option_map_or};
 ghost use Rattle.stream_base.specs.Model.Text.{line_of};
-ghost use Rattle.stream_base.specs.Outside.{Rose, with_back};
 ghost use Rattle.emission_text.specs.DefsFaults.{defs_words, why_text};
 ghost use Rattle.emission_text.specs.Faults.{fault_line};
-ghost use Rattle.emission_text.specs.Sending.{Sends, SendsFront};
+ghost use Rattle.emission_text.specs.Sending.{Puts, Writes};
 
 use crate::fault::Fault;
 use crate::pending::Pending;
-use crate::pieces::put_pieces;
+use crate::pieces::{put_numbered, put_pieces};
 use crate::sink_fault::SinkFault;
 use itoa::{Buffer, Integer};
 use source_feed::RowWhy;
 use stream_base::Sink;
 use window_defs::DefsFault;
 
-/// Writes the line of a fault. `Write` is answered where a write of the sink failed, and then a front
-/// of the line went out.
+/// Writes the line of a fault. `Write` is answered where a write of the sink failed, and then a
+/// prefix of the line went out.
 pub fn write_fault<K: Sink>(fault: &Fault, sink: &mut K) -> Result<(), SinkFault>
-    ensures written { OnOk result (K.written sink.new ≡ with_back (fault_line fault.now) (K.written sink.old)) }
-    ensures quiet { OnOk result (K.faults sink.new ≡ K.faults sink.old) }
-    ensures refused { OnErr result (SendsFront (fault_line fault.now) (K.written sink.old) (K.written sink.new)) }
-    ensures failed { OnErr result (Rose (K.faults sink.old) (K.faults sink.new)) }
+    ensures { Writes K.written K.faults (fault_line fault.now) sink.old sink.new result }
 {
     let mut out = Pending::new();
     put_fault(fault, &mut out, sink)?;
@@ -30,10 +26,8 @@ pub fn write_fault<K: Sink>(fault: &Fault, sink: &mut K) -> Result<(), SinkFault
 }
 
 fn put_fault<K: Sink>(fault: &Fault, out: &mut Pending, sink: &mut K) -> Result<(), SinkFault>
-    ensures added { OnOk result (Sends (out.old ++ fault_line fault.now) out.new (K.written sink.old) (K.written sink.new)) }
-    ensures quiet { OnOk result (K.faults sink.new ≡ K.faults sink.old) }
-    ensures refused { OnErr result (SendsFront (out.old ++ fault_line fault.now) (K.written sink.old) (K.written sink.new)) }
-    ensures failed { OnErr result (Rose (K.faults sink.old) (K.faults sink.new)) }
+    ensures { Puts K.written K.faults (fault_line fault.now)
+        out.old out.new sink.old sink.new result }
 {
     match fault {
         Fault::Usage => put_pieces(&[b"fault usage\n"], out, sink),
@@ -44,7 +38,7 @@ fn put_fault<K: Sink>(fault: &Fault, out: &mut Pending, sink: &mut K) -> Result<
             source,
             number,
             why,
-        } => put_row_fault(*source, *number, *why, out, sink),
+        } => put_record_fault(*source, *number, *why, out, sink),
         Fault::Read { place } => put_placed(b"fault read ", b"defs", *place, out, sink),
         Fault::FullSource { source } => put_numbered(b"fault full source ", *source, out, sink),
         Fault::FullShard { shard } => put_numbered(b"fault full shard ", *shard, out, sink),
@@ -57,10 +51,8 @@ fn put_defs_fault<K: Sink>(
     out: &mut Pending,
     sink: &mut K,
 ) -> Result<(), SinkFault>
-    ensures added { OnOk result (Sends (out.old ++ line_of (codes "fault" ∷ defs_words fault.now)) out.new (K.written sink.old) (K.written sink.new)) }
-    ensures quiet { OnOk result (K.faults sink.new ≡ K.faults sink.old) }
-    ensures refused { OnErr result (SendsFront (out.old ++ line_of (codes "fault" ∷ defs_words fault.now)) (K.written sink.old) (K.written sink.new)) }
-    ensures failed { OnErr result (Rose (K.faults sink.old) (K.faults sink.new)) }
+    ensures { Puts K.written K.faults (line_of (codes "fault" ∷ defs_words fault.now))
+        out.old out.new sink.old sink.new result }
 {
     match fault {
         DefsFault::Long => put_pieces(&[b"fault defs long\n"], out, sink),
@@ -72,17 +64,15 @@ fn put_defs_fault<K: Sink>(
     }
 }
 
-fn put_row_fault<K: Sink>(
+fn put_record_fault<K: Sink>(
     source: u16,
     number: u64,
     why: RowWhy,
     out: &mut Pending,
     sink: &mut K,
 ) -> Result<(), SinkFault>
-    ensures added { OnOk result (Sends (out.old ++ fault_line (Fault.Row source number why)) out.new (K.written sink.old) (K.written sink.new)) }
-    ensures quiet { OnOk result (K.faults sink.new ≡ K.faults sink.old) }
-    ensures refused { OnErr result (SendsFront (out.old ++ fault_line (Fault.Row source number why)) (K.written sink.old) (K.written sink.new)) }
-    ensures failed { OnErr result (Rose (K.faults sink.old) (K.faults sink.new)) }
+    ensures { Puts K.written K.faults (fault_line (Fault.Row source number why))
+        out.old out.new sink.old sink.new result }
 {
     let mut first = Buffer::new();
     let mut second = Buffer::new();
@@ -113,29 +103,12 @@ fn put_placed<N: Integer, K: Sink>(
     out: &mut Pending,
     sink: &mut K,
 ) -> Result<(), SinkFault>
-    ensures added { OnOk result (Sends (out.old ++ (front.now ++ (option_map_or N.text place word.now ++ 10 ∷ []))) out.new (K.written sink.old) (K.written sink.new)) }
-    ensures quiet { OnOk result (K.faults sink.new ≡ K.faults sink.old) }
-    ensures refused { OnErr result (SendsFront (out.old ++ (front.now ++ (option_map_or N.text place word.now ++ 10 ∷ []))) (K.written sink.old) (K.written sink.new)) }
-    ensures failed { OnErr result (Rose (K.faults sink.old) (K.faults sink.new)) }
+    ensures { Puts K.written K.faults
+        (front.now ++ (option_map_or N.text place word.now ++ 10 ∷ []))
+        out.old out.new sink.old sink.new result }
 {
     match place {
         None => put_pieces(&[front, word, b"\n"], out, sink),
         Some(number) => put_numbered(front, number, out, sink),
     }
-}
-
-// Puts a line that ends with a number.
-fn put_numbered<N: Integer, K: Sink>(
-    front: &[u8],
-    number: N,
-    out: &mut Pending,
-    sink: &mut K,
-) -> Result<(), SinkFault>
-    ensures added { OnOk result (Sends (out.old ++ (front.now ++ (N.text number ++ 10 ∷ []))) out.new (K.written sink.old) (K.written sink.new)) }
-    ensures quiet { OnOk result (K.faults sink.new ≡ K.faults sink.old) }
-    ensures refused { OnErr result (SendsFront (out.old ++ (front.now ++ (N.text number ++ 10 ∷ []))) (K.written sink.old) (K.written sink.new)) }
-    ensures failed { OnErr result (Rose (K.faults sink.old) (K.faults sink.new)) }
-{
-    let mut digits = Buffer::new();
-    put_pieces(&[front, digits.format(number).as_bytes(), b"\n"], out, sink)
 }

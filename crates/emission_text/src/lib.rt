@@ -1,8 +1,9 @@
 //! The text of reports and of fault lines, written to a sink.
 //!
-//! *From* shards and faults *to* bytes. *Stands on* the base crate, and on the sinks of its outside.
-//! *Promise*: exactly the text of the definitions is appended to the sink. A failure is answered only
-//! where a write of the sink failed, and then a front of the text went out. No memory is taken.
+//! *From* shards and faults *to* bytes. *Stands on* the base crate, and on the sinks of its
+//! outside. *Promise*: exactly the text of the definitions is appended to the sink. A failure is
+//! answered only where a write of the sink failed, and then a prefix of the text went out. No
+//! memory is taken.
 #![tactic(auto)]
 
 mod change_line;
@@ -12,6 +13,7 @@ mod fault_line;
 mod pending;
 mod pieces;
 mod report;
+mod report_form;
 mod sink_fault;
 #[cfg(test)]
 mod tests;
@@ -19,5 +21,8 @@ mod writing;
 
 pub use fault::Fault;
 pub use fault_line::write_fault;
-pub use report::{report_of_alike_shards_is_of_their_journals, write_report};
+pub use report::{
+    report_of_alike_shards_is_of_their_journals, write_form, write_report, write_report2,
+};
+pub use report_form::ReportForm;
 pub use sink_fault::SinkFault;

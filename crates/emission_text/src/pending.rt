@@ -1,6 +1,5 @@
-ghost use Rattle.std.specs.Prelude.{◌≡◌, ◌≤◌, ◌+◌, ◌++◌, [], length, OnOk, OnErr};
-ghost use Rattle.stream_base.specs.Outside.{Rose, with_back};
-ghost use Rattle.emission_text.specs.Sending.{Sends, SendsFront};
+ghost use Rattle.std.specs.Prelude.{◌≡◌, ◌≤◌, ◌+◌, ◌++◌, [], length, OnOk};
+ghost use Rattle.emission_text.specs.Sending.{Puts, Writes};
 
 use crate::sink_fault::SinkFault;
 use crate::writing::write_all;
@@ -20,12 +19,13 @@ pub struct Pending {
 
 impl Model for Pending {
     ghost use Rattle.std.specs.Prelude.{◌≤◌, ℕ, List, take};
+    ghost use Rattle.emission_text.specs.declared.pending.TheConstants.{ROOM};
 
     ghost Value = { List ℕ };
 
     ghost view = { λ p. take p.len p.cells };
 
-    ghost invariant = { λ p. p.len ≤ 4096 };
+    ghost invariant = { λ p. p.len ≤ ROOM };
 }
 
 impl Pending {
@@ -39,13 +39,10 @@ impl Pending {
         }
     }
 
-    /// Puts bytes behind those that are pending. What was pending is written first, where there is no
-    /// room for more.
+    /// Puts bytes behind those that are pending. What was pending is written first, where there is
+    /// no room for more.
     pub fn add<K: Sink>(&mut self, bytes: &[u8], sink: &mut K) -> Result<(), SinkFault>
-        ensures added { OnOk result (Sends (self.old ++ bytes.now) self.new (K.written sink.old) (K.written sink.new)) }
-        ensures quiet { OnOk result (K.faults sink.new ≡ K.faults sink.old) }
-        ensures refused { OnErr result (SendsFront (self.old ++ bytes.now) (K.written sink.old) (K.written sink.new)) }
-        ensures failed { OnErr result (Rose (K.faults sink.old) (K.faults sink.new)) }
+        ensures { Puts K.written K.faults bytes.now self.old self.new sink.old sink.new result }
     {
         if bytes.len() <= ROOM - self.len {
             self.keep(bytes);
@@ -58,10 +55,7 @@ impl Pending {
     /// Writes all that is pending.
     pub fn flush<K: Sink>(&mut self, sink: &mut K) -> Result<(), SinkFault>
         ensures emptied { OnOk result (self.new ≡ []) }
-        ensures written { OnOk result (K.written sink.new ≡ with_back self.old (K.written sink.old)) }
-        ensures quiet { OnOk result (K.faults sink.new ≡ K.faults sink.old) }
-        ensures refused { OnErr result (SendsFront self.old (K.written sink.old) (K.written sink.new)) }
-        ensures failed { OnErr result (Rose (K.faults sink.old) (K.faults sink.new)) }
+        ensures writes { Writes K.written K.faults self.old sink.old sink.new result }
     {
         write_all(&self.cells[..self.len], sink)?;
         self.len = 0;
@@ -71,10 +65,7 @@ impl Pending {
     // Bytes that come where nothing is pending: those that have no room are written at once.
     fn keep_or_write<K: Sink>(&mut self, bytes: &[u8], sink: &mut K) -> Result<(), SinkFault>
         requires { self.old ≡ [] }
-        ensures added { OnOk result (Sends bytes.now self.new (K.written sink.old) (K.written sink.new)) }
-        ensures quiet { OnOk result (K.faults sink.new ≡ K.faults sink.old) }
-        ensures refused { OnErr result (SendsFront bytes.now (K.written sink.old) (K.written sink.new)) }
-        ensures failed { OnErr result (Rose (K.faults sink.old) (K.faults sink.new)) }
+        ensures { Puts K.written K.faults bytes.now [] self.new sink.old sink.new result }
     {
         if bytes.len() > ROOM {
             return write_all(bytes, sink);
@@ -85,7 +76,7 @@ impl Pending {
 
     // Puts bytes behind those that are pending, where there is room.
     fn keep(&mut self, bytes: &[u8])
-        requires { length self.old + length bytes.now ≤ 4096 }
+        requires { length self.old + length bytes.now ≤ ROOM }
         ensures { self.new ≡ self.old ++ bytes.now }
     {
         let end = self.len + bytes.len();

@@ -1,11 +1,11 @@
 //! Pieces of text, put behind what is pending.
-ghost use Rattle.std.specs.Prelude.{◌≡◌, ◌++◌, OnOk, OnErr};
+ghost use Rattle.std.specs.Prelude.{◌++◌, ◌∷◌, []};
 ghost use Rattle.std.specs.List.{flat_map};
-ghost use Rattle.stream_base.specs.Outside.{Rose};
-ghost use Rattle.emission_text.specs.Sending.{Sends, SendsFront};
+ghost use Rattle.emission_text.specs.Sending.{Puts};
 
 use crate::pending::Pending;
 use crate::sink_fault::SinkFault;
+use itoa::{Buffer, Integer};
 use stream_base::Sink;
 
 /// Puts pieces of text one behind the other.
@@ -14,13 +14,25 @@ pub fn put_pieces<K: Sink>(
     out: &mut Pending,
     sink: &mut K,
 ) -> Result<(), SinkFault>
-    ensures added { OnOk result (Sends (out.old ++ flat_map (λ piece. piece.now) pieces.now) out.new (K.written sink.old) (K.written sink.new)) }
-    ensures quiet { OnOk result (K.faults sink.new ≡ K.faults sink.old) }
-    ensures refused { OnErr result (SendsFront (out.old ++ flat_map (λ piece. piece.now) pieces.now) (K.written sink.old) (K.written sink.new)) }
-    ensures failed { OnErr result (Rose (K.faults sink.old) (K.faults sink.new)) }
+    ensures { Puts K.written K.faults (flat_map (λ piece. piece.now) pieces.now)
+        out.old out.new sink.old sink.new result }
 {
     for piece in pieces {
         out.add(piece, sink)?;
     }
     Ok(())
+}
+
+/// Puts a line that ends with a number.
+pub fn put_numbered<N: Integer, K: Sink>(
+    front: &[u8],
+    number: N,
+    out: &mut Pending,
+    sink: &mut K,
+) -> Result<(), SinkFault>
+    ensures { Puts K.written K.faults (front.now ++ (N.text number ++ 10 ∷ []))
+        out.old out.new sink.old sink.new result }
+{
+    let mut digits = Buffer::new();
+    put_pieces(&[front, digits.format(number).as_bytes(), b"\n"], out, sink)
 }

@@ -1,11 +1,23 @@
+ghost use Rattle.std.specs.Prelude.{◌≡◌};
+ghost use Rattle.emission_text.specs.declared.sink_fault.SinkFault.TheVariants.{Write as WriteFault};
+
 use std::error::Error;
 use std::fmt;
+use stream_base::Failed;
 
 /// Why a text wasn't written whole.
 #[derive(Clone, Copy, Debug, PartialEq, Eq)]
 pub enum SinkFault {
     /// A write of the sink failed.
     Write,
+}
+
+impl From<Failed> for SinkFault {
+    ghost from_gives = { λ _ fault. fault ≡ WriteFault };
+
+    fn from(_error: Failed) -> SinkFault {
+        SinkFault::Write
+    }
 }
 
 impl fmt::Display for SinkFault {

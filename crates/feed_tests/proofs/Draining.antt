@@ -5,55 +5,55 @@ use Rattle.std.specs.Result.{is_err}
 use Rattle.std.proofs.lemmas.List.{append-nil}
 use Rattle.stream_base.specs.declared.entry.Entry.{Entry}
 use Rattle.source_feed.specs.FeedFault.{Ends}
-use Rattle.source_feed.specs.Told.{IsWhole, Refusal, StaysTold, Told, nothing_left, with_first}
+use Rattle.source_feed.specs.Stream.{IsWhole, Refusal, StaysTold, Stream, nothing_left, with_first}
 
 -- what was told at first is what was given, and then what is told now
-abbrev pub Gave : Option Told → Option Told → List Entry → Type 0
+abbrev pub Gave : Option Stream → Option Stream → List Entry → Type 0
 Gave None now given = ⊤
-Gave (Some told) now given =
-    (rest : List Entry) × (now ≡ Some (record { entries = rest; refusal = told.refusal })) × (told.entries ≡ given ++ rest)
+Gave (Some stream) now given =
+    (rest : List Entry) × (now ≡ Some (record { entries = rest; refusal = stream.refusal })) × (stream.entries ≡ given ++ rest)
 
 -- at first nothing was given
-pub gave_none : (told : Option Told) → Gave told told []
+pub gave_none : (stream : Option Stream) → Gave stream stream []
 gave_none None = tt
-gave_none (Some told) = (told.entries, refl, refl)
+gave_none (Some stream) = (stream.entries, refl, refl)
 
 -- one entry more was given
-pub gave_more : (first old new : Option Told) (given : List Entry) (entry : Entry)
+pub gave_more : (first old new : Option Stream) (given : List Entry) (entry : Entry)
     → Gave first old given → StaysTold old (option_map (with_first entry) new) → Gave first new (given ++ entry ∷ [])
 gave_more None old new given entry g s = tt
-gave_more (Some told) old new given entry g s = each new (rw g.1 at s)
+gave_more (Some stream) old new given entry g s = each new (rw g.1 at s)
   where
-    get : Option Told → Told
+    get : Option Stream → Stream
     get o = unwrap_or o nothing_left
 
-    each : (new : Option Told) → option_map (with_first entry) new ≡ Some (record { entries = g.0; refusal = told.refusal }) → Gave (Some told) new (given ++ entry ∷ [])
+    each : (new : Option Stream) → option_map (with_first entry) new ≡ Some (record { entries = g.0; refusal = stream.refusal }) → Gave (Some stream) new (given ++ entry ∷ [])
     each None e = cc e
     each (Some left) e =
-        let same : with_first entry left ≡ record { entries = g.0; refusal = told.refusal } = ap get e in
-        let entries : entry ∷ left.entries ≡ g.0 = ap (λ (t : Told). t.entries) same in
-        let refusal : left.refusal ≡ told.refusal = ap (λ (t : Told). t.refusal) same in
+        let same : with_first entry left ≡ record { entries = g.0; refusal = stream.refusal } = ap get e in
+        let entries : entry ∷ left.entries ≡ g.0 = ap (λ (t : Stream). t.entries) same in
+        let refusal : left.refusal ≡ stream.refusal = ap (λ (t : Stream). t.refusal) same in
         (left.entries, rw (← refusal) refl, rw (g.2, ← entries) (sym (append_assoc given (entry ∷ []) left.entries)))
 
 -- all was given, where the end was
-pub gave_all : (first old : Option Told) (given : List Entry) (source : ℕ) → Gave first old given → IfSome old (IsWhole source true)
-    → IfSome first (λ told. told ≡ record { entries = given; refusal = None })
+pub gave_all : (first old : Option Stream) (given : List Entry) (source : ℕ) → Gave first old given → IfSome old (IsWhole source true)
+    → IfSome first (λ stream. stream ≡ record { entries = given; refusal = None })
 gave_all None old given source g w = tt
-gave_all (Some told) old given source g w =
-    let empty : record { entries = g.0; refusal = told.refusal } ≡ nothing_left = rw g.1 at w in
-    let rest : g.0 ≡ [] = ap (λ (t : Told). t.entries) empty in
-    let refusal : told.refusal ≡ None = ap (λ (t : Told). t.refusal) empty in
-    let entries : told.entries ≡ given = rw (g.2, rest) (append-nil given) in
+gave_all (Some stream) old given source g w =
+    let empty : record { entries = g.0; refusal = stream.refusal } ≡ nothing_left = rw g.1 at w in
+    let rest : g.0 ≡ [] = ap (λ (t : Stream). t.entries) empty in
+    let refusal : stream.refusal ≡ None = ap (λ (t : Stream). t.refusal) empty in
+    let entries : stream.entries ≡ given = rw (g.2, rest) (append-nil given) in
     (λ i. record { entries = entries i; refusal = refusal i })
 
 -- where a refusal came, it was the one that was told
-pub gave_refused : (first old new : Option Told) (given : List Entry) (refusal : Option Refusal) → Gave first old given → Ends refusal old new
-    → IfSome refusal (λ refusal. IfSome first (λ told. told.refusal ≡ Some refusal))
+pub gave_refused : (first old new : Option Stream) (given : List Entry) (refusal : Option Refusal) → Gave first old given → Ends refusal old new
+    → IfSome refusal (λ refusal. IfSome first (λ stream. stream.refusal ≡ Some refusal))
 gave_refused first old new given None g e = tt
 gave_refused None old new given (Some refusal) g e = tt
-gave_refused (Some told) old new given (Some refusal) g e =
+gave_refused (Some stream) old new given (Some refusal) g e =
     let last = rw g.1 at e in
-    ap (λ (t : Told). t.refusal) last.0
+    ap (λ (t : Stream). t.refusal) last.0
 
 -- a push that didn't fail
 pub pushed : {X T E : Type 0} (answer : Result T E) (old new : List X) (entry : X) → is_err answer ≡ false

@@ -1,10 +1,9 @@
 use std::test::Fail;
 use stream_base::{Def, Defs, Func, Kind, TIME_MAX};
-use window_defs::{cut_between, cuts_between_decides};
+use window_defs::cut_between;
 
 #[test]
 fn starts_ends_and_gaps_cut(rt: HostRuntime) -> Result<(), Fail> {
-    cuts_between_decides();
     let tumbling = Kind::Tumbling { length: 10 };
     let sliding = Kind::Sliding {
         length: 5,

@@ -2,7 +2,7 @@
 
 ghost use Rattle.std.specs.Prelude.{◌≡◌, Some, None, IfOk, IfErr, IfSome};
 ghost use Rattle.source_feed.specs.FeedFault.{refusal_of};
-ghost use Rattle.source_feed.specs.Feeding.{told_in};
+ghost use Rattle.source_feed.specs.FileFeedState.{source_stream};
 
 use source_feed::{Feed, FeedFault, FileFeed};
 use std::alloc::Global;
@@ -10,8 +10,10 @@ use stream_base::{Defs, Entry, MemSource};
 
 // All entries of a feed that hasn't given its end: those that it told, or the refusal that it told.
 pub fn all_of<F: Feed>(alloc: Global, feed: &mut F) -> Result<Vec<Entry>, FeedFault>
-    ensures given { IfOk result (λ entries. IfSome (F.told feed.old) (λ told. told ≡ record { entries = entries.items; refusal = None })) }
-    ensures refused { IfErr result (λ fault. IfSome (refusal_of fault) (λ refusal. IfSome (F.told feed.old) (λ told. told.refusal ≡ Some refusal))) }
+    ensures given { IfOk result (λ entries. IfSome (F.state feed.old).rest (λ stream.
+        stream ≡ record { entries = entries.items; refusal = None })) }
+    ensures refused { IfErr result (λ fault. IfSome (refusal_of fault) (λ refusal.
+        IfSome (F.state feed.old).rest (λ stream. stream.refusal ≡ Some refusal))) }
 {
     let mut entries = Vec::new(alloc);
     'turns: for _ in 0..u64::MAX {
@@ -27,11 +29,14 @@ pub fn all_of<F: Feed>(alloc: Global, feed: &mut F) -> Result<Vec<Entry>, FeedFa
     Err(FeedFault::NoMemory)
 }
 
-// The entries of a source with these bytes, and the watermarks that are made, are exactly the rows
-// of the bytes.
+// The entries of a source with these bytes, and the watermarks that are made, are exactly the
+// stream of the bytes.
 pub fn entries_of(alloc: Global, bytes: &[u8], defs: &Defs) -> Result<Vec<Entry>, FeedFault>
-    ensures given { IfOk result (λ entries. told_in 0 defs.now.every defs.now.disorder bytes.now ≡ record { entries = entries.items; refusal = None }) }
-    ensures refused { IfErr result (λ fault. IfSome (refusal_of fault) (λ refusal. (told_in 0 defs.now.every defs.now.disorder bytes.now).refusal ≡ Some refusal)) }
+    ensures given { IfOk result (λ entries.
+        source_stream 0 defs.now.every defs.now.disorder bytes.now
+        ≡ record { entries = entries.items; refusal = None }) }
+    ensures refused { IfErr result (λ fault. IfSome (refusal_of fault) (λ refusal.
+        (source_stream 0 defs.now.every defs.now.disorder bytes.now).refusal ≡ Some refusal)) }
 {
     let mut feed = FileFeed::new(alloc, MemSource::new(bytes, &[], 7), 0, defs);
     let entries = all_of(alloc, &mut feed);

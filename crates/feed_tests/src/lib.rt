@@ -1,5 +1,5 @@
-//! Tests of definitions files, sources and shards through their public calls: worked cases, and the tables of
-//! what is accepted and refused.
+//! Tests of definitions files, sources and shards through their public calls: worked cases, and the
+//! tables of what is accepted and refused.
 #![tactic(auto)]
 
 #[cfg(test)]
@@ -14,3 +14,5 @@ mod refused;
 mod shards;
 #[cfg(test)]
 mod sources;
+#[cfg(test)]
+mod watermarks;

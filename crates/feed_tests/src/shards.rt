@@ -70,16 +70,21 @@ fn water(time: u64) -> What {
     What::Water { time }
 }
 
-// The emission of one interval of window 0.
-fn emission(key: KeyText, low: u64, high: u64, number: u64, value: i128) -> Change {
-    Change::New(Row {
+// The row of one interval of window 0.
+fn row(key: KeyText, low: u64, high: u64, number: u64, value: i128) -> Row {
+    Row {
         window: 0,
         key,
         low,
         high,
         number,
         shown: Shown::Whole(value),
-    })
+    }
+}
+
+// The emission of that row.
+fn emission(key: KeyText, low: u64, high: u64, number: u64, value: i128) -> Change {
+    Change::New(row(key, low, high, number, value))
 }
 
 fn under<'a>(rt: &impl Abort, shard: &'a Shard, position: u64) -> &'a [Change] {
@@ -109,6 +114,9 @@ fn a_watermark_emits_the_interval_that_it_passes(rt: HostRuntime) -> Result<(), 
     assert!(rt; under(&rt, &shard, 1).is_empty());
     let want = [emission(a, 0, 10, 2, 12)];
     assert_eq!(rt; under(&rt, &shard, 2), want.as_slice());
+    let standing = shard.standing(&mut steps)?;
+    let rows = [row(a, 0, 10, 2, 12)];
+    assert_eq!(rt; standing.as_slice(), rows.as_slice());
     Ok(())
 }
 
@@ -195,6 +203,36 @@ fn the_least_watermark_of_the_sources_counts(rt: HostRuntime) -> Result<(), Fail
     Ok(())
 }
 
+// Source 1 holds the watermark back until it is idle, and wakes with waters of its own without
+// lowering it. While both are idle it stays where it is.
+#[test]
+fn an_idle_source_holds_nobody_back(rt: HostRuntime) -> Result<(), Fail> {
+    let mut steps: Steps<Work> = Steps::start(&rt);
+    let mut shard = empty_shard(rt.alloc(), Func::Sum, 2)?;
+    let a = KeyText::from_bytes(b"a")?;
+    put(&rt, &mut shard, 0, tuple(a, 5, 1), &mut steps)?;
+    put(&rt, &mut shard, 0, water(20), &mut steps)?;
+    put(&rt, &mut shard, 1, What::Idle, &mut steps)?;
+    put(&rt, &mut shard, 1, water(3), &mut steps)?;
+    put(&rt, &mut shard, 1, tuple(a, 15, 2), &mut steps)?;
+    put(&rt, &mut shard, 1, tuple(a, 25, 4), &mut steps)?;
+    put(&rt, &mut shard, 1, What::Idle, &mut steps)?;
+    put(&rt, &mut shard, 0, What::Idle, &mut steps)?;
+    put(&rt, &mut shard, 0, water(30), &mut steps)?;
+    put(&rt, &mut shard, 0, What::End, &mut steps)?;
+    put(&rt, &mut shard, 1, What::End, &mut steps)?;
+    let first = [emission(a, 0, 10, 1, 1)];
+    assert_eq!(rt; under(&rt, &shard, 2), first.as_slice());
+    let dropped = [Change::Dropped];
+    assert_eq!(rt; under(&rt, &shard, 4), dropped.as_slice());
+    let second = [emission(a, 20, 30, 1, 4)];
+    assert_eq!(rt; under(&rt, &shard, 8), second.as_slice());
+    for position in [0u64, 1, 3, 5, 6, 7, 9, 10] {
+        assert!(rt; under(&rt, &shard, position).is_empty(), "under {position}");
+    }
+    Ok(())
+}
+
 #[test]
 fn an_entry_behind_the_end_of_its_source_changes_nothing(rt: HostRuntime) -> Result<(), Fail> {
     let mut steps: Steps<Work> = Steps::start(&rt);
@@ -232,5 +270,39 @@ fn a_source_that_only_ended_can_say_no_more(rt: HostRuntime) -> Result<(), Fail>
     assert!(rt; entry.is_within_limits());
     assert_eq!(rt; shard.apply(&entry, &mut steps), Err(ApplyFault::Ended));
     assert_eq!(rt; shard.journal_len(), 1);
+    Ok(())
+}
+
+// A tuple is settled once the watermark reaches the end of its interval.
+#[test]
+fn a_key_has_as_many_slices_as_are_not_settled(rt: HostRuntime) -> Result<(), Fail> {
+    let mut steps: Steps<Work> = Steps::start(&rt);
+    let mut shard = empty_shard(rt.alloc(), Func::Sum, 1)?;
+    let a = KeyText::from_bytes(b"a")?;
+    let b = KeyText::from_bytes(b"b")?;
+    put_three(
+        &rt,
+        &mut shard,
+        tuple(a, 1, 5),
+        tuple(a, 12, 7),
+        tuple(a, 4, 2),
+        &mut steps,
+    )?;
+    assert_eq!(rt; shard.slice_count(&a), 2);
+    assert_eq!(rt; shard.slice_count(&b), 0);
+    put(
+        &rt,
+        &mut shard,
+        0,
+        What::Mark { key: a, time: 4 },
+        &mut steps,
+    )?;
+    assert_eq!(rt; shard.slice_count(&a), 3);
+    put(&rt, &mut shard, 0, water(9), &mut steps)?;
+    assert_eq!(rt; shard.slice_count(&a), 3);
+    put(&rt, &mut shard, 0, water(10), &mut steps)?;
+    assert_eq!(rt; shard.slice_count(&a), 1);
+    put(&rt, &mut shard, 0, What::End, &mut steps)?;
+    assert_eq!(rt; shard.slice_count(&a), 0);
     Ok(())
 }

@@ -18,6 +18,7 @@ fn entry_shown(alloc: Global, entry: &Entry) -> Result<String, AllocError> {
         }
         What::Mark { key, time } => format!(in alloc; "m {time} {}; ", key_shown(&key)),
         What::Water { time } => format!(in alloc; "w {time}; "),
+        What::Idle => format!(in alloc; "i; "),
         What::End => format!(in alloc; "e; "),
     }
 }
@@ -108,6 +109,13 @@ fn judges_each_record_by_its_first_fault(rt: HostRuntime) -> Result<(), Fail> {
             "Refused { number: 1, why: Fields }",
         ),
         (b"T,1,5,a\n".as_slice(), "Refused { number: 1, why: Kind }"),
+        (b"i\n".as_slice(), "i; e; none"),
+        (b"i,,,\n".as_slice(), "i; e; none"),
+        (b"i,x\n".as_slice(), "Refused { number: 1, why: Fields }"),
+        (b"i,\n".as_slice(), "Refused { number: 1, why: Fields }"),
+        (b"i,,\n".as_slice(), "Refused { number: 1, why: Fields }"),
+        (b"i,,,x\n".as_slice(), "Refused { number: 1, why: Fields }"),
+        (b"I\n".as_slice(), "Refused { number: 1, why: Kind }"),
     ] {
         assert_eq!(rt; shown(rt.alloc(), bytes, 0, 0)?.as_str(), want);
     }
@@ -197,6 +205,45 @@ fn makes_a_watermark_after_every_so_many_tuples(rt: HostRuntime) -> Result<(), F
             "t 5 1 a; w 5; Refused { number: 2, why: Kind }",
         ),
         (b"t,5,1,a\n".as_slice(), 0, 0, "t 5 1 a; e; none"),
+    ] {
+        assert_eq!(rt; shown(rt.alloc(), bytes, every, disorder)?.as_str(), want);
+    }
+    Ok(())
+}
+
+#[test]
+fn wakes_a_source_before_its_next_tuple_or_mark(rt: HostRuntime) -> Result<(), Fail> {
+    for (bytes, every, disorder, want) in [
+        (
+            b"t,1,5,a\ni\nt,4,7,a\nw,10\n".as_slice(),
+            0,
+            0,
+            "t 1 5 a; i; w 0; t 4 7 a; w 10; e; none",
+        ),
+        (
+            b"w,7\nw,3\ni\ni\nm,2,,a\nt,4,7,a\n".as_slice(),
+            0,
+            0,
+            "w 7; w 3; i; i; w 7; m 2 a; t 4 7 a; e; none",
+        ),
+        (
+            b"w,7\ni\nw,3\nt,4,7,a\ni\n".as_slice(),
+            0,
+            0,
+            "w 7; i; w 3; t 4 7 a; i; e; none",
+        ),
+        (
+            b"t,5,1,a\ni\nt,9,2,a\ni\nt,6,3,a\n".as_slice(),
+            1,
+            2,
+            "t 5 1 a; w 3; i; w 3; t 9 2 a; w 7; i; w 7; t 6 3 a; w 7; e; none",
+        ),
+        (
+            b"i\nt,5,1\n".as_slice(),
+            0,
+            0,
+            "i; Refused { number: 2, why: Fields }",
+        ),
     ] {
         assert_eq!(rt; shown(rt.alloc(), bytes, every, disorder)?.as_str(), want);
     }

@@ -1,6 +1,5 @@
-pub mod Exact
 pub mod Feedings
-pub mod Headline
+pub mod Answering
 pub mod Sourced
 pub mod Told
 pub mod WordFacts

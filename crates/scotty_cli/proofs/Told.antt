@@ -4,8 +4,7 @@ use Rattle.std.proofs.lemmas.Bool.Decides.{nat_tests}
 use Rattle.std.specs.Prelude.{IfOk, IfErr, IfSome, IsErrOf, OnOk, Vec}
 use Rattle.std.specs.declared.alloc.Global.{Global}
 use Rattle.stream_base.specs.Outside.{Rose, with_front}
-use Rattle.stream_base.specs.Limits.{Definitions}
-use Rattle.shard_core.specs.Shard.{IsServed}
+use Rattle.source_feed.specs.Whole.{PassesLimit}
 use Rattle.source_feed.specs.declared.whole_fault.WholeFault.{WholeFault}
 use Rattle.source_feed.specs.declared.whole_fault.WholeFault.TheVariants.{Read as WholeRead, TooLong as WholeTooLong, NoMemory as WholeMemory}
 use Rattle.window_defs.specs.Reading.{reading_of}
@@ -14,7 +13,8 @@ use Rattle.window_defs.specs.declared.defs_fault.DefsFault.TheVariants.{Long, To
 use Rattle.window_defs.specs.declared.defs_fault.DefsFault.TheVariants.{NoMemory as NoRoom}
 use Rattle.emission_text.specs.declared.fault.Fault.{Fault}
 use Rattle.emission_text.specs.declared.fault.Fault.TheVariants.{Usage, Unbuilt, Defs, Unopened, Row, Read, FullSource, FullShard, NoMemory}
-use Rattle.scotty_cli.specs.Causes.{Counts, StopsAtBytes, StopsAtDefs, StopsAtReading}
+use Rattle.scotty_cli.specs.Causes.{StopsAtBytes, StopsAtDefs, StopsAtReading}
+use Rattle.scotty_cli.specs.Outside.{Counts}
 
 some_inj : {X : Type 0} {x y : X} → Some x ≡ Some y → x ≡ y
 some_inj h = cc
@@ -52,7 +52,7 @@ if_err (Err e) P Q h f = f e h
 
 stops_at_bytes : (told : Option (List ℕ)) (counts : Counts) (read : List ℕ) → ((bytes : List ℕ) → told ≡ Some bytes → read ≡ bytes) → (fault : Fault) → StopsAtBytes read fault → StopsAtDefs told counts fault
 stops_at_bytes told counts read is Usage h = h
-stops_at_bytes told counts read is Unbuilt h = λ bytes t. subst (λ (b : List ℕ). (d : Definitions) × (reading_of b ≡ Ok d) × ¬ (IsServed d)) (is bytes t) h
+stops_at_bytes told counts read is Unbuilt h = h
 stops_at_bytes told counts read is (Defs Long) h = λ bytes t. subst (λ (b : List ℕ). reading_of b ≡ Err Long) (is bytes t) (h read refl)
 stops_at_bytes told counts read is (Defs Toml) h = λ bytes t. subst (λ (b : List ℕ). reading_of b ≡ Err Toml) (is bytes t) (h read refl)
 stops_at_bytes told counts read is (Defs (Shape w)) h = λ bytes t. subst (λ (b : List ℕ). reading_of b ≡ Err (Shape w)) (is bytes t) (h read refl)
@@ -69,7 +69,7 @@ stops_at_bytes told counts read is NoMemory h = tt
 -- why a definitions file stops a run, by what came of reading it
 pub stops_at_reading : (told left : Option (List ℕ)) (counts : Counts) (faults : ℕ) (read : Result (Vec ℕ Global) WholeFault)
     → IfOk read (λ b. told ≡ with_front b.items left) → OnOk read (IfSome left (λ l. l ≡ []))
-    → (IsErrOf read WholeTooLong → (taken : List ℕ) × (length taken ≡ BYTES_MAX + 1) × (told ≡ with_front taken left))
+    → (IsErrOf read WholeTooLong → PassesLimit BYTES_MAX told left)
     → (IsErrOf read WholeRead → Rose 0 faults)
     → (0 < faults → Rose counts.reads.before counts.reads.after)
     → (fault : Fault) → StopsAtReading read fault → StopsAtDefs told counts fault
@@ -79,6 +79,6 @@ stops_at_reading told left counts faults (Err WholeRead) whole ends long failed 
     subst (StopsAtDefs told counts) (sym h) (refl, rose_from_none faults counts.reads.before counts.reads.after (failed refl) rose)
 stops_at_reading told left counts faults (Err WholeTooLong) whole ends long failed rose fault h =
     let l = long refl in
-    subst (StopsAtDefs told counts) (sym h) (λ bytes t. long_is_refused bytes (read_too_long_is_told told left l.0 bytes BYTES_MAX l.1 l.2 t))
+    subst (StopsAtDefs told counts) (sym h) (λ bytes t. long_is_refused bytes (read_too_long_is_told told left l.taken bytes BYTES_MAX l.many l.given t))
 stops_at_reading told left counts faults (Err WholeMemory) whole ends long failed rose fault h =
     subst (StopsAtDefs told counts) (sym h) tt

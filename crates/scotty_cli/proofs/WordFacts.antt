@@ -7,7 +7,9 @@ use Rattle.std.proofs.Math.ListN.{get_or-map}
 use Rattle.std.proofs.lemmas.List.{length-map, length-drop, take_all}
 use Rattle.std.proofs.lemmas.List.Elements.{All-map, All-cons, All-nil}
 use Rattle.std.proofs.lemmas.Fmt.{parse-decimal, decimal_digit}
-use Rattle.scotty_cli.specs.Words.{turns, way_word, IsCommand, IsPlainRun, IsMade, IsName, IsNumberWithin, IsRun, IsRunOn, IsWay, AreSources}
+use Rattle.emission_text.specs.declared.report_form.ReportForm.{ReportForm}
+use Rattle.emission_text.specs.declared.report_form.ReportForm.TheVariants.{One, Two}
+use Rattle.scotty_cli.specs.Words.{turns, way_word, run_word, IsRunWord, IsCommand, IsPlainRun, IsMade, IsName, IsNumberWithin, IsRun, IsRunOn, IsWay, AreSources}
 
 -- a number that is written within the bounds is what `parse` returns
 pub reads_within : {E : Type 0} (least most : ℕ) (word : List ℕ) (r : Result ℕ E) → most < 2 ^ 64 → ParsesUnsigned 64 10 word r → IsNumberWithin least most word → (n : ℕ) × (r ≡ Ok n) × (least ≤ n) × (n ≤ most) × (word ≡ decimal n)
@@ -64,12 +66,9 @@ pub made_way : (ws : List (List ℕ)) (a b c d e g : List ℕ) → ws ≡ a ∷ 
 made_way ws a b c d e g spelled made = (made.way, cc)
 
 -- the words of a run, put together, and its sources
-pub run_words : (ws : List (List ℕ)) (a b c d : List ℕ) (es : List (List ℕ)) → ws ≡ a ∷ b ∷ c ∷ d ∷ es → a ≡ codes "run" → IsName b → IsNumberWithin 1 16 c → IsWay d → AreSources es → IsRun ws
+pub run_words : (ws : List (List ℕ)) (a b c d : List ℕ) (es : List (List ℕ)) → ws ≡ a ∷ b ∷ c ∷ d ∷ es → IsRunWord a → IsName b → IsNumberWithin 1 16 c → IsWay d → AreSources es → IsRun ws
 run_words ws a b c d es spelled h defs shards way sources = record {
-  defs = b;
-  shards = shards.number;
-  way = way.0;
-  sources = es;
+  run = record { form = h.0; defs = b; shards = shards.number; way = way.0; sources = es };
   spelled = cc;
   defs_name = defs;
   some_shards = shards.at_least;
@@ -81,7 +80,8 @@ run_words ws a b c d es spelled h defs shards way sources = record {
 
 pub run_sources : (ws : List (List ℕ)) (a b c d : List ℕ) (es : List (List ℕ)) → ws ≡ a ∷ b ∷ c ∷ d ∷ es → IsRun ws → AreSources es
 run_sources ws a b c d es spelled run =
-    let same : run.sources ≡ es = cc in
+    let words = run.spelled in
+    let same : run.run.sources ≡ es = cc in
     subst (λ (ys : List (List ℕ)). AreSources ys) same (run.some_sources, run.few_sources, run.source_names)
 
 -- what is taken behind the first n items is all of the rest
@@ -94,23 +94,21 @@ one_item [] l = absurd (omega arith)
 one_item (x ∷ y ∷ xs) l = absurd (omega arith)
 
 -- the words of a run of one shard and one source by turns are spelled by `plain_words`
-pub plain_is_spelled : (words : List (List ℕ)) → IsPlainRun words → (defs : List ℕ) × (source : List ℕ) × IsRunOn words defs source
+pub plain_is_spelled : (words : List (List ℕ)) → IsPlainRun words → (form : ReportForm) × (defs : List ℕ) × (source : List ℕ) × IsRunOn words form defs source
 plain_is_spelled words p =
-    let one : decimal p.0.shards ≡ codes "1" = ap decimal p.1 ∙ decimal_digit 1 (omega arith) in
-    let way : way_word p.0.way ≡ codes "turns" = ap way_word p.2 in
-    let sources : p.0.sources ≡ get_or p.0.sources 0 [] ∷ [] = one_item p.0.sources p.3 in
-    let spelled : words ≡ codes "run" ∷ p.0.defs ∷ decimal p.0.shards ∷ way_word p.0.way ∷ p.0.sources = p.0.spelled in
-    (p.0.defs, get_or p.0.sources 0 [], record { spelled = cc; defs_name = p.0.defs_name; source_name = p.0.source_names 0 [] (omega arith) })
+    let run = p.0.run in
+    let one : decimal run.shards ≡ codes "1" = ap decimal p.1 ∙ decimal_digit 1 (omega arith) in
+    let way : way_word run.way ≡ codes "turns" = ap way_word p.2 in
+    let sources : run.sources ≡ get_or run.sources 0 [] ∷ [] = one_item run.sources p.3 in
+    let spelled : words ≡ run_word run.form ∷ run.defs ∷ decimal run.shards ∷ way_word run.way ∷ run.sources = p.0.spelled in
+    (run.form, run.defs, get_or run.sources 0 [], record { spelled = cc; defs_name = p.0.defs_name; source_name = p.0.source_names 0 [] (omega arith) })
 
 -- and the other way round
-pub spelled_is_plain : (words : List (List ℕ)) (defs source : List ℕ) → IsRunOn words defs source → IsPlainRun words
-spelled_is_plain words defs source run =
+pub spelled_is_plain : (words : List (List ℕ)) (form : ReportForm) (defs source : List ℕ) → IsRunOn words form defs source → IsPlainRun words
+spelled_is_plain words form defs source run =
     let one : decimal 1 ≡ codes "1" = decimal_digit 1 (omega arith) in (
       record {
-        defs = defs;
-        shards = 1;
-        way = turns;
-        sources = source ∷ [];
+        run = record { form = form; defs = defs; shards = 1; way = turns; sources = source ∷ [] };
         spelled = rw one run.spelled;
         defs_name = run.defs_name;
         some_shards = omega arith;
@@ -125,5 +123,20 @@ spelled_is_plain words defs source run =
     )
 
 -- the words of the run that is built are a command
-pub run_is_command : (words : List (List ℕ)) (defs source : List ℕ) → IsRunOn words defs source → IsCommand words
-run_is_command words defs source named = inl (spelled_is_plain words defs source named).0
+pub run_is_command : (words : List (List ℕ)) (form : ReportForm) (defs source : List ℕ) → IsRunOn words form defs source → IsCommand words
+run_is_command words form defs source named = inl (spelled_is_plain words form defs source named).0
+
+-- the first words of the two forms differ
+form_told : (form other : ReportForm) → run_word form ≡ run_word other → form ≡ other
+form_told One One h = refl
+form_told One Two h = cc
+form_told Two One h = cc
+form_told Two Two h = refl
+
+-- words tell one run at most
+pub one_run : (words : List (List ℕ)) (form other : ReportForm) (a b c d : List ℕ) → IsRunOn words form a b → IsRunOn words other c d → (form ≡ other) × (a ≡ c) × (b ≡ d)
+one_run words form other a b c d first second =
+    let one = first.spelled in
+    let two = second.spelled in
+    let word : run_word form ≡ run_word other = cc in
+    (form_told form other word, cc, cc)

@@ -1,7 +1,8 @@
 pub mod Words
+pub mod Outside
 pub mod Feeding
 pub mod Statuses
 pub mod Causes
 pub mod Settling
-pub mod Running
-pub mod Exactly
+pub mod Called
+pub mod Answer

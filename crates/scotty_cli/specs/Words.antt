@@ -1,4 +1,6 @@
 -- The words of the command line.
+use Rattle.emission_text.specs.declared.report_form.ReportForm.{ReportForm}
+use Rattle.emission_text.specs.declared.report_form.ReportForm.TheVariants.{One, Two}
 use Rattle.std.specs.Prelude.{◌≡◌, ◌≤◌, ◌<◌, ◌^◌, ◌⊎◌, ℕ, List, [], ◌∷◌, length, All, codes, decimal}
 
 -- how feeds hand on their entries
@@ -29,19 +31,37 @@ pub record IsNumberWithin (least most : ℕ) (word : List ℕ) : Type 0 where
 abbrev pub AreSources : List (List ℕ) → Type 0
 AreSources sources = (1 ≤ length sources) × (length sources ≤ 16) × All IsName sources
 
--- the words of a run: a definitions file, 1 to 16 shards, how feeds hand on, and 1 to 16 sources; numbers are decimal, with no sign and no leading zero
-pub record IsRun (words : List (List ℕ)) : Type 0 where
+-- the first word of a run, by the form of its report
+abbrev pub run_word : ReportForm → List ℕ
+run_word One = codes "run"
+run_word Two = codes "run2"
+
+-- the first word of a run in some form
+abbrev pub IsRunWord : List ℕ → Type 0
+IsRunWord word = (form : ReportForm) × (word ≡ run_word form)
+
+-- a run: the form of its report, the name of its definitions, how many shards, how feeds hand on, and the names of its sources
+pub record Run : Type 0 where
+  pub form : ReportForm
   pub defs : List ℕ
   pub shards : ℕ
   pub way : Way
   pub sources : List (List ℕ)
-  pub spelled : words ≡ codes "run" ∷ defs ∷ decimal shards ∷ way_word way ∷ sources
-  pub defs_name : IsName defs
-  pub some_shards : 1 ≤ shards
-  pub few_shards : shards ≤ 16
-  pub some_sources : 1 ≤ length sources
-  pub few_sources : length sources ≤ 16
-  pub source_names : All IsName sources
+
+-- how a run is spelled
+abbrev pub words_of : Run → List (List ℕ)
+words_of run = run_word run.form ∷ run.defs ∷ decimal run.shards ∷ way_word run.way ∷ run.sources
+
+-- the words of a run: names are nonempty, and there are 1 to 16 shards and sources
+pub record IsRun (words : List (List ℕ)) : Type 0 where
+  pub run : Run
+  pub spelled : words ≡ words_of run
+  pub defs_name : IsName run.defs
+  pub some_shards : 1 ≤ run.shards
+  pub few_shards : run.shards ≤ 16
+  pub some_sources : 1 ≤ length run.sources
+  pub few_sources : length run.sources ≤ 16
+  pub source_names : All IsName run.sources
 
 -- the words of a made run: a seed, 1 to 1,000,000 tuples, 1 to 16 sources and shards, and how feeds hand on
 pub record IsMade (words : List (List ℕ)) : Type 0 where
@@ -63,16 +83,25 @@ pub record IsMade (words : List (List ℕ)) : Type 0 where
 abbrev pub IsCommand : List (List ℕ) → Type 0
 IsCommand words = IsRun words ⊎ IsMade words
 
--- how a run of one shard and one source by turns is spelled
-abbrev pub plain_words : List ℕ → List ℕ → List (List ℕ)
-plain_words defs source = codes "run" ∷ defs ∷ codes "1" ∷ codes "turns" ∷ source ∷ []
+-- the run of one shard and one source by turns, which is what is built
+abbrev pub plain_run : ReportForm → List ℕ → List ℕ → Run
+plain_run form defs source =
+    record { form = form; defs = defs; shards = 1; way = turns; sources = source ∷ [] }
 
--- the words are those of the run of one shard and one source by turns, over files of these names
-pub record IsRunOn (words : List (List ℕ)) (defs source : List ℕ) : Type 0 where
-  pub spelled : words ≡ plain_words defs source
+-- how it is spelled
+abbrev pub plain_words : ReportForm → List ℕ → List ℕ → List (List ℕ)
+plain_words form defs source = run_word form ∷ defs ∷ codes "1" ∷ codes "turns" ∷ source ∷ []
+
+-- the words are those of such a run, over files of these names
+pub record IsRunOn (words : List (List ℕ)) (form : ReportForm) (defs source : List ℕ) : Type 0 where
+  pub spelled : words ≡ plain_words form defs source
   pub defs_name : IsName defs
   pub source_name : IsName source
 
+-- the words are those of no run that is built
+abbrev pub IsNoPlainRun : List (List ℕ) → Type 0
+IsNoPlainRun words = (form : ReportForm) (defs source : List ℕ) → ¬ (IsRunOn words form defs source)
+
 -- the words are those of a run of one shard and one source, by turns
 abbrev pub IsPlainRun : List (List ℕ) → Type 0
-IsPlainRun words = (run : IsRun words) × (run.shards ≡ 1) × (run.way ≡ turns) × (length run.sources ≡ 1)
+IsPlainRun words = (r : IsRun words) × (r.run.shards ≡ 1) × (r.run.way ≡ turns) × (length r.run.sources ≡ 1)

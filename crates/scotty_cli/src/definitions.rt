@@ -1,23 +1,20 @@
 //! The definitions file is opened, read and refused or accepted.
-ghost use Rattle.std.specs.Prelude.{◌≡◌, ◌≤◌, ◌↔◌, ℕ, List, Ok, IsTrue, IfOk, IfErr, IsOkAnd, All};
+ghost use Rattle.std.specs.Prelude.{◌≡◌, ◌≤◌, ℕ, List, Ok, IfOk, IfErr, IsOkAnd};
 ghost use Rattle.window_defs.specs.Reading.{reading_of};
+ghost use Rattle.scotty_cli.specs.Outside.{counts_of};
 ghost use Rattle.scotty_cli.specs.Causes.{AreDefsOf, StopsAtBytes, StopsAtDefs, StopsAtReading};
-ghost use Rattle.shard_core.specs.Shard.{IsServed, IsTumbling};
 
 use emission_text::Fault;
 use source_feed::{WholeFault, read_whole};
 use std::alloc::Global;
-use stream_base::{Def, Defs, Files, Kind};
-use window_defs::{DefsFault, read_defs};
+use stream_base::{Defs, Files};
+use window_defs::{BYTES_MAX, DefsFault, read_defs};
 
-/// The most bytes of a definitions file.
-pub const DEFS_MAX: u64 = 1_048_576;
-
-/// The definitions in the file of this name, where they are accepted and served. The file is given
-/// back.
+/// The definitions in the file of this name, where they are accepted. The file is given back.
 pub fn read_definitions<F: Files>(alloc: Global, files: &mut F, name: &str) -> Result<Defs, Fault>
     ensures ok { IfOk result (AreDefsOf (F.told files.old name.now)) }
-    ensures stopped { IfErr result (StopsAtDefs (F.told files.old name.now) (record { opens = record { before = F.failed_opens files.old; after = F.failed_opens files.new }; reads = record { before = F.failed_reads files.old; after = F.failed_reads files.new } })) }
+    ensures stopped { IfErr result (StopsAtDefs (F.told files.old name.now)
+        (counts_of F.failed_opens F.failed_reads files.old files.new)) }
     ensures opens { F.failed_opens files.old ≤ F.failed_opens files.new }
     ensures reads { F.failed_reads files.old ≤ F.failed_reads files.new }
     ensures out { F.out files.new ≡ F.out files.old }
@@ -26,7 +23,7 @@ pub fn read_definitions<F: Files>(alloc: Global, files: &mut F, name: &str) -> R
     match files.open_file(name) {
         Err(_) => Err(Fault::Unopened { place: None }),
         Ok(mut source) => {
-            let bytes = read_whole(alloc, &mut source, DEFS_MAX);
+            let bytes = read_whole(alloc, &mut source, BYTES_MAX as u64);
             files.give_back(source);
             accept(alloc, bytes)
         }
@@ -35,47 +32,22 @@ pub fn read_definitions<F: Files>(alloc: Global, files: &mut F, name: &str) -> R
 
 fn accept(alloc: Global, bytes: Result<Vec<u8>, WholeFault>) -> Result<Defs, Fault>
     ensures read { IfOk result (λ defs. IsOkAnd bytes (λ read. reading_of read.items ≡ Ok defs)) }
-    ensures served { IfOk result (λ defs. IsServed defs) }
     ensures stopped { IfErr result (StopsAtReading bytes) }
 {
     match bytes {
         Err(WholeFault::Read) => Err(Fault::Read { place: None }),
         Err(WholeFault::TooLong) => Err(Fault::Defs(DefsFault::Long)),
         Err(WholeFault::NoMemory) => Err(Fault::NoMemory),
-        Ok(bytes) => read_and_serve(alloc, &bytes),
+        Ok(bytes) => read_bytes(alloc, &bytes),
     }
 }
 
-fn read_and_serve(alloc: Global, bytes: &[u8]) -> Result<Defs, Fault>
-    ensures ok { IfOk result (λ defs. (reading_of bytes.now ≡ Ok defs) × IsServed defs) }
+fn read_bytes(alloc: Global, bytes: &[u8]) -> Result<Defs, Fault>
+    ensures ok { IfOk result (λ defs. reading_of bytes.now ≡ Ok defs) }
     ensures stopped { IfErr result (StopsAtBytes bytes.now) }
 {
     match read_defs(alloc, bytes) {
+        Ok(defs) => Ok(defs),
         Err(fault) => Err(Fault::Defs(fault)),
-        Ok(defs) => serve(defs),
     }
-}
-
-// What is built serves tumbling windows with no lateness.
-fn serve(defs: Defs) -> Result<Defs, Fault>
-    ensures served { IfOk result (λ accepted. (accepted ≡ defs) × IsServed accepted) }
-    ensures unbuilt { IfErr result (λ fault. (fault ≡ Fault.Unbuilt) × ¬ (IsServed defs)) }
-{
-    if is_served(&defs) {
-        Ok(defs)
-    } else {
-        Err(Fault::Unbuilt)
-    }
-}
-
-fn is_served(defs: &Defs) -> bool
-    ensures { IsTrue result ↔ IsServed defs.now }
-{
-    defs.lateness() == 0 && defs.windows().iter().all(is_tumbling)
-}
-
-fn is_tumbling(def: &Def) -> bool
-    ensures { IsTrue result ↔ IsTumbling def.now }
-{
-    matches!(def.kind, Kind::Tumbling { .. })
 }

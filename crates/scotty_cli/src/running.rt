@@ -1,6 +1,6 @@
 //! One source is opened, fed into a shard, and given back.
 ghost use Rattle.std.specs.Prelude.{◌≡◌, ◌≤◌, ℕ, List, [], Ok, IfOk, IfErr};
-ghost use Rattle.shard_core.specs.Shard.{IsServed};
+ghost use Rattle.scotty_cli.specs.Outside.{counts_of};
 ghost use Rattle.scotty_cli.specs.Causes.{IsShardOf, StopsAtSource};
 ghost use Rattle.scotty_cli.specs.Settling.{StopsAtFeeding, fault_of};
 
@@ -25,9 +25,9 @@ pub fn run_source<F: Files, G: Gate, R: Threads>(
     defs: Defs,
     gate: &G,
 ) -> Result<Shard, Fault>
-    requires { IsServed defs }
     ensures ok { IfOk result (IsShardOf defs (F.told files.old name.now)) }
-    ensures stopped { IfErr result (StopsAtSource defs (F.told files.old name.now) (record { opens = record { before = F.failed_opens files.old; after = F.failed_opens files.new }; reads = record { before = F.failed_reads files.old; after = F.failed_reads files.new } })) }
+    ensures stopped { IfErr result (StopsAtSource defs (F.told files.old name.now)
+        (counts_of F.failed_opens F.failed_reads files.old files.new)) }
     ensures opens { F.failed_opens files.old ≤ F.failed_opens files.new }
     ensures reads { F.failed_reads files.old ≤ F.failed_reads files.new }
     ensures out { F.out files.new ≡ F.out files.old }
@@ -50,7 +50,6 @@ pub fn run_source<F: Files, G: Gate, R: Threads>(
 }
 
 fn empty_shard(alloc: Global, defs: &Defs) -> Result<Shard, NoMemory>
-    requires { IsServed defs.now }
     ensures { IfOk result (λ shard. shard ≡ record { defs = defs.now; sources = 1; journal = [] }) }
 {
     Shard::new(alloc, defs.copy(alloc)?, 1)
@@ -62,7 +61,6 @@ fn settle(progress: Result<Progress, FeedFault>, shard: Shard) -> Result<Shard, 
 {
     match progress {
         Ok(Progress::Applying) => Ok(shard),
-        Ok(Progress::Marked) => Err(Fault::Unbuilt),
         Ok(Progress::Full) => Err(Fault::FullShard { shard: 0 }),
         Ok(Progress::Starved) => Err(Fault::NoMemory),
         Err(fault) => Err(fault_of(fault)),

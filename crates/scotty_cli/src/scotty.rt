@@ -1,29 +1,28 @@
 //! The top call.
 ghost use Rattle.std.specs.Prelude.{◌≡◌, ◌≢◌, ◌≤◌, ◌↔◌, ◌⊎◌, ◌∷◌, ℕ, List, [], map, string_bytes, IfOk, IfErr};
-ghost use Rattle.stream_base.specs.Outside.{Rose, with_back};
+ghost use Rattle.emission_text.specs.Report.{form_of, report_text};
+ghost use Rattle.emission_text.specs.Sending.{Appends, Fails};
+ghost use Rattle.emission_text.specs.declared.report_form.ReportForm.{ReportForm};
 ghost use Rattle.shard_core.specs.Shard.{IsJournal};
-ghost use Rattle.emission_text.specs.Report.{report_text};
-ghost use Rattle.emission_text.specs.Sending.{SendsFront};
-ghost use Rattle.window_defs.specs.Reading.{reading_of};
-ghost use Rattle.scotty_cli.specs.Exactly.{IsCalledFor, IsToldRun, NothingFailed};
-ghost use Rattle.scotty_cli.specs.Running.{IsNoPlainRun, IsRunOf, IsShardOfFiles, Reports, ReportsFront, SaysFault, Stops, StopsAtFiles};
+ghost use Rattle.scotty_cli.specs.Answer.{IsAnswer, Says};
+ghost use Rattle.scotty_cli.specs.Causes.{IsShardOfFiles, StopsAtFiles};
+ghost use Rattle.scotty_cli.specs.Outside.{counts_of};
 ghost use Rattle.scotty_cli.specs.Statuses.{status_of};
-ghost use Rattle.scotty_cli.specs.Words.{IsCommand};
+ghost use Rattle.scotty_cli.specs.Words.{IsCommand, IsNoPlainRun, IsRunOn, plain_run};
 
 use crate::definitions::read_definitions;
 use crate::running::run_source;
 use crate::status::{Status, status_of};
-use crate::words::{is_command, plain_run};
-use emission_text::{Fault, write_fault, write_report};
+use crate::words::{PlainRun, is_command, plain_run};
+use emission_text::{Fault, ReportForm, write_fault, write_form};
 use shard_core::Shard;
 use std::alloc::Global;
 use std::thread::Threads;
 use stream_base::{Files, Gate, Sink};
 
-/// Runs the command that the words say. With `Done` the report was written to the sink; with
-/// `WriteFault` a front of it; with every other status the line of its fault, or a front of it. The
-/// status is `Usage` exactly where the words are no command's. Where the files tell their bytes and no
-/// open or read failed, it is the one that the bytes call for, unless memory ran out or a write failed.
+/// Runs the command that the words say. A run is answered with the report that its files call for,
+/// or with the first fault in the order of causes; in place of it an open, a read or a write may
+/// have failed, by its count, or memory ran out. Other words are answered with a fault of their own.
 pub fn scotty<F: Files, K: Sink, G: Gate, R: Threads>(
     alloc: Global,
     rt: &R,
@@ -32,30 +31,58 @@ pub fn scotty<F: Files, K: Sink, G: Gate, R: Threads>(
     sink: &mut K,
     gate: &G,
 ) -> Status
-    ensures done { result ≡ Status.Done → Reports (map string_bytes words.now) (F.told files.old) (K.written sink.old) (K.written sink.new) }
-    ensures write_fault { result ≡ Status.WriteFault → ReportsFront (map string_bytes words.now) (F.told files.old) (K.written sink.old) (K.written sink.new) × Rose (K.faults sink.old) (K.faults sink.new) }
-    ensures stopped { result ≢ Status.Done → result ≢ Status.WriteFault → (fault : Fault) × (result ≡ status_of fault) × Stops (map string_bytes words.now) (F.told files.old) (record { opens = record { before = F.failed_opens files.old; after = F.failed_opens files.new }; reads = record { before = F.failed_reads files.old; after = F.failed_reads files.new } }) fault × SaysFault fault (K.written sink.old) (K.written sink.new) (K.faults sink.old) (K.faults sink.new) }
+    ensures answer { (form : ReportForm) (defs source : List ℕ)
+        → IsRunOn (map string_bytes words.now) form defs source
+        → IsAnswer K.written K.faults (plain_run form defs source) (F.told files.old)
+        (counts_of F.failed_opens F.failed_reads files.old files.new) sink.old sink.new result }
     ensures usage { (result ≡ Status.Usage) ↔ ¬ (IsCommand (map string_bytes words.now)) }
-    ensures unbuilt { IsCommand (map string_bytes words.now) → IsNoPlainRun (map string_bytes words.now) → result ≡ Status.Unbuilt }
-    ensures exact { (run : IsToldRun (map string_bytes words.now) (F.told files.old)) → NothingFailed (record { opens = record { before = F.failed_opens files.old; after = F.failed_opens files.new }; reads = record { before = F.failed_reads files.old; after = F.failed_reads files.new } }) → result ≢ Status.NoMemory → result ≢ Status.WriteFault → IsCalledFor (reading_of run.bytes) run.records result }
+    ensures unbuilt { (result ≡ Status.Unbuilt)
+        ↔ (IsCommand (map string_bytes words.now) × IsNoPlainRun (map string_bytes words.now)) }
+    ensures usage_said { result ≡ Status.Usage
+        → Says K.written K.faults Fault.Usage sink.old sink.new }
+    ensures unbuilt_said { result ≡ Status.Unbuilt
+        → Says K.written K.faults Fault.Unbuilt sink.old sink.new }
     ensures out { F.out files.new ≡ F.out files.old }
 {
-    match run(alloc, rt, words, files, gate) {
-        Ok(shard) => print_report(shard, sink),
+    match plain_run(words) {
+        Some(plain) => run(alloc, rt, plain, files, sink, gate),
+        None if is_command(words) => print_fault(&Fault::Unbuilt, sink),
+        None => print_fault(&Fault::Usage, sink),
+    }
+}
+
+// The run of the definitions and the source of these names.
+fn run<F: Files, K: Sink, G: Gate, R: Threads>(
+    alloc: Global,
+    rt: &R,
+    plain: PlainRun,
+    files: &mut F,
+    sink: &mut K,
+    gate: &G,
+) -> Status
+    ensures answer { IsAnswer K.written K.faults
+        (plain_run plain.entry.form plain.entry.defs.now plain.entry.source.now) (F.told files.old)
+        (counts_of F.failed_opens F.failed_reads files.old files.new) sink.old sink.new result }
+    ensures out { F.out files.new ≡ F.out files.old }
+{
+    match fill_shard(alloc, rt, files, plain.defs, plain.source, gate) {
+        Ok(shard) => print_report(plain.form, shard, sink),
         Err(fault) => print_fault(&fault, sink),
     }
 }
 
 // The report of the one shard.
-fn print_report<K: Sink>(shard: Shard, sink: &mut K) -> Status
-    ensures journal { IsJournal shard }
+fn print_report<K: Sink>(form: ReportForm, shard: Shard, sink: &mut K) -> Status
+    ensures journal { IsJournal shard.sources shard.journal }
     ensures either { (result ≡ Status.Done) ⊎ (result ≡ Status.WriteFault) }
-    ensures done { result ≡ Status.Done → K.written sink.new ≡ with_back (report_text (shard ∷ [])) (K.written sink.old) }
-    ensures failed { result ≢ Status.Done → (result ≡ Status.WriteFault) × SendsFront (report_text (shard ∷ [])) (K.written sink.old) (K.written sink.new) × Rose (K.faults sink.old) (K.faults sink.new) }
+    ensures done { result ≡ Status.Done → Appends K.written K.faults
+        (report_text (form_of form) (shard ∷ [])) sink.old sink.new }
+    ensures failed { result ≡ Status.WriteFault → Fails K.written K.faults
+        (report_text (form_of form) (shard ∷ [])) sink.old sink.new }
 {
     // The shard vouches for its journal: its entries are within their limits.
     let _entries = shard.journal_len();
-    match write_report(&[shard], sink) {
+    match write_form(form, &[shard], sink) {
         Ok(()) => Status::Done,
         Err(_) => Status::WriteFault,
     }
@@ -63,32 +90,14 @@ fn print_report<K: Sink>(shard: Shard, sink: &mut K) -> Status
 
 fn print_fault<K: Sink>(fault: &Fault, sink: &mut K) -> Status
     ensures status { result ≡ status_of fault.now }
-    ensures said { SaysFault fault.now (K.written sink.old) (K.written sink.new) (K.faults sink.old) (K.faults sink.new) }
+    ensures said { Says K.written K.faults fault.now sink.old sink.new }
 {
     let _ = write_fault(fault, sink);
     status_of(fault)
 }
 
-fn run<F: Files, G: Gate, R: Threads>(
-    alloc: Global,
-    rt: &R,
-    words: &[String],
-    files: &mut F,
-    gate: &G,
-) -> Result<Shard, Fault>
-    ensures ok { IfOk result (IsRunOf (map string_bytes words.now) (F.told files.old)) }
-    ensures stopped { IfErr result (Stops (map string_bytes words.now) (F.told files.old) (record { opens = record { before = F.failed_opens files.old; after = F.failed_opens files.new }; reads = record { before = F.failed_reads files.old; after = F.failed_reads files.new } })) }
-    ensures out { F.out files.new ≡ F.out files.old }
-{
-    match plain_run(words) {
-        None if is_command(words) => Err(Fault::Unbuilt),
-        None => Err(Fault::Usage),
-        Some(plain) => run_files(alloc, rt, files, plain.defs, plain.source, gate),
-    }
-}
-
-// The run of the definitions and the source of these names.
-fn run_files<F: Files, G: Gate, R: Threads>(
+// The shard with all entries of the source of this name, under the definitions of that one.
+fn fill_shard<F: Files, G: Gate, R: Threads>(
     alloc: Global,
     rt: &R,
     files: &mut F,
@@ -96,8 +105,11 @@ fn run_files<F: Files, G: Gate, R: Threads>(
     source: &str,
     gate: &G,
 ) -> Result<Shard, Fault>
-    ensures ok { IfOk result (IsShardOfFiles (F.told files.old) defs.now source.now) }
-    ensures stopped { IfErr result (StopsAtFiles (F.told files.old) defs.now source.now (record { opens = record { before = F.failed_opens files.old; after = F.failed_opens files.new }; reads = record { before = F.failed_reads files.old; after = F.failed_reads files.new } })) }
+    ensures ok { IfOk result (IsShardOfFiles (F.told files.old defs.now)
+        (F.told files.old source.now)) }
+    ensures stopped { IfErr result (StopsAtFiles (F.told files.old defs.now)
+        (F.told files.old source.now)
+        (counts_of F.failed_opens F.failed_reads files.old files.new)) }
     ensures out { F.out files.new ≡ F.out files.old }
 {
     match read_definitions(alloc, files, defs) {

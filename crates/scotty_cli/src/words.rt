@@ -1,19 +1,22 @@
 //! The words of the command line, those after the program's name: which of them are commands, and
 //! which are the run of one shard and one source by turns.
 ghost use Rattle.std.specs.Prelude.{◌≡◌, ◌↔◌, ℕ, List, map, decimal, string_bytes, All, IsTrue, IfSome, IfNone};
-ghost use Rattle.scotty_cli.specs.Words.{IsCommand, IsMade, IsName, IsNumberWithin, IsPlainRun, IsRun, IsRunOn, IsWay, AreSources};
+ghost use Rattle.emission_text.specs.declared.report_form.ReportForm.{ReportForm};
+ghost use Rattle.scotty_cli.specs.Words.{IsCommand, IsMade, IsName, IsNoPlainRun, IsNumberWithin, IsPlainRun, IsRun, IsRunOn, IsRunWord, IsWay, AreSources, run_word};
 
+use emission_text::ReportForm;
 use itoa::Buffer;
 
-/// The names in the words of a run of one shard and one source by turns: of the definitions, and of
-/// the source.
+/// A run of one shard and one source by turns: the form of its report, and the names of its
+/// definitions and its source.
 #[derive(Clone, Copy, Debug)]
 pub struct PlainRun<'a> {
+    pub form: ReportForm,
     pub defs: &'a str,
     pub source: &'a str,
 }
 
-/// Whether the words are those of a command: `run`, or `made`.
+/// Whether the words are those of a command: `run`, `run2`, or `made`.
 pub fn is_command(words: &[String]) -> bool
     ensures { IsTrue result ↔ IsCommand (map string_bytes words.now) }
 {
@@ -22,16 +25,17 @@ pub fn is_command(words: &[String]) -> bool
 
 /// The run of one shard and one source by turns, if the words are those of one.
 pub fn plain_run(words: &[String]) -> Option<PlainRun<'_>>
-    ensures found { IfSome result (λ p. IsRunOn (map string_bytes words.now) p.defs.now p.source.now) }
-    ensures none { IfNone result ((defs source : List ℕ) → ¬ (IsRunOn (map string_bytes words.now) defs source)) }
+    ensures found { IfSome result (λ p.
+        IsRunOn (map string_bytes words.now) p.form p.defs.now p.source.now) }
+    ensures none { IfNone result (IsNoPlainRun (map string_bytes words.now)) }
 {
     match words {
         [run, defs, shards, way, source] => {
-            let plain = says(run.as_str(), "run")
-                && says(shards.as_str(), "1")
-                && says(way.as_str(), "turns");
+            let form = run_form(run.as_str())?;
+            let plain = says(shards.as_str(), "1") && says(way.as_str(), "turns");
             if plain && is_name(defs.as_str()) && is_name(source.as_str()) {
                 Some(PlainRun {
+                    form,
                     defs: defs.as_str(),
                     source: source.as_str(),
                 })
@@ -47,18 +51,42 @@ pub fn plain_run(words: &[String]) -> Option<PlainRun<'_>>
 /// command.
 #[tactic(auto, using(crate::proofs::WordFacts::plain_is_spelled))]
 pub fn plain_words_spell_the_plain_runs()
-    ensures spelled { (words : List (List ℕ)) → IsPlainRun words → (defs : List ℕ) × (source : List ℕ) × IsRunOn words defs source }
-    ensures plain { (words : List (List ℕ)) (defs source : List ℕ) → IsRunOn words defs source → IsPlainRun words }
-    ensures command { (words : List (List ℕ)) (defs source : List ℕ) → IsRunOn words defs source → IsCommand words }
+    ensures spelled { (words : List (List ℕ)) → IsPlainRun words
+        → (form : ReportForm) × (defs : List ℕ) × (source : List ℕ)
+        × IsRunOn words form defs source }
+    ensures plain { (words : List (List ℕ)) (form : ReportForm) (defs source : List ℕ)
+        → IsRunOn words form defs source → IsPlainRun words }
+    ensures command { (words : List (List ℕ)) (form : ReportForm) (defs source : List ℕ)
+        → IsRunOn words form defs source → IsCommand words }
 {}
 
-// `run DEFS SHARDS FEED SOURCE..`, with 1 to 16 sources.
+// The form that the first word of a run tells.
+fn run_form(word: &str) -> Option<ReportForm>
+    ensures some { IfSome result (λ form. word.now ≡ run_word form) }
+    ensures none { IfNone result (¬ (IsRunWord word.now)) }
+{
+    if says(word, "run") {
+        return Some(ReportForm::One);
+    }
+    if says(word, "run2") {
+        return Some(ReportForm::Two);
+    }
+    None
+}
+
+fn is_run_word(word: &str) -> bool
+    ensures { IsTrue result ↔ IsRunWord word.now }
+{
+    run_form(word).is_some()
+}
+
+// `run DEFS SHARDS FEED SOURCE..`, or the same with `run2`, with 1 to 16 sources.
 fn is_run(words: &[String]) -> bool
     ensures { IsTrue result ↔ IsRun (map string_bytes words.now) }
 {
     match words {
         [run, defs, shards, way, sources @ ..] => {
-            says(run.as_str(), "run")
+            is_run_word(run.as_str())
                 && is_name(defs.as_str())
                 && is_number_within(shards.as_str(), 1, 16)
                 && is_way(way.as_str())

@@ -1,46 +1,18 @@
--- The changes under the entries of a journal, by position, and with one entry more.
-use Rattle.std.proofs.Common.{◌≡◌, ◌∙◌, ◌≤◌, ◌<◌, ◌+◌, ℕ, zero, suc, List, [], ◌∷◌, ◌++◌, length, take, get_or, ap, sym, refl, arith, append_assoc, append-nil, true, false, Some, None, Option, ◌⊎◌, inl, inr, map, length-append}
-use Rattle.std.specs.Prelude.{slice_get, Vec}
-use Rattle.std.specs.declared.alloc.Global.{Global}
-use Rattle.std.proofs.lemmas.List.{map-append, take-append-le}
+-- A journal that is longer by one entry.
+use Rattle.std.proofs.Common.{◌≡◌, ◌∙◌, ◌<◌, ℕ, zero, suc, List, [], ◌∷◌, ◌++◌, length, take, ap, sym, refl, subst, arith, true, false, Some, None, ◌⊎◌, inl, inr, length-append}
+use Rattle.std.specs.Prelude.{slice_get}
+use Rattle.std.proofs.lemmas.List.{take-append-le}
 use Rattle.std.proofs.lemmas.List.Elements.{All-push}
 use Rattle.std.proofs.Math.Seq.{take-append_seam}
+use Rattle.stream_base.specs.Limits.{AreWithinLimits}
 use Rattle.stream_base.specs.declared.limits.TheConstants.{JOURNAL_MAX}
-use Rattle.stream_base.specs.Model.Journal.{has_ended}
-use Rattle.stream_base.specs.Model.Journals.{is_entry_within}
-use Rattle.shard_core.specs.Past.{Recorded}
-use Rattle.std.specs.Option.{option_map_or}
-use Rattle.stream_base.specs.Limits.{Definitions}
-use Rattle.stream_base.specs.declared.change.Change.{Change}
 use Rattle.stream_base.specs.declared.entry.Entry.{Entry}
-use Rattle.stream_base.specs.Model.Changes.{changes_after, changes_at}
-use Rattle.shard_core.specs.Shard.{HasNothingBehindAnEnd, IsJournal, changes_behind}
-
-pub length-changes_behind : (d : Definitions) (sources : ℕ) (before es : List Entry) → length (changes_behind d sources before es) ≡ length es
-length-changes_behind d sources before [] = refl
-length-changes_behind d sources before (e ∷ es) = ap suc (length-changes_behind d sources (before ++ e ∷ []) es)
-
--- the changes at a position are those of its entry behind the entries before it
-at_position : (d : Definitions) (sources : ℕ) (before es : List Entry) (p : ℕ) (other : List Change) → p < length es → get_or (changes_behind d sources before es) p other ≡ option_map_or (λ e. changes_after d sources (before ++ take p es) e) (slice_get es p) []
-at_position d sources before [] p other h = absurd (omega arith)
-at_position d sources before (e ∷ es) zero other h = ap (λ bs. changes_after d sources bs e) (sym (append-nil before))
-at_position d sources before (e ∷ es) (suc p) other h =
-    at_position d sources (before ++ e ∷ []) es p other (omega arith)
-    ∙ ap (λ bs. option_map_or (λ x. changes_after d sources bs x) (slice_get es p) []) (append_assoc before (e ∷ []) (take p es))
-
-pub changes_at_position : (d : Definitions) (sources : ℕ) (journal : List Entry) (p : ℕ) (other : List Change) → p < length journal → get_or (changes_behind d sources [] journal) p other ≡ changes_at d sources journal p
-changes_at_position d sources journal p other h = at_position d sources [] journal p other h
-
-behind_push : (d : Definitions) (sources : ℕ) (before es : List Entry) (e : Entry) → changes_behind d sources before (es ++ e ∷ []) ≡ changes_behind d sources before es ++ changes_after d sources (before ++ es) e ∷ []
-behind_push d sources before [] e = ap (λ bs. changes_after d sources bs e ∷ []) (sym (append-nil before))
-behind_push d sources before (x ∷ es) e =
-    ap (λ cs. changes_after d sources before x ∷ cs)
-    (behind_push d sources (before ++ x ∷ []) es e
-    ∙ ap (λ bs. changes_behind d sources (before ++ x ∷ []) es ++ changes_after d sources bs e ∷ []) (append_assoc before (x ∷ []) es))
-
--- a journal longer by one entry has its changes behind all others
-pub changes_behind_push : (d : Definitions) (sources : ℕ) (journal : List Entry) (e : Entry) → changes_behind d sources [] (journal ++ e ∷ []) ≡ changes_behind d sources [] journal ++ changes_after d sources journal e ∷ []
-changes_behind_push d sources journal e = behind_push d sources [] journal e
+use Rattle.stream_base.specs.Model.Watermark.{has_ended}
+use Rattle.stream_base.specs.Model.Journals.{is_entry_within}
+use Rattle.watermark_table.specs.Watched.{StandsFor, sources_of}
+use Rattle.shard_core.specs.declared.past.Past.TheInside.{Inside}
+use Rattle.shard_core.specs.Past.{IsPast}
+use Rattle.shard_core.specs.Shard.{AreKnown, HasNothingBehindAnEnd, IsJournal}
 
 none_some : {X : Type 0} {x : X} → None ≡ Some x → ⊥
 none_some h = cc
@@ -59,28 +31,34 @@ open_push journal e before goes n x at =
       | inr p ↦ (λ i. has_ended (p.0 i).source (take (p.1 i) (journal ++ e ∷ []))) ∙ ap (has_ended e.source) (take-append_seam journal (e ∷ [])) ∙ goes
     ]
 
--- a journal with one entry more that is known and whose source hasn't ended
-pub journal_push : (d : Definitions) (past : Recorded) (e : Entry)
-    → IsJournal (record { defs = d; sources = past.sources; journal = past.journal })
-    → e.source < past.sources → is_entry_within e ≡ true → has_ended e.source past.journal ≡ false → length past.journal < JOURNAL_MAX
-    → IsJournal (record { defs = d; sources = past.sources; journal = past.journal ++ e ∷ [] })
-journal_push d past e h source within goes room = record {
-  short = rw length-append (omega arith);
-  known = record {
-    sources = All-push (λ x. x.source < past.sources) past.journal e h.known.sources source;
-    within = All-push (λ x. is_entry_within x ≡ true) past.journal e h.known.within within;
-  };
-  open_before = open_push past.journal e h.open_before goes;
+pub within_push : (sources : ℕ) (journal : List Entry) (e : Entry) → AreKnown sources journal → e.source < sources → is_entry_within e ≡ true → AreKnown sources (journal ++ e ∷ [])
+within_push sources journal e h source within = record {
+  known_sources = All-push (λ x. x.source < sources) journal e h.known_sources source;
+  within = All-push (λ x. is_entry_within x ≡ true) journal e h.within within;
 }
 
--- lists of changes with one more behind them
-pub changes_push : (d : Definitions) (past : Recorded) (e : Entry) (lists longer : List (Vec Change Global)) (under : Vec Change Global)
-    → map (λ v. v.items) lists ≡ changes_behind d past.sources [] past.journal
-    → longer ≡ lists ++ under ∷ []
-    → under.items ≡ changes_after d past.sources past.journal e
-    → map (λ v. v.items) longer ≡ changes_behind d past.sources [] (past.journal ++ e ∷ [])
-changes_push d past e lists longer under are more is =
-    ap (map (λ v. v.items)) more
-    ∙ map-append (λ v. v.items) lists (under ∷ [])
-    ∙ (λ i. are i ++ is i ∷ [])
-    ∙ sym (changes_behind_push d past.sources past.journal e)
+-- a journal with one entry more that is known and whose source hasn't ended
+pub journal_push : (sources : ℕ) (journal : List Entry) (e : Entry) → IsJournal sources journal
+    → e.source < sources → is_entry_within e ≡ true → has_ended e.source journal ≡ false → length journal < JOURNAL_MAX
+    → IsJournal sources (journal ++ e ∷ [])
+journal_push sources journal e h source within goes room = record {
+  short = rw length-append (omega arith);
+  known = within_push sources journal e h.known source within;
+  open_before = open_push journal e h.open_before goes;
+}
+
+-- what is kept of the past, one entry on
+pub past_push : (old new : Inside) (e : Entry) → IsPast old
+    → new.defs ≡ old.defs
+    → sources_of new.waters ≡ sources_of old.waters
+    → (new.waters).lateness ≡ (old.waters).lateness
+    → StandsFor new.waters (old.journal.items ++ e ∷ [])
+    → new.journal.items ≡ old.journal.items ++ e ∷ []
+    → e.source < sources_of old.waters → is_entry_within e ≡ true → has_ended e.source old.journal.items ≡ false → length old.journal.items < JOURNAL_MAX
+    → IsPast new
+past_push old new e h defs sources lateness stands journal source within goes room = record {
+  limits = subst AreWithinLimits (sym defs) h.limits;
+  lateness = lateness ∙ h.lateness ∙ ap (λ d. d.lateness) (sym defs);
+  waters = subst (StandsFor new.waters) (sym journal) stands;
+  journal_is = rw (sources, journal) (journal_push (sources_of old.waters) old.journal.items e h.journal_is source within goes room);
+}

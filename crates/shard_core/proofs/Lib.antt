@@ -1,5 +1,8 @@
 pub mod Places
-pub mod Folds
-pub mod Waters
-pub mod Effects
 pub mod Journals
+pub mod Entries
+pub mod Moves
+pub mod Loops
+pub mod Advance
+pub mod FlatFacts
+pub mod Shards

@@ -1,7 +1,5 @@
 pub mod Shard
-pub mod Emission
-pub mod Folding
+pub mod Recorded
 pub mod Past
-pub mod PastInside
-pub mod ShardInside
-pub mod Effect
+pub mod Engines
+pub mod Flat

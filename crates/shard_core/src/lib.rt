@@ -1,20 +1,24 @@
 //! One shard: a journal of entries, and under each entry the changes of the results that it causes.
 //!
-//! *From* routed entries *to* their changes. *Stands on* the base crate, and on the aggregates.
-//! *Promise*: for the shard's own journal, the changes at each position are those of the
-//! definitions, whatever entries are applied, and a refused entry changes nothing.
-//!
-//! This engine is the plain program of the definitions: it keeps its journal, and folds it anew
-//! where the watermark moves. It serves tumbling windows with no lateness.
+//! *From* routed entries *to* their changes. *Stands on* the base crate, the table of watermarks,
+//! and an engine for the windows of one key, of which it knows the contract alone. *Promise*: for
+//! the shard's own journal, the changes at each position are those of the definitions, whatever
+//! entries are applied, and a refused entry changes nothing.
 #![tactic(auto)]
 
+use key_slicer::KeyState;
+
 mod applied;
-mod effect;
-mod emit;
-mod fold;
+mod intake;
+mod keys;
+mod moving;
 mod past;
-mod recall;
 mod shard;
+mod slot;
+mod standing;
 
 pub use applied::{Applied, ApplyFault};
-pub use shard::Shard;
+pub use shard::KeyedShard;
+
+/// A shard over the plain engine.
+pub type Shard = KeyedShard<KeyState>;

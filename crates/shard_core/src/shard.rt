@@ -1,67 +1,79 @@
-ghost use Rattle.std.specs.Prelude.{◌≡◌, ◌≤◌, ◌<◌, ◌↔◌, ◌∷◌, [], length, IfOk, OnOk, OnErr, IsErrOf, IsErr, true, false, Some, slice_get};
+ghost use Rattle.std.specs.Prelude.{◌≡◌, ◌≤◌, ◌<◌, ◌↔◌, ◌∷◌, [], length, IfOk, OnOk, OnErr, IsErrOf, true, false, Some, slice_get, slice_index, slice_range};
 ghost use Rattle.stream_base.specs.declared.limits.TheConstants.{JOURNAL_MAX};
-ghost use Rattle.stream_base.specs.Model.Changes.{changes_after, changes_at};
-ghost use Rattle.stream_base.specs.Model.Journal.{has_ended};
+ghost use Rattle.stream_base.specs.Model.Changes.{changes_after, changes_at, standing_rows};
 ghost use Rattle.stream_base.specs.Model.Journals.{is_entry_within};
-ghost use Rattle.shard_core.specs.Shard.{IsJournal, IsServed, sharded_with};
+ghost use Rattle.stream_base.specs.Model.Watermark.{has_ended};
+ghost use Rattle.shard_core.specs.Flat.{start_at};
+ghost use Rattle.shard_core.specs.Shard.{IsJournal, sharded_with, slices_after};
 
 use crate::applied::{Applied, ApplyFault};
-use crate::effect;
+use crate::keys::KeyTable;
 use crate::past::Past;
 use agg_laws::Steps;
+use key_slicer::KeyWindows;
 use std::alloc::Global;
 use std::marker::Model;
-use stream_base::{Change, Defs, Entry, JOURNAL_MAX, NoMemory};
+use stream_base::{Change, Defs, Entry, JOURNAL_MAX, KeyText, NoMemory, Row};
 
-/// A shard: a journal, and under each of its entries the changes of the results. Contracts see the
-/// definitions, the number of sources and the journal.
+/// A shard over an engine for the windows of one key: a journal, and under each of its entries the
+/// changes of the results. Contracts see the definitions, the number of sources and the journal.
+///
+/// An entry that doesn't move the watermark touches its own key alone. A move of the watermark
+/// touches the keys of which something is due by then, in the order of their bytes.
 #[derive(Drop)]
-pub struct Shard {
+pub struct KeyedShard<K: KeyWindows> {
     alloc: Global,
-    defs: Defs,
     past: Past,
-    changes: Vec<Vec<Change>>,
+    keys: KeyTable<K>,
+    // The changes under all entries, one entry's behind the other's, and where each entry's end.
+    changes: Vec<Change>,
+    ends: Vec<usize>,
 }
 
-impl Model for Shard {
+impl<K: KeyWindows> Model for KeyedShard<K> {
     ghost use Rattle.shard_core.specs.Shard.{Sharded};
 
     ghost Value = { Sharded };
 
-    ghost use Rattle.shard_core.specs.ShardInside.{sharded, IsShard};
+    ghost use Rattle.shard_core.specs.Flat.{IsShard, sharded};
 
-    ghost view = { sharded };
+    ghost view = { λ a. sharded a.past };
 
-    ghost invariant = { IsShard };
+    ghost invariant = { λ a. IsShard K.key_of K.fits K.next_position
+        a.past a.keys a.changes.items a.ends.items };
 }
 
-impl Shard {
-    /// A shard with an empty journal, for so many sources. This engine serves tumbling windows with
-    /// no lateness.
-    pub fn new(alloc: Global, defs: Defs, sources: u16) -> Result<Shard, NoMemory>
+impl<K: KeyWindows> KeyedShard<K> {
+    /// A shard with an empty journal, for so many sources.
+    pub fn new(alloc: Global, defs: Defs, sources: u16) -> Result<KeyedShard<K>, NoMemory>
         requires some { 1 ≤ sources }
         requires few { sources ≤ 16 }
-        requires served { IsServed defs }
-        ensures { IfOk result (λ shard. shard ≡ record { defs = defs; sources = sources; journal = [] }) }
+        ensures { IfOk result (λ shard. shard
+            ≡ record { defs = defs; sources = sources; journal = [] }) }
     {
-        let past = Past::new(alloc, defs.lateness(), sources)?;
-        Ok(Shard {
+        let past = Past::new(alloc, defs, sources)?;
+        Ok(KeyedShard {
             alloc,
-            defs,
             past,
+            keys: KeyTable::new(alloc),
             changes: Vec::new(alloc),
+            ends: Vec::new(alloc),
         })
     }
 
-    /// Appends an entry, and under it the changes that it causes.
+    /// Appends an entry, and under it the changes that it causes. It takes all its memory first.
     pub fn apply<L>(&mut self, entry: &Entry, steps: &mut Steps<L>) -> Result<Applied, ApplyFault>
         requires source { entry.now.source < self.old.sources }
         requires within { is_entry_within entry.now ≡ true }
         ensures applied { OnOk result (self.new ≡ sharded_with self.old entry.now) }
         ensures position { IfOk result (λ applied. applied.position ≡ length self.old.journal) }
-        ensures changes { IfOk result (λ applied. applied.changes ≡ length (changes_after self.old.defs self.old.sources self.old.journal entry.now)) }
-        ensures ended { IsErrOf result ApplyFault.Ended ↔ (has_ended entry.now.source self.old.journal ≡ true) }
-        ensures full { IsErrOf result ApplyFault.Full ↔ ((has_ended entry.now.source self.old.journal ≡ false) × (length self.old.journal ≡ JOURNAL_MAX)) }
+        ensures changes { IfOk result (λ applied. applied.changes
+            ≡ length (changes_after self.old.defs self.old.sources self.old.journal entry.now)) }
+        ensures ended { IsErrOf result ApplyFault.Ended
+            ↔ (has_ended entry.now.source self.old.journal ≡ true) }
+        ensures full { IsErrOf result ApplyFault.Full
+            ↔ ((has_ended entry.now.source self.old.journal ≡ false) × (length self.old.journal
+            ≡ JOURNAL_MAX)) }
         ensures refused { OnErr result (self.new ≡ self.old) }
     {
         if self.past.has_ended(entry.source) {
@@ -77,27 +89,32 @@ impl Shard {
         requires source { entry.now.source < self.old.sources }
         requires within { is_entry_within entry.now ≡ true }
         requires open { has_ended entry.now.source self.old.journal ≡ false }
-        requires room { length self.old.journal < JOURNAL_MAX }
+        requires few { length self.old.journal < JOURNAL_MAX }
         ensures applied { OnOk result (self.new ≡ sharded_with self.old entry.now) }
         ensures position { IfOk result (λ applied. applied.position ≡ length self.old.journal) }
-        ensures changes { IfOk result (λ applied. applied.changes ≡ length (changes_after self.old.defs self.old.sources self.old.journal entry.now)) }
+        ensures changes { IfOk result (λ applied. applied.changes
+            ≡ length (changes_after self.old.defs self.old.sources self.old.journal entry.now)) }
         ensures refused { OnErr result (self.new ≡ self.old) }
     {
-        let under = effect::changes_under(self.alloc, &self.defs, &self.past, entry, steps)?;
+        self.past.reserve()?;
+        self.ends.reserve(1)?;
+        let before = self.changes.len();
+        self.keys
+            .take_in(self.alloc, &self.past, entry, &mut self.changes, steps)?;
+        let end = self.changes.len();
         let applied = Applied {
             position: self.past.journal().len() as u64,
-            changes: under.len() as u64,
+            changes: (end - before) as u64,
         };
-        self.changes.reserve(1)?;
-        self.past.push(entry)?;
-        self.changes.push_reserved(under);
+        self.past.push(entry);
+        self.ends.push_reserved(end);
         Ok(applied)
     }
 
     /// How many entries the journal has.
     pub fn journal_len(&self) -> u64
         ensures value { result ≡ length self.now.journal }
-        ensures journal { IsJournal self.now }
+        ensures journal { IsJournal self.now.sources self.now.journal }
     {
         self.past.journal().len() as u64
     }
@@ -115,6 +132,36 @@ impl Shard {
         requires { position < length self.now.journal }
         ensures { result.now ≡ changes_at self.now.defs self.now.sources self.now.journal position }
     {
-        &self.changes[position as usize]
+        part_of(&self.changes, &self.ends, position as usize)
     }
+
+    /// The rows of all that stands, by key, window, start and end.
+    pub fn standing<L>(&self, steps: &mut Steps<L>) -> Result<Vec<Row>, NoMemory>
+        ensures { IfOk result (λ rows. rows.items
+            ≡ standing_rows self.now.defs self.now.sources self.now.journal) }
+    {
+        self.keys.standing(self.alloc, &self.past, steps)
+    }
+
+    /// How many slices a key has: the maximal stretches of its unsettled tuples with no cut between
+    /// neighbours. A key that no entry named has none.
+    pub fn slice_count(&self, key: &KeyText) -> u64
+        ensures { result
+            ≡ length (slices_after self.now.defs self.now.sources self.now.journal key.now) }
+    {
+        self.keys.slice_count(&self.past, key)
+    }
+}
+
+// The changes up to the end at a position, from the end before it.
+fn part_of<'a>(changes: &'a [Change], ends: &[usize], position: usize) -> &'a [Change]
+    requires known { position < length ends.now }
+    requires rises { start_at ends.now position ≤ slice_index ends.now position }
+    requires within { slice_index ends.now position ≤ length changes.now }
+    ensures { result.now ≡ slice_range changes.now (start_at ends.now position)
+        (slice_index ends.now position) }
+{
+    let start = if position == 0 { 0 } else { ends[position - 1] };
+    let end = ends[position];
+    &changes[start..end]
 }

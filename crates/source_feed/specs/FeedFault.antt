@@ -1,6 +1,6 @@
--- What a feed's fault says of what it told.
+-- What a feed's fault says of the stream that it told.
 use Rattle.std.specs.Prelude.{◌≡◌, Option, None, Some, ⊤}
-use Rattle.source_feed.specs.Told.{Refusal, Told, bad_row, only_refused, too_long}
+use Rattle.source_feed.specs.Stream.{Refusal, Stream, bad_record, only_refused, too_long}
 use Rattle.source_feed.specs.declared.feed_fault.FeedFault.{FeedFault}
 use Rattle.source_feed.specs.declared.feed_fault.FeedFault.TheVariants.{Read, TooLong, Row, NoMemory}
 use Rattle.source_feed.specs.declared.row_fault.RowFault.{RowFault}
@@ -12,18 +12,19 @@ use Rattle.source_feed.specs.declared.whole_fault.WholeFault.TheVariants.{Read a
 abbrev pub refusal_of : FeedFault → Option Refusal
 refusal_of Read = None
 refusal_of TooLong = Some too_long
-refusal_of (Row number why) = Some (bad_row number why)
+refusal_of (Row number why) = Some (bad_record number why)
 refusal_of NoMemory = None
 
--- no entry was left where anything was told, this refusal was to come, and that stays told
-abbrev pub Ends : Option Refusal → Option Told → Option Told → Type 0
+-- the same, of a fault of rows
+abbrev pub row_refusal_of : RowFault → Option Refusal
+row_refusal_of (Refused number why) = Some (bad_record number why)
+row_refusal_of MemoryFault = None
+
+-- a refusal that is shown is all that a told stream has left, and that stays told
+abbrev pub Ends : Option Refusal → Option Stream → Option Stream → Type 0
 Ends None old new = ⊤
 Ends (Some refusal) None new = ⊤
-Ends (Some refusal) (Some told) new = (told ≡ only_refused refusal) × (new ≡ Some told)
-
--- a fault that shows a refusal shows the one that was told
-abbrev pub ShowsRefusal : FeedFault → Option Told → Option Told → Type 0
-ShowsRefusal fault old new = Ends (refusal_of fault) old new
+Ends (Some refusal) (Some stream) new = (stream ≡ only_refused refusal) × (new ≡ Some stream)
 
 -- the fault of a feed for one of its rows
 abbrev pub feed_fault : RowFault → FeedFault

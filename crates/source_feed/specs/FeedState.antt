@@ -1,21 +1,14 @@
--- A feed by its fields.
-use Rattle.std.specs.Prelude.{◌≡◌, ℕ, ⊤}
-use Rattle.source_feed.specs.Feeding.{Feeding, Reading, unread, giving, unreadable}
-use Rattle.source_feed.specs.declared.file_feed.State.{State}
-use Rattle.source_feed.specs.declared.file_feed.State.TheVariants.{Unread, Open, Stopped}
-use Rattle.source_feed.specs.declared.file_feed.FileFeed.TheInside.{Inside}
+-- What a feed is in contracts.
+use Rattle.std.specs.Prelude.{ℕ, Bool, Option, IfSome}
+use Rattle.source_feed.specs.Stream.{IsWhole, Stream}
 
-abbrev pub reading_of : State → Reading
-reading_of Unread = unread
-reading_of (Open rows) = giving rows.value
-reading_of (Stopped fault) = unreadable fault
+-- a source's number, whether its end was given, the fault that was answered, and the told rest
+pub record FeedState (E : Type 0) : Type 0 where
+  pub source : ℕ
+  pub ended : Bool
+  pub answered : Option E
+  pub rest : Option Stream
 
-abbrev pub feeding_of : {S : Type 0} → Inside S → Feeding S
-feeding_of a =
-    record { from = a.source; source = a.index; every = a.every; disorder = a.disorder; reading = reading_of a.state }
-
--- the rows are those of this source
-abbrev pub HasRowsOf : ℕ → State → Type 0
-HasRowsOf source Unread = ⊤
-HasRowsOf source (Open rows) = (rows.value).source ≡ source
-HasRowsOf source (Stopped fault) = ⊤
+-- a stream that is told closes rightly
+abbrev pub Closes : {E : Type 0} → FeedState E → Type 0
+Closes feed = IfSome feed.rest (IsWhole feed.source feed.ended)

@@ -1,14 +1,16 @@
--- What one record of a source says.
-use Rattle.std.specs.Prelude.{◌==◌, ◌&&◌, ◌||◌, ◌+◌, ◌-◌, ◌*◌, ◌^◌, ℕ, ℤ, pos, Bool, List, [], ◌∷◌, length, fold, Option, None, Some, Result, Ok, Err, if◌then◌else◌, nat_lt, nat_le, unwrap_or, codes, neg_ℤ}
+-- The event of one record of a source.
+use Rattle.std.specs.Prelude.{◌==◌, ◌&&◌, ◌||◌, ◌^◌, ℕ, ℤ, pos, Bool, List, [], ◌∷◌, length, Option, None, Some, Result, Ok, Err, if◌then◌else◌, nat_lt, nat_le, unwrap_or, codes, neg_ℤ}
 use Rattle.std.specs.List.{list_all}
+use Rattle.std.specs.Char.{is_ascii_digit}
 use Rattle.std.specs.Str.{bytes_eq}
 use Rattle.csv.specs.Records.{field_at}
 use Rattle.stream_base.specs.Key.{key_fault}
 use Rattle.stream_base.specs.Limits.{is_from_one_to}
+use Rattle.stream_base.specs.Model.Journals.{number_in}
 use Rattle.stream_base.specs.declared.limits.TheConstants.{TIME_MAX}
 use Rattle.stream_base.specs.declared.key_text.KeyFault.{KeyFault}
 use Rattle.stream_base.specs.declared.what.What.{What}
-use Rattle.stream_base.specs.declared.what.What.TheVariants.{Tuple, Mark, Water}
+use Rattle.stream_base.specs.declared.what.What.TheVariants.{Tuple, Mark, Water, Idle}
 use Rattle.source_feed.specs.declared.row_why.RowWhy.{RowWhy}
 use Rattle.source_feed.specs.declared.row_why.RowWhy.TheVariants.{Kind, Fields, Time, Value, Key}
 
@@ -18,17 +20,12 @@ abbrev pub ◌>>=◌ : {A B : Type 0} → Result A RowWhy → (A → Result B Ro
 (Ok x) >>= next = next x
 (Err why) >>= next = Err why
 
--- an ASCII digit
-abbrev pub is_digit : ℕ → Bool
-is_digit byte = nat_le 48 byte && nat_le byte 57
-
--- the number that digits spell, to the base 10
-abbrev pub spelled : List ℕ → ℕ
-spelled digits = fold (λ number digit. 10 * number + (digit - 48)) 0 digits
-
 -- the number of a text of 1 to 19 digits; leading zeros are allowed
-abbrev pub number_in : List ℕ → Option ℕ
-number_in text = if is_from_one_to 19 (length text) && list_all is_digit text then Some (spelled text) else None
+abbrev pub parse_number : List ℕ → Option ℕ
+parse_number text =
+    if is_from_one_to 19 (length text) && list_all is_ascii_digit text
+    then Some (number_in text)
+    else None
 
 -- a number as a time, where it is at most the greatest time
 abbrev pub as_time : Option ℕ → Result ℕ RowWhy
@@ -37,7 +34,7 @@ as_time (Some number) = if nat_le number TIME_MAX then Ok number else Err Time
 
 -- the time of a text
 abbrev pub time_in : List ℕ → Result ℕ RowWhy
-time_in text = as_time (number_in text)
+time_in text = as_time (parse_number text)
 
 -- a number as a value, where it is below 2^63
 abbrev pub from_zero : Option ℕ → Result ℤ RowWhy
@@ -53,9 +50,9 @@ below_zero (Some number) = if nat_le number (2 ^ 63) then Ok (neg_ℤ (pos numbe
 abbrev pub value_in : List ℕ → Result ℤ RowWhy
 value_in [] = Err Value
 value_in (sign ∷ digits) =
-    if sign == 45 then below_zero (number_in digits)
-    else if sign == 43 then from_zero (number_in digits)
-    else from_zero (number_in (sign ∷ digits))
+    if sign == 45 then below_zero (parse_number digits)
+    else if sign == 43 then from_zero (parse_number digits)
+    else from_zero (parse_number (sign ∷ digits))
 
 -- a text as a key
 abbrev pub as_key : Option KeyFault → List ℕ → Result (List ℕ) RowWhy
@@ -113,10 +110,19 @@ water_of fields =
       Ok (Water time))
     else Err Fields
 
--- what a record says, or its first fault: its kind, its fields, its time, its value and its key, in this order
+-- i and i,,, are words that the source is idle
+abbrev pub idle_of : List (List ℕ) → Result What RowWhy
+idle_of fields =
+    if (length fields == 1)
+    || ((length fields == 4) && is_empty (field fields 1) && is_empty (field fields 2) && is_empty (field fields 3))
+    then Ok Idle
+    else Err Fields
+
+-- the event of a record, or its first fault: its kind, fields, time, value and key, in this order
 abbrev pub what_of : List (List ℕ) → Result What RowWhy
 what_of fields =
     if bytes_eq (field fields 0) (codes "t") then tuple_of fields
     else if bytes_eq (field fields 0) (codes "m") then mark_of fields
     else if bytes_eq (field fields 0) (codes "w") then water_of fields
+    else if bytes_eq (field fields 0) (codes "i") then idle_of fields
     else Err Kind

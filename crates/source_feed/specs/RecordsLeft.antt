@@ -18,7 +18,8 @@ records_after state bytes = records_from default_config (length bytes + 1) state
 
 -- the records that a reader has left; `left` says which bytes are left under it
 abbrev pub records_left : {R : Type 0} → (R → Option (List ℕ)) → Reader R → List (List (List ℕ))
-records_left left reader = unwrap_or (option_map (records_after (reader_state reader)) (source_of left reader)) []
+records_left left reader =
+    unwrap_or (option_map (records_after (reader_state reader)) (source_of left reader)) []
 
 -- a reader over known bytes, set up for records of any length, that stands between two records
 pub record IsReadable {R : Type 0} (left : R → Option (List ℕ)) (reader : Reader R) : Type 0 where
@@ -30,5 +31,6 @@ pub record IsReadable {R : Type 0} (left : R → Option (List ℕ)) (reader : Re
 
 -- a read that found a record took the first of those that were left; where it found none, none was left
 abbrev pub TookRecord : {R : Type 0} → (R → Option (List ℕ)) → Reader R → Reader R → List (List ℕ) → Bool → Type 0
-TookRecord left old new fields true = IsReadable left new × (records_left left old ≡ fields ∷ records_left left new)
+TookRecord left old new fields true =
+    IsReadable left new × (records_left left old ≡ fields ∷ records_left left new)
 TookRecord left old new fields false = records_left left old ≡ []

@@ -1,11 +1,13 @@
 //! The way from a source's bytes to its entries, and from an entry's key to its shard.
 //!
-//! *From* the bytes of a source of the outside, *to* the entries that the machine works on. *Stands on*
-//! `stream_base` for keys, entries and sources, and on `csv` for records. *Promise*: a source's
-//! entries are those that the definition reads from its bytes, with the watermarks that are made
-//! and the last end, or those before the first refusal, with its record number and reason.
+//! *From* the bytes of a source of the outside, *to* the entries that the machine works on.
+//! *Stands on* `stream_base` for keys, entries and sources, and on `csv` for records. *Promise*: a
+//! source's entries are those that the definition reads from its bytes, with the watermarks that wake
+//! it or are made and the last end, or those before the first refusal, with its record number and
+//! reason.
 #![tactic(auto)]
 
+mod event;
 mod feed;
 mod feed_fault;
 mod file_feed;
@@ -16,8 +18,8 @@ mod records;
 mod row_fault;
 mod row_why;
 mod rows;
-mod said;
 mod shard;
+mod waiting;
 mod whole;
 mod whole_fault;
 

@@ -1,5 +1,5 @@
 ghost use Rattle.std.specs.Prelude.{◌≡◌, ◌≤◌, IfOk};
-ghost use Rattle.source_feed.specs.Record.{number_in, time_in, value_in, from_zero, below_zero};
+ghost use Rattle.source_feed.specs.Record.{parse_number, time_in, value_in, from_zero, below_zero};
 
 use crate::row_why::RowWhy;
 use stream_base::TIME_MAX;
@@ -9,7 +9,7 @@ pub fn time_in(text: &[u8]) -> Result<u64, RowWhy>
     ensures value { result ≡ time_in text.now }
     ensures within { IfOk result (λ time. time ≤ TIME_MAX) }
 {
-    match number_in(text) {
+    match parse_number(text) {
         Some(number) if number <= TIME_MAX => Ok(number),
         _ => Err(RowWhy::Time),
     }
@@ -20,9 +20,9 @@ pub fn value_in(text: &[u8]) -> Result<i64, RowWhy>
     ensures { result ≡ value_in text.now }
 {
     match text.split_first() {
-        Some((b'-', digits)) => below_zero(number_in(digits)),
-        Some((b'+', digits)) => from_zero(number_in(digits)),
-        _ => from_zero(number_in(text)),
+        Some((b'-', digits)) => below_zero(parse_number(digits)),
+        Some((b'+', digits)) => from_zero(parse_number(digits)),
+        _ => from_zero(parse_number(text)),
     }
 }
 
@@ -45,8 +45,8 @@ fn below_zero(number: Option<u64>) -> Result<i64, RowWhy>
 }
 
 // The number that 1 to 19 digits spell.
-fn number_in(text: &[u8]) -> Option<u64>
-    ensures { result ≡ number_in text.now }
+fn parse_number(text: &[u8]) -> Option<u64>
+    ensures { result ≡ parse_number text.now }
 {
     if text.is_empty() || text.len() > 19 {
         return None;

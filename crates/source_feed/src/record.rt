@@ -1,81 +1,95 @@
-ghost use Rattle.std.specs.Prelude.{◌≡◌, ◌≤◌, false, IfOk};
+ghost use Rattle.std.specs.Prelude.{◌≡◌, true, IfOk};
 ghost use Rattle.csv.specs.Records.{fields_of};
-ghost use Rattle.source_feed.specs.Told.{is_end, time_of};
-ghost use Rattle.source_feed.specs.Record.{field, is_header, key_in, mark_of, tuple_of, water_of, what_of};
+ghost use Rattle.stream_base.specs.Key.{is_key};
+ghost use Rattle.source_feed.specs.EventsLeft.{IsInnerEvent};
+ghost use Rattle.source_feed.specs.Record.{field, idle_of, is_header, key_in, mark_of, tuple_of, water_of, what_of};
 
 use crate::numbers::{time_in, value_in};
 use crate::row_why::RowWhy;
 use csv::ByteRecord;
-use stream_base::{KeyText, TIME_MAX, What};
+use stream_base::{KeyText, What};
 
 // Whether a record names the fields of the records after it.
-pub fn is_header(row: &ByteRecord) -> bool
-    ensures { result ≡ is_header (fields_of row.now) }
+pub fn is_header(fields: &ByteRecord) -> bool
+    ensures { result ≡ is_header (fields_of fields.now) }
 {
-    row.len() == 4
-        && field(row, 0) == b"kind".as_slice()
-        && field(row, 1) == b"time".as_slice()
-        && field(row, 2) == b"value".as_slice()
-        && field(row, 3) == b"key".as_slice()
+    fields.len() == 4
+        && field(fields, 0) == b"kind".as_slice()
+        && field(fields, 1) == b"time".as_slice()
+        && field(fields, 2) == b"value".as_slice()
+        && field(fields, 3) == b"key".as_slice()
 }
 
-// What a record says, or its first fault.
-pub fn what_of(row: &ByteRecord) -> Result<What, RowWhy>
-    ensures value { result ≡ what_of (fields_of row.now) }
-    ensures within { IfOk result (λ what. time_of what ≤ TIME_MAX) }
-    ensures inner { IfOk result (λ what. is_end what ≡ false) }
+// The event of a record, or its first fault.
+pub fn what_of(fields: &ByteRecord) -> Result<What, RowWhy>
+    ensures value { result ≡ what_of (fields_of fields.now) }
+    ensures event { IfOk result IsInnerEvent }
 {
-    match field(row, 0) {
-        b"t" => tuple_of(row),
-        b"m" => mark_of(row),
-        b"w" => water_of(row),
+    match field(fields, 0) {
+        b"t" => tuple_of(fields),
+        b"m" => mark_of(fields),
+        b"w" => water_of(fields),
+        b"i" => idle_of(fields),
         _ => Err(RowWhy::Kind),
     }
 }
 
-fn tuple_of(row: &ByteRecord) -> Result<What, RowWhy>
-    ensures value { result ≡ tuple_of (fields_of row.now) }
-    ensures within { IfOk result (λ what. time_of what ≤ TIME_MAX) }
-    ensures inner { IfOk result (λ what. is_end what ≡ false) }
+fn tuple_of(fields: &ByteRecord) -> Result<What, RowWhy>
+    ensures value { result ≡ tuple_of (fields_of fields.now) }
+    ensures event { IfOk result IsInnerEvent }
 {
-    if row.len() != 4 {
+    if fields.len() != 4 {
         return Err(RowWhy::Fields);
     }
-    let time = time_in(field(row, 1))?;
-    let value = value_in(field(row, 2))?;
-    let key = key_in(field(row, 3))?;
+    let time = time_in(field(fields, 1))?;
+    let value = value_in(field(fields, 2))?;
+    let key = key_in(field(fields, 3))?;
     Ok(What::Tuple { key, time, value })
 }
 
-fn mark_of(row: &ByteRecord) -> Result<What, RowWhy>
-    ensures value { result ≡ mark_of (fields_of row.now) }
-    ensures within { IfOk result (λ what. time_of what ≤ TIME_MAX) }
-    ensures inner { IfOk result (λ what. is_end what ≡ false) }
+fn mark_of(fields: &ByteRecord) -> Result<What, RowWhy>
+    ensures value { result ≡ mark_of (fields_of fields.now) }
+    ensures event { IfOk result IsInnerEvent }
 {
-    if row.len() != 4 || !field(row, 2).is_empty() {
+    if fields.len() != 4 || !field(fields, 2).is_empty() {
         return Err(RowWhy::Fields);
     }
-    let time = time_in(field(row, 1))?;
-    let key = key_in(field(row, 3))?;
+    let time = time_in(field(fields, 1))?;
+    let key = key_in(field(fields, 3))?;
     Ok(What::Mark { key, time })
 }
 
-fn water_of(row: &ByteRecord) -> Result<What, RowWhy>
-    ensures value { result ≡ water_of (fields_of row.now) }
-    ensures within { IfOk result (λ what. time_of what ≤ TIME_MAX) }
-    ensures inner { IfOk result (λ what. is_end what ≡ false) }
+fn water_of(fields: &ByteRecord) -> Result<What, RowWhy>
+    ensures value { result ≡ water_of (fields_of fields.now) }
+    ensures event { IfOk result IsInnerEvent }
 {
-    let is_short = row.len() == 2;
-    let is_padded = row.len() == 4 && field(row, 2).is_empty() && field(row, 3).is_empty();
+    let is_short = fields.len() == 2;
+    let is_padded = fields.len() == 4 && field(fields, 2).is_empty() && field(fields, 3).is_empty();
     if !is_short && !is_padded {
         return Err(RowWhy::Fields);
     }
-    let time = time_in(field(row, 1))?;
+    let time = time_in(field(fields, 1))?;
     Ok(What::Water { time })
 }
 
+fn idle_of(fields: &ByteRecord) -> Result<What, RowWhy>
+    ensures value { result ≡ idle_of (fields_of fields.now) }
+    ensures event { IfOk result IsInnerEvent }
+{
+    let is_short = fields.len() == 1;
+    let is_padded = fields.len() == 4
+        && field(fields, 1).is_empty()
+        && field(fields, 2).is_empty()
+        && field(fields, 3).is_empty();
+    if !is_short && !is_padded {
+        return Err(RowWhy::Fields);
+    }
+    Ok(What::Idle)
+}
+
 fn key_in(text: &[u8]) -> Result<KeyText, RowWhy>
-    ensures { result ≡ key_in text.now }
+    ensures value { result ≡ key_in text.now }
+    ensures valid { IfOk result (λ key. is_key key ≡ true) }
 {
     match KeyText::from_bytes(text) {
         Ok(key) => Ok(key),
@@ -84,8 +98,8 @@ fn key_in(text: &[u8]) -> Result<KeyText, RowWhy>
 }
 
 // A field of a record by its place; where there is none, no bytes.
-fn field(row: &ByteRecord, place: usize) -> &[u8]
-    ensures { result.now ≡ field (fields_of row.now) place }
+fn field(fields: &ByteRecord, place: usize) -> &[u8]
+    ensures { result.now ≡ field (fields_of fields.now) place }
 {
-    row.get(place).unwrap_or(b"")
+    fields.get(place).unwrap_or(b"")
 }

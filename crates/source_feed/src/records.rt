@@ -20,10 +20,13 @@ pub fn reader_of(alloc: Global, bytes: Vec<u8>) -> Reader<Cursor<Vec<u8>>>
         .from_reader(alloc, Cursor::new(bytes))
 }
 
-// Puts the next record into `row`, and answers whether there was one.
-pub fn next_record<R: Read>(reader: &mut Reader<R>, row: &mut ByteRecord) -> Result<bool, NoMemory>
+// Puts the next record into `fields`, and answers whether there was one.
+pub fn next_record<R: Read>(
+    reader: &mut Reader<R>,
+    fields: &mut ByteRecord,
+) -> Result<bool, NoMemory>
     requires { IsReadable R.remaining reader.old }
-    ensures { IfOk result (λ found. TookRecord R.remaining reader.old reader.new (fields_of row.new) found) }
+    ensures { IfOk result (TookRecord R.remaining reader.old reader.new (fields_of fields.new)) }
 {
-    reader.read_byte_record(row).map_err(|_| NoMemory)
+    reader.read_byte_record(fields).map_err(|_| NoMemory)
 }

@@ -1,12 +1,14 @@
-ghost use Rattle.std.specs.Prelude.{◌≡◌, ◌↔◌, ℕ, Some, None, Ok, true, false, option_map, IfOk, IfErr, IfSome, OnOk};
-ghost use Rattle.source_feed.specs.Coming.{Coming, ShowsRefused};
-ghost use Rattle.source_feed.specs.Rows.{rows_of};
-ghost use Rattle.source_feed.specs.Told.{IsOf, IsWhole, is_end, with_first};
+ghost use Rattle.std.specs.Prelude.{◌≡◌, Some, None, true, false, IfOk, IfNone, IsSome};
+ghost use Rattle.source_feed.specs.Events.{stream_of};
+ghost use Rattle.source_feed.specs.FeedFault.{row_refusal_of};
+ghost use Rattle.source_feed.specs.FeedState.{FeedState};
+ghost use Rattle.source_feed.specs.Gives.{Gives};
 
+use crate::event::next_event;
 use crate::pace::Pace;
 use crate::records::reader_of;
 use crate::row_fault::RowFault;
-use crate::said::next_said;
+use crate::waiting::Waiting;
 use csv::{ByteRecord, Reader};
 use std::alloc::Global;
 use std::io::Cursor;
@@ -26,20 +28,21 @@ pub enum Stage {
 #[derive(Drop)]
 pub struct Rows {
     reader: Reader<Cursor<Vec<u8>>>,
-    row: ByteRecord,
+    fields: ByteRecord,
     number: u64,
     pace: Pace,
-    made: Option<u64>,
+    waiting: Waiting,
     stage: Stage,
 }
 
 impl Model for Rows {
-    ghost use Rattle.source_feed.specs.Coming.{Coming};
-    ghost use Rattle.source_feed.specs.RowsLeft.{coming_of, IsRunning};
+    ghost use Rattle.source_feed.specs.FeedState.{FeedState};
+    ghost use Rattle.source_feed.specs.RowsView.{rows_state, IsRunning};
+    ghost use Rattle.source_feed.specs.declared.row_fault.RowFault.{RowFault};
 
-    ghost Value = { Coming };
+    ghost Value = { FeedState RowFault };
 
-    ghost view = { coming_of };
+    ghost view = { rows_state };
 
     ghost invariant = { IsRunning };
 }
@@ -47,7 +50,8 @@ impl Model for Rows {
 impl Rows {
     /// The entries of the source with this number and these bytes. After each tuple whose number,
     /// from 1, is a multiple of `every` stands a watermark, which is `disorder` behind the greatest
-    /// time of the source's tuples; with 0 none is made.
+    /// time of the source's tuples; with 0 none is made. A source that said that it is idle wakes with
+    /// its next tuple or mark: in front of that stands its greatest watermark again.
     pub fn new(
         alloc: Global,
         bytes: Vec<u8>,
@@ -55,21 +59,20 @@ impl Rows {
         every: u64,
         disorder: u64,
     ) -> Result<Rows, NoMemory>
-        ensures { IfOk result (λ rows. rows ≡ record { source = source; told = Some (rows_of source every disorder bytes.items); ended = false; answered = None }) }
+        ensures { IfOk result (λ rows. rows ≡ record {
+          source = source;
+          ended = false;
+          answered = None;
+          rest = Some (stream_of source every disorder bytes.items);
+        }) }
     {
-        let row = ByteRecord::with_capacity(alloc, 128, 4)?;
+        let fields = ByteRecord::with_capacity(alloc, 128, 4)?;
         Ok(Rows {
             reader: reader_of(alloc, bytes),
-            row,
+            fields,
             number: 0,
-            pace: Pace {
-                source,
-                every,
-                disorder,
-                tuples: 0,
-                greatest: 0,
-            },
-            made: None,
+            pace: Pace::start(source, every, disorder),
+            waiting: Waiting::nothing(),
             stage: Stage::Open,
         })
     }
@@ -79,31 +82,26 @@ impl Rows {
     /// `Refused` is answered where the next record is refused, with its number and its first fault,
     /// and `NoMemory` where an allocation was refused. After a fault each later call answers it.
     pub fn next(&mut self) -> Result<Option<Entry>, RowFault>
-        ensures source { self.new.source ≡ self.old.source }
-        ensures given { IfOk result (λ next. IfSome next (λ entry. self.old.told ≡ option_map (with_first entry) self.new.told)) }
-        ensures entry { IfOk result (λ next. IfSome next (IsOf self.old.source)) }
-        ensures ended { (result ≡ Ok None) ↔ (self.old.ended ≡ true) }
-        ensures nothing { result ≡ Ok None → self.new ≡ self.old }
-        ensures end { IfOk result (λ next. IfSome next (λ entry. self.new.ended ≡ is_end entry.what)) }
-        ensures whole { IfSome self.old.told (IsWhole self.old.source self.old.ended) }
-        ensures whole_after { IfSome self.new.told (IsWhole self.new.source self.new.ended) }
-        ensures refused { IfErr result (λ fault. ShowsRefused fault self.old.told self.new.told) }
-        ensures fault { IfErr result (λ fault. (self.new.answered ≡ Some fault) × (self.new.ended ≡ self.old.ended)) }
-        ensures again { IfSome self.old.answered (λ fault. (result ≡ Err fault) × (self.new ≡ self.old)) }
-        ensures unanswered { OnOk result (self.new.answered ≡ None) }
+        ensures gives { Gives row_refusal_of self.old result self.new }
+
+        // What is left stays told until memory runs out. Behind the end or a fault nothing changes.
+        ensures told { IfNone self.old.rest (self.old.answered ≡ Some RowFault.NoMemory) }
+        ensures ended { self.old.ended ≡ true → self.new ≡ self.old }
+        ensures stopped { IsSome self.old.answered → self.new ≡ self.old }
     {
-        if let Some(time) = self.made.take() {
-            return Ok(Some(self.pace.entry(What::Water { time })));
+        if let Some(what) = self.waiting.next() {
+            return Ok(Some(self.pace.entry(what)));
         }
         match self.stage {
             Stage::Ended => return Ok(None),
             Stage::Stopped(fault) => return Err(fault),
             Stage::Open => {}
         }
-        match next_said(&mut self.reader, &mut self.row, &mut self.number) {
+        match next_event(&mut self.reader, &mut self.fields, &mut self.number) {
             Ok(Some(what)) => {
-                self.made = self.pace.take_in(&what);
-                Ok(Some(self.pace.entry(what)))
+                let (first, waiting) = self.pace.take_in(what);
+                self.waiting = waiting;
+                Ok(Some(self.pace.entry(first)))
             }
             Ok(None) => {
                 self.stage = Stage::Ended;

@@ -1,5 +1,6 @@
-ghost use Rattle.std.specs.Prelude.{◌≡◌, ◌≢◌, ◌≤◌, ◌+◌, ◌<◌, ℕ, List, [], length, IfOk, IfErr, OnOk, IfSome, IsErrOf, take};
+ghost use Rattle.std.specs.Prelude.{◌≡◌, ◌≢◌, ◌≤◌, [], length, IfOk, IfErr, IfSome, IsErrOf, OnOk};
 ghost use Rattle.stream_base.specs.Outside.{Rose, with_front};
+ghost use Rattle.source_feed.specs.Whole.{PassesLimit};
 
 use crate::whole_fault::WholeFault;
 use std::alloc::Global;
@@ -22,13 +23,17 @@ pub fn read_whole<S: Source>(
     limit: u64,
 ) -> Result<Vec<u8>, WholeFault>
     requires { limit ≤ SOURCE_MAX }
-    ensures whole { IfOk result (λ bytes. S.rest source.old ≡ with_front bytes.items (S.rest source.new)) }
+    ensures whole { IfOk result (λ bytes.
+        S.rest source.old ≡ with_front bytes.items (S.rest source.new)) }
     ensures ends { OnOk result (IfSome (S.rest source.new) (λ left. left ≡ [])) }
     ensures within { IfOk result (λ bytes. length bytes.items ≤ limit) }
-    ensures too_long { IsErrOf result WholeFault.TooLong → (taken : List ℕ) × (length taken ≡ limit + 1) × (S.rest source.old ≡ with_front taken (S.rest source.new)) }
-    ensures read { IsErrOf result WholeFault.Read → Rose (S.faults source.old) (S.faults source.new) }
+    ensures too_long { IsErrOf result WholeFault.TooLong
+        → PassesLimit limit (S.rest source.old) (S.rest source.new) }
+    ensures read { IsErrOf result WholeFault.Read
+        → Rose (S.faults source.old) (S.faults source.new) }
     ensures quiet { OnOk result (S.faults source.new ≡ S.faults source.old) }
-    ensures quiet_fault { IfErr result (λ fault. fault ≢ WholeFault.Read → S.faults source.new ≡ S.faults source.old) }
+    ensures quiet_fault { IfErr result (λ fault.
+        fault ≢ WholeFault.Read → S.faults source.new ≡ S.faults source.old) }
     ensures never_falls { S.faults source.old ≤ S.faults source.new }
 {
     let mut bytes = Vec::new(alloc);
@@ -36,23 +41,11 @@ pub fn read_whole<S: Source>(
     let limit = limit as usize;
     'pieces: while bytes.len() <= limit {
         let room = PIECE.min(limit + 1 - bytes.len());
-        let given = read_piece(source, &mut piece[..room])?;
+        let given = source.read(&mut piece[..room])?;
         if given == 0 {
             return Ok(bytes);
         }
         bytes.extend_from_slice(&piece[..given])?;
     }
     Err(WholeFault::TooLong)
-}
-
-// The next piece of the source, at the front of the buffer.
-fn read_piece<S: Source>(source: &mut S, buffer: &mut [u8]) -> Result<usize, WholeFault>
-    ensures within { IfOk result (λ n. n ≤ length buffer.old) }
-    ensures given { IfOk result (λ n. S.rest source.old ≡ with_front (take n buffer.new) (S.rest source.new)) }
-    ensures ends { IfOk result (λ n. n ≡ 0 → 0 < length buffer.old → IfSome (S.rest source.old) (λ bytes. bytes ≡ [])) }
-    ensures quiet { OnOk result (S.faults source.new ≡ S.faults source.old) }
-    ensures failed { IfErr result (λ fault. (fault ≡ WholeFault.Read) × Rose (S.faults source.old) (S.faults source.new)) }
-    ensures never_falls { S.faults source.old ≤ S.faults source.new }
-{
-    source.read(buffer).map_err(|_| WholeFault::Read)
 }

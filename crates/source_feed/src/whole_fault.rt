@@ -1,9 +1,10 @@
 ghost use Rattle.std.specs.Prelude.{◌≡◌};
-ghost use Rattle.source_feed.specs.declared.whole_fault.WholeFault.TheVariants.{NoMemory as MemoryFault};
+ghost use Rattle.source_feed.specs.declared.whole_fault.WholeFault.TheVariants.{NoMemory as MemoryFault, Read as ReadFault};
 
 use std::alloc::AllocError;
 use std::error::Error;
 use std::fmt;
+use stream_base::Failed;
 
 /// Why a source wasn't read whole.
 #[derive(Clone, Copy, Debug, PartialEq, Eq)]
@@ -14,6 +15,14 @@ pub enum WholeFault {
     TooLong,
     /// An allocation was refused.
     NoMemory,
+}
+
+impl From<Failed> for WholeFault {
+    ghost from_gives = { λ _ fault. fault ≡ ReadFault };
+
+    fn from(_error: Failed) -> WholeFault {
+        WholeFault::Read
+    }
 }
 
 impl From<AllocError> for WholeFault {

@@ -6,12 +6,12 @@ use Rattle.std.specs.List.{list_any}
 use Rattle.std.proofs.lemmas.Bool.{false≢true, or_cases}
 use Rattle.std.proofs.lemmas.Slice.Eq.{bytes_eq-Decides}
 use Rattle.stream_base.specs.declared.what.What.{What}
-use Rattle.stream_base.specs.declared.what.What.TheVariants.{Tuple, Mark, Water, End}
+use Rattle.stream_base.specs.declared.what.What.TheVariants.{Tuple, Mark, Water, Idle, End}
 use Rattle.stream_base.specs.declared.def.Def.{Def}
 use Rattle.stream_base.specs.declared.change.Change.{Change}
 use Rattle.stream_base.specs.declared.change.Change.TheVariants.{Gone, New, Again, Dropped}
 use Rattle.stream_base.specs.Model.Changes.{Moment, standing_at}
-use Rattle.stream_base.specs.Laws.{IsChangeOf, IsRetracted}
+use Rattle.stream_base.specs.Laws.{IsChangeOf}
 use Rattle.std.specs.BTreeSet.{insert_key}
 use Rattle.std.specs.Cmp.Lexicographic.{slice_cmp}
 use Rattle.std.specs.Prelude.{◌⊎◌}
@@ -24,7 +24,8 @@ use Rattle.stream_base.specs.declared.entry.Entry.{Entry}
 use Rattle.stream_base.specs.declared.kept.Kept.{Kept}
 use Rattle.stream_base.specs.declared.kind.Kind.{Kind}
 use Rattle.stream_base.specs.declared.kind.Kind.TheVariants.{Tumbling, Sliding, Session, Marks, Events}
-use Rattle.stream_base.specs.Model.Journal.{key_in, keys_of, kept_of, rising, tuple_in}
+use Rattle.stream_base.specs.Model.Journal.{keys_of, kept_of, rising}
+use Rattle.stream_base.specs.Model.What.{key_in, tuple_in}
 use Rattle.stream_base.specs.Model.Windows.{Instance, is_selecting, between_times, instances_of, standing_of, is_complete, ranks}
 use Rattle.stream_base.proofs.Rising.{none_in_nil, Contains-at_head, Contains-tail, Contains-insert_key, Contains-insert_key_self}
 use Rattle.stream_base.proofs.Growing.{keys_of_push, kept_of_nil, kept_of_other}
@@ -42,6 +43,7 @@ tuple_is_keyed key position (Tuple k time value) x h = by (bytes_eq k key) refl 
     by false e g = cc
 tuple_is_keyed key position (Mark k time) x h = cc
 tuple_is_keyed key position (Water time) x h = cc
+tuple_is_keyed key position Idle x h = cc
 tuple_is_keyed key position End x h = cc
 
 -- the keys of a longer journal: those before, and the entry's own
@@ -98,12 +100,12 @@ is_key_or_not key keys = by (list_any (bytes_eq key) keys) refl
     by true e = inl (key_found key keys e)
     by false e = inr (λ c. false≢true (sym e ∙ any_from_member (bytes_eq key) keys key c ((bytes_eq-Decides key key).1 refl)))
 
-stands_of_none : (def : Def) (m : Moment) (i : Instance) → m.kept ≡ [] → Contains (standing_at def m) i → ⊥
+pub stands_of_none : (def : Def) (m : Moment) (i : Instance) → m.kept ≡ [] → Contains (standing_at def m) i → ⊥
 stands_of_none def m i e c = none_in_nil i (subst (λ l. Contains l i) (ap (λ kept. standing_of def.kind kept m.marks m.water) e ∙ nothing_stands def.kind m.marks m.water) c)
 
 -- nothing kept before and after, no change
 pub no_change_of_none : (windows : List Def) (key : List ℕ) (old new : Moment) (c : Change) → old.kept ≡ [] → new.kept ≡ [] → ¬ IsChangeOf windows key old new c
-no_change_of_none windows key old new (Gone window of low high) e f h = let r : IsRetracted windows old new window low high = h.1 in stands_of_none r.def old (r.stood).0 e (r.stood).1
+no_change_of_none windows key old new (Gone row) e f h = stands_of_none h.def old h.before e h.stood
 no_change_of_none windows key old new (New row) e f h = stands_of_none h.def new h.now f h.stands
-no_change_of_none windows key old new (Again row) e f h = stands_of_none h.def new h.now f h.stands
+no_change_of_none windows key old new (Again row former) e f h = stands_of_none h.def new h.now f h.stands
 no_change_of_none windows key old new Dropped e f h = h

@@ -12,7 +12,7 @@ use Rattle.stream_base.specs.declared.func.Func.{Func}
 use Rattle.stream_base.specs.declared.kept.Kept.{Kept}
 use Rattle.stream_base.specs.Limits.{IsKindWithin}
 use Rattle.stream_base.specs.Model.Windows.{Instance, instances_of, is_complete}
-use Rattle.stream_base.specs.Model.Changes.{row_of, is_same, are_same_tuples, retraction, emitted, emission, Moment, standing_at, retractions, emissions, changes_between}
+use Rattle.stream_base.specs.Model.Changes.{row_of, former_of, is_same, are_same_tuples, retraction, emitted, emission, Moment, standing_at, retractions, emissions, changes_between}
 use Rattle.stream_base.specs.Laws.{by_start, RiseByStart, becomes_complete, completions}
 use Rattle.stream_base.proofs.Rising.{none_in_nil, Contains-head, Contains-at_head, Contains-tail, Contains-cons_cases}
 use Rattle.stream_base.proofs.Members.{filter_members, filter_has}
@@ -66,27 +66,27 @@ same_tuples_itself [] = refl
 same_tuples_itself (x ∷ xs) = and_from (eqb x.position x.position) (are_same_tuples xs xs) (eq-eqb x.position x.position refl) (same_tuples_itself xs)
 
 -- one that stands still isn't retracted
-pub not_retracted : (window : ℕ) (key : List ℕ) (now : List Instance) (i : Instance) → Contains now i → retraction window key now i ≡ None
-not_retracted window key now i c = ap (λ b. cond b None (Some (Gone window key i.low i.high))) (any_from_member (is_same i) now i c (is_same_itself i))
+pub not_retracted : (window : ℕ) (key : List ℕ) (func : Func) (now : List Instance) (i : Instance) → Contains now i → retraction window key func now i ≡ None
+not_retracted window key func now i c = ap (λ b. cond b None (Some (Gone (row_of window key func i)))) (any_from_member (is_same i) now i c (is_same_itself i))
 
 -- one that stood with the same tuples isn't emitted
 pub not_emitted : (window : ℕ) (key : List ℕ) (func : Func) (before : List Instance) (i : Instance) → RiseByStart before → Contains before i → emission window key func before i ≡ None
 not_emitted window key func before i s c =
     ap (emitted window key func i) (find_same before i s c)
-    ∙ ap (λ b. cond b None (Some (Again (row_of window key func i)))) (same_tuples_itself i.chosen)
+    ∙ ap (λ b. cond b None (Some (Again (row_of window key func i) (former_of func i)))) (same_tuples_itself i.chosen)
 
 -- ---- one window
 -- where the same instances stand, nothing changes
-pub none_retracted : (window : ℕ) (key : List ℕ) (now before : List Instance) → before ≡ now → filter_map (retraction window key now) before ≡ []
-none_retracted window key now before e = filter_map_none (retraction window key now) before (λ i c. not_retracted window key now i (subst (λ l. Contains l i) e c))
+pub none_retracted : (window : ℕ) (key : List ℕ) (func : Func) (now before : List Instance) → before ≡ now → filter_map (retraction window key func now) before ≡ []
+none_retracted window key func now before e = filter_map_none (retraction window key func now) before (λ i c. not_retracted window key func now i (subst (λ l. Contains l i) e c))
 
 pub none_emitted : (window : ℕ) (key : List ℕ) (func : Func) (before now : List Instance) → RiseByStart before → before ≡ now → filter_map (emission window key func before) now ≡ []
 none_emitted window key func before now s e = filter_map_none (emission window key func before) now (λ i c. not_emitted window key func before i s (subst (λ l. Contains l i) (sym e) c))
 
 -- where the watermark alone moves, nothing is retracted
-pub none_retracted_at_water : (window : ℕ) (key : List ℕ) (is : List Instance) (old new : ℕ) → old ≤ new → filter_map (retraction window key (filter (is_complete new) is)) (filter (is_complete old) is) ≡ []
-none_retracted_at_water window key is old new le =
-    filter_map_none (retraction window key (filter (is_complete new) is)) (filter (is_complete old) is) (λ i c. not_retracted window key (filter (is_complete new) is) i (still i c))
+pub none_retracted_at_water : (window : ℕ) (key : List ℕ) (func : Func) (is : List Instance) (old new : ℕ) → old ≤ new → filter_map (retraction window key func (filter (is_complete new) is)) (filter (is_complete old) is) ≡ []
+none_retracted_at_water window key func is old new le =
+    filter_map_none (retraction window key func (filter (is_complete new) is)) (filter (is_complete old) is) (λ i c. not_retracted window key func (filter (is_complete new) is) i (still i c))
   where
     still : (i : Instance) → Contains (filter (is_complete old) is) i → Contains (filter (is_complete new) is) i
     still i c =
@@ -154,7 +154,7 @@ standing_at_rises windows m within in_order def c = standing_rises def.kind m.ke
 pub no_changes : (windows : List Def) (key : List ℕ) (old new : Moment) → ((def : Def) → Contains windows def → RiseByStart (standing_at def old)) → ((def : Def) → Contains windows def → standing_at def old ≡ standing_at def new) → changes_between windows key old new ≡ []
 unfolding changes_between
 no_changes windows key old new rise same =
-    let gone : flat_map (retractions key old new) (enumerate_from 0 windows) ≡ [] = flat_map_none (retractions key old new) (enumerate_from 0 windows) (λ w c. none_retracted w.0 key (standing_at w.1 new) (standing_at w.1 old) (same w.1 (enumerate_members 0 windows w c))) in
+    let gone : flat_map (retractions key old new) (enumerate_from 0 windows) ≡ [] = flat_map_none (retractions key old new) (enumerate_from 0 windows) (λ w c. none_retracted w.0 key (w.1).func (standing_at w.1 new) (standing_at w.1 old) (same w.1 (enumerate_members 0 windows w c))) in
     let come : flat_map (emissions key old new) (enumerate_from 0 windows) ≡ [] = flat_map_none (emissions key old new) (enumerate_from 0 windows) (λ w c. none_emitted w.0 key (w.1).func (standing_at w.1 old) (standing_at w.1 new) (rise w.1 (enumerate_members 0 windows w c)) (same w.1 (enumerate_members 0 windows w c))) in
     λ i. gone i ++ come i
 
@@ -167,7 +167,7 @@ pub changes_at_water : (windows : List Def) (key : List ℕ) (kept : List Kept) 
     → changes_between windows key (record { kept = kept; marks = marks; water = old }) (record { kept = kept; marks = marks; water = new }) ≡ flat_map (completions key (record { kept = kept; marks = marks; water = old }) new) (enumerate_from 0 windows)
 unfolding changes_between
 changes_at_water windows key kept marks old new within in_order le =
-    let gone : flat_map (retractions key (at old) (at new)) (enumerate_from 0 windows) ≡ [] = flat_map_none (retractions key (at old) (at new)) (enumerate_from 0 windows) (λ w c. none_retracted_at_water w.0 key (instances_of (w.1).kind kept marks) old new le) in
+    let gone : flat_map (retractions key (at old) (at new)) (enumerate_from 0 windows) ≡ [] = flat_map_none (retractions key (at old) (at new)) (enumerate_from 0 windows) (λ w c. none_retracted_at_water w.0 key (w.1).func (instances_of (w.1).kind kept marks) old new le) in
     let come : flat_map (emissions key (at old) (at new)) (enumerate_from 0 windows) ≡ flat_map (completions key (at old) new) (enumerate_from 0 windows) = flat_map_same (emissions key (at old) (at new)) (completions key (at old) new) (enumerate_from 0 windows) (λ w c. emitted_at_water w.0 key (w.1).func (instances_of (w.1).kind kept marks) old new (rise w (enumerate_members 0 windows w c)) le) in
     λ i. gone i ++ come i
   where

@@ -10,8 +10,8 @@ use Rattle.stream_base.specs.declared.def.Def.{Def}
 use Rattle.stream_base.specs.declared.func.Func.{Func}
 use Rattle.stream_base.specs.declared.kept.Kept.{Kept}
 use Rattle.stream_base.specs.Model.Windows.{Instance}
-use Rattle.stream_base.specs.Model.Changes.{row_of, is_same, are_same_tuples, retraction, emitted, emission, Moment, standing_at, retractions, emissions, changes_between}
-use Rattle.stream_base.specs.Laws.{RiseByStart, HasInstance, positions_of, IsRetracted, IsChangeOf}
+use Rattle.stream_base.specs.Model.Changes.{former_of, row_of, is_same, are_same_tuples, retraction, emitted, emission, Moment, standing_at, retractions, emissions, changes_between}
+use Rattle.stream_base.specs.Laws.{RiseByStart, HasInstance, positions_of, IsChangeOf}
 use Rattle.stream_base.proofs.Rising.{none_in_nil, Contains-head, Contains-at_head, Contains-tail, Contains-cons_cases}
 use Rattle.stream_base.proofs.Members.{flat_map_members, flat_map_has}
 use Rattle.stream_base.proofs.Distinct.{find_same}
@@ -137,40 +137,40 @@ positions_same_tuples (x ∷ xs) (y ∷ ys) h =
     and_from (eqb x.position y.position) (are_same_tuples xs ys) (eq-eqb x.position y.position first) (positions_same_tuples xs ys rest)
 
 -- ---- one window
-pub retraction_says : (window : ℕ) (key : List ℕ) (now : List Instance) (i : Instance) (c : Change) → retraction window key now i ≡ Some c → (c ≡ Gone window key i.low i.high) × (¬ HasInstance now i.low i.high)
-retraction_says window key now i c e = by (list_any (is_same i) now) refl e
+pub retraction_says : (window : ℕ) (key : List ℕ) (func : Func) (now : List Instance) (i : Instance) (c : Change) → retraction window key func now i ≡ Some c → (c ≡ Gone (row_of window key func i)) × (¬ HasInstance now i.low i.high)
+retraction_says window key func now i c e = by (list_any (is_same i) now) refl e
   where
-    by : (b : Bool) → list_any (is_same i) now ≡ b → cond b None (Some (Gone window key i.low i.high)) ≡ Some c → (c ≡ Gone window key i.low i.high) × (¬ HasInstance now i.low i.high)
+    by : (b : Bool) → list_any (is_same i) now ≡ b → cond b None (Some (Gone (row_of window key func i))) ≡ Some c → (c ≡ Gone (row_of window key func i)) × (¬ HasInstance now i.low i.high)
     by true a f = cc
-    by false a f = let same : Gone window key i.low i.high ≡ c = cc in (sym same, λ h. false≢true (sym a ∙ any_from_has now i h))
+    by false a f = let same : Gone (row_of window key func i) ≡ c = cc in (sym same, λ h. false≢true (sym a ∙ any_from_has now i h))
 
-retraction_given : (window : ℕ) (key : List ℕ) (now : List Instance) (i : Instance) → (¬ HasInstance now i.low i.high) → retraction window key now i ≡ Some (Gone window key i.low i.high)
-retraction_given window key now i h = ap (λ b. cond b None (Some (Gone window key i.low i.high))) (false_from_ne_true (list_any (is_same i) now) (λ e. h (has_from_any now i e)))
+retraction_given : (window : ℕ) (key : List ℕ) (func : Func) (now : List Instance) (i : Instance) → (¬ HasInstance now i.low i.high) → retraction window key func now i ≡ Some (Gone (row_of window key func i))
+retraction_given window key func now i h = ap (λ b. cond b None (Some (Gone (row_of window key func i)))) (false_from_ne_true (list_any (is_same i) now) (λ e. h (has_from_any now i e)))
 
 -- an emission is new or an update
 pub emission_cases : (window : ℕ) (key : List ℕ) (func : Func) (before : List Instance) (i : Instance) (c : Change) → emission window key func before i ≡ Some c
-    → ((c ≡ New (row_of window key func i)) × (¬ HasInstance before i.low i.high)) ⊎ ((old : Instance) × Contains before old × (old.low ≡ i.low) × (old.high ≡ i.high) × (positions_of old ≢ positions_of i) × (c ≡ Again (row_of window key func i)))
+    → ((c ≡ New (row_of window key func i)) × (¬ HasInstance before i.low i.high)) ⊎ ((old : Instance) × Contains before old × (old.low ≡ i.low) × (old.high ≡ i.high) × (positions_of old ≢ positions_of i) × (c ≡ Again (row_of window key func i) (former_of func old)))
 emission_cases window key func before i c e = by (find (is_same i) before) refl e
   where
-    by : (o : Option Instance) → find (is_same i) before ≡ o → emitted window key func i o ≡ Some c → ((c ≡ New (row_of window key func i)) × (¬ HasInstance before i.low i.high)) ⊎ ((old : Instance) × Contains before old × (old.low ≡ i.low) × (old.high ≡ i.high) × (positions_of old ≢ positions_of i) × (c ≡ Again (row_of window key func i)))
+    by : (o : Option Instance) → find (is_same i) before ≡ o → emitted window key func i o ≡ Some c → ((c ≡ New (row_of window key func i)) × (¬ HasInstance before i.low i.high)) ⊎ ((old : Instance) × Contains before old × (old.low ≡ i.low) × (old.high ≡ i.high) × (positions_of old ≢ positions_of i) × (c ≡ Again (row_of window key func i) (former_of func old)))
     by None f g = let same : New (row_of window key func i) ≡ c = cc in inl (sym same, none_from_find before i f)
     by (Some old) f g = again (are_same_tuples old.chosen i.chosen) refl g
       where
-        again : (b : Bool) → are_same_tuples old.chosen i.chosen ≡ b → cond b None (Some (Again (row_of window key func i))) ≡ Some c → ((c ≡ New (row_of window key func i)) × (¬ HasInstance before i.low i.high)) ⊎ ((old : Instance) × Contains before old × (old.low ≡ i.low) × (old.high ≡ i.high) × (positions_of old ≢ positions_of i) × (c ≡ Again (row_of window key func i)))
+        again : (b : Bool) → are_same_tuples old.chosen i.chosen ≡ b → cond b None (Some (Again (row_of window key func i) (former_of func old))) ≡ Some c → ((c ≡ New (row_of window key func i)) × (¬ HasInstance before i.low i.high)) ⊎ ((old : Instance) × Contains before old × (old.low ≡ i.low) × (old.high ≡ i.high) × (positions_of old ≢ positions_of i) × (c ≡ Again (row_of window key func i) (former_of func old)))
         again true s k = cc
         again false s k =
-            let same : Again (row_of window key func i) ≡ c = cc in
+            let same : Again (row_of window key func i) (former_of func old) ≡ c = cc in
             let m : Contains before old × (old.low ≡ i.low) × (old.high ≡ i.high) = found_is_member before i old f in
             inr (old, m.0, m.1, m.2, (λ p. false≢true (sym s ∙ positions_same_tuples old.chosen i.chosen p)), sym same)
 
 emission_new : (window : ℕ) (key : List ℕ) (func : Func) (before : List Instance) (i : Instance) → (¬ HasInstance before i.low i.high) → emission window key func before i ≡ Some (New (row_of window key func i))
 emission_new window key func before i h = ap (emitted window key func i) (find_from_none before i h)
 
-emission_again : (window : ℕ) (key : List ℕ) (func : Func) (before : List Instance) (old i : Instance) → RiseByStart before → Contains before old → old.low ≡ i.low → old.high ≡ i.high → positions_of old ≢ positions_of i → emission window key func before i ≡ Some (Again (row_of window key func i))
+emission_again : (window : ℕ) (key : List ℕ) (func : Func) (before : List Instance) (old i : Instance) → RiseByStart before → Contains before old → old.low ≡ i.low → old.high ≡ i.high → positions_of old ≢ positions_of i → emission window key func before i ≡ Some (Again (row_of window key func i) (former_of func old))
 emission_again window key func before old i s c l h differs =
     let alike : find (is_same i) before ≡ find (is_same old) before = λ k. find (λ j. eqb (sym l k) j.low && eqb (sym h k) j.high) before in
     ap (emitted window key func i) (alike ∙ find_same before old s c)
-    ∙ ap (λ b. cond b None (Some (Again (row_of window key func i)))) (false_from_ne_true (are_same_tuples old.chosen i.chosen) (λ e. differs (same_tuples_positions old.chosen i.chosen e)))
+    ∙ ap (λ b. cond b None (Some (Again (row_of window key func i) (former_of func old)))) (false_from_ne_true (are_same_tuples old.chosen i.chosen) (λ e. differs (same_tuples_positions old.chosen i.chosen e)))
 
 -- ---- one key
 pub changes_are_listed : (windows : List Def) (key : List ℕ) (old new : Moment) (c : Change) → Contains (changes_between windows key old new) c → IsChangeOf windows key old new c
@@ -181,9 +181,9 @@ changes_are_listed windows key old new c d =
     gone : Contains (flat_map (retractions key old new) (enumerate_from 0 windows)) c → IsChangeOf windows key old new c
     gone g =
         let m : (w : ℕ × Def) × Contains (enumerate_from 0 windows) w × Contains (retractions key old new w) c = flat_map_members (retractions key old new) (enumerate_from 0 windows) c g in
-        let k : (i : Instance) × Contains (standing_at (m.0).1 old) i × (retraction (m.0).0 key (standing_at (m.0).1 new) i ≡ Some c) = filter_map_members (retraction (m.0).0 key (standing_at (m.0).1 new)) (standing_at (m.0).1 old) c m.2 in
-        let r : (c ≡ Gone (m.0).0 key (k.0).low (k.0).high) × (¬ HasInstance (standing_at (m.0).1 new) (k.0).low (k.0).high) = retraction_says (m.0).0 key (standing_at (m.0).1 new) k.0 c k.2 in
-        subst (IsChangeOf windows key old new) (sym r.0) (refl, record { def = (m.0).1; of_window = numbered_at windows m.0 m.1; stood = (k.0, k.1, refl, refl); stands_no_longer = r.1 })
+        let k : (i : Instance) × Contains (standing_at (m.0).1 old) i × (retraction (m.0).0 key ((m.0).1).func (standing_at (m.0).1 new) i ≡ Some c) = filter_map_members (retraction (m.0).0 key ((m.0).1).func (standing_at (m.0).1 new)) (standing_at (m.0).1 old) c m.2 in
+        let r : (c ≡ Gone (row_of (m.0).0 key ((m.0).1).func k.0)) × (¬ HasInstance (standing_at (m.0).1 new) (k.0).low (k.0).high) = retraction_says (m.0).0 key ((m.0).1).func (standing_at (m.0).1 new) k.0 c k.2 in
+        subst (IsChangeOf windows key old new) (sym r.0) (record { def = (m.0).1; of_window = numbered_at windows m.0 m.1; before = k.0; stood = k.1; stands_no_longer = r.1; showed = refl })
 
     come : Contains (flat_map (emissions key old new) (enumerate_from 0 windows)) c → IsChangeOf windows key old new c
     come g =
@@ -191,26 +191,23 @@ changes_are_listed windows key old new c d =
         let k : (i : Instance) × Contains (standing_at (m.0).1 new) i × (emission (m.0).0 key ((m.0).1).func (standing_at (m.0).1 old) i ≡ Some c) = filter_map_members (emission (m.0).0 key ((m.0).1).func (standing_at (m.0).1 old)) (standing_at (m.0).1 new) c m.2 in
         ⊎_elim
         (λ a. subst (IsChangeOf windows key old new) (sym a.0) (record { def = (m.0).1; of_window = numbered_at windows m.0 m.1; now = k.0; stands = k.1; did_not_stand = a.1; shows = refl }))
-        (λ a. subst (IsChangeOf windows key old new) (sym a.5) (record { def = (m.0).1; of_window = numbered_at windows m.0 m.1; before = a.0; stood = a.1; now = k.0; stands = k.1; same_start = a.2; same_end = a.3; selects_others = a.4; shows = refl }))
+        (λ a. subst (IsChangeOf windows key old new) (sym a.5) (record { def = (m.0).1; of_window = numbered_at windows m.0 m.1; before = a.0; stood = a.1; now = k.0; stands = k.1; same_start = a.2; same_end = a.3; selects_others = a.4; shows = refl; showed = refl }))
         (emission_cases (m.0).0 key ((m.0).1).func (standing_at (m.0).1 old) k.0 c k.2)
 
 pub changes_are_all_listed : (windows : List Def) (key : List ℕ) (old new : Moment) → ((def : Def) → Contains windows def → RiseByStart (standing_at def old)) → (c : Change) → IsChangeOf windows key old new c → Contains (changes_between windows key old new) c
 unfolding changes_between
-changes_are_all_listed windows key old new rise (Gone window of low high) h =
-    let r : IsRetracted windows old new window low high = h.1 in
-    let i : Instance = (r.stood).0 in
-    let same : Gone window key i.low i.high ≡ Gone window of low high = λ k. Gone window (sym h.0 k) ((r.stood).2 k) ((r.stood).3 k) in
-    let still : ¬ HasInstance (standing_at r.def new) i.low i.high = λ m. r.stands_no_longer (m.0, m.1, m.2 ∙ (r.stood).2, m.3 ∙ (r.stood).3) in
-    Contains-append_left (flat_map (retractions key old new) (enumerate_from 0 windows)) (flat_map (emissions key old new) (enumerate_from 0 windows)) (Gone window of low high)
-    (flat_map_has (retractions key old new) (enumerate_from 0 windows) (window, r.def) (Gone window of low high) (numbered_has windows window r.def r.of_window)
-    (filter_map_has (retraction window key (standing_at r.def new)) (standing_at r.def old) i (Gone window of low high) (r.stood).1 (retraction_given window key (standing_at r.def new) i still ∙ ap Some same)))
+changes_are_all_listed windows key old new rise (Gone row) h =
+    Contains-append_left (flat_map (retractions key old new) (enumerate_from 0 windows)) (flat_map (emissions key old new) (enumerate_from 0 windows)) (Gone row)
+    (flat_map_has (retractions key old new) (enumerate_from 0 windows) (row.window, h.def) (Gone row) (numbered_has windows row.window h.def h.of_window)
+    (filter_map_has (retraction row.window key (h.def).func (standing_at h.def new)) (standing_at h.def old) h.before (Gone row) h.stood
+    (retraction_given row.window key (h.def).func (standing_at h.def new) h.before h.stands_no_longer ∙ ap (λ r. Some (Gone r)) (sym h.showed))))
 changes_are_all_listed windows key old new rise (New row) h =
     Contains-append_right (flat_map (retractions key old new) (enumerate_from 0 windows)) (flat_map (emissions key old new) (enumerate_from 0 windows)) (New row)
     (flat_map_has (emissions key old new) (enumerate_from 0 windows) (row.window, h.def) (New row) (numbered_has windows row.window h.def h.of_window)
     (filter_map_has (emission row.window key (h.def).func (standing_at h.def old)) (standing_at h.def new) h.now (New row) h.stands (emission_new row.window key (h.def).func (standing_at h.def old) h.now h.did_not_stand ∙ ap (λ r. Some (New r)) (sym h.shows))))
-changes_are_all_listed windows key old new rise (Again row) h =
-    Contains-append_right (flat_map (retractions key old new) (enumerate_from 0 windows)) (flat_map (emissions key old new) (enumerate_from 0 windows)) (Again row)
-    (flat_map_has (emissions key old new) (enumerate_from 0 windows) (row.window, h.def) (Again row) (numbered_has windows row.window h.def h.of_window)
-    (filter_map_has (emission row.window key (h.def).func (standing_at h.def old)) (standing_at h.def new) h.now (Again row) h.stands
-    (emission_again row.window key (h.def).func (standing_at h.def old) h.before h.now (rise h.def (enumerate_members 0 windows (row.window, h.def) (numbered_has windows row.window h.def h.of_window))) h.stood h.same_start h.same_end h.selects_others ∙ ap (λ r. Some (Again r)) (sym h.shows))))
+changes_are_all_listed windows key old new rise (Again row former) h =
+    Contains-append_right (flat_map (retractions key old new) (enumerate_from 0 windows)) (flat_map (emissions key old new) (enumerate_from 0 windows)) (Again row former)
+    (flat_map_has (emissions key old new) (enumerate_from 0 windows) (row.window, h.def) (Again row former) (numbered_has windows row.window h.def h.of_window)
+    (filter_map_has (emission row.window key (h.def).func (standing_at h.def old)) (standing_at h.def new) h.now (Again row former) h.stands
+    (emission_again row.window key (h.def).func (standing_at h.def old) h.before h.now (rise h.def (enumerate_members 0 windows (row.window, h.def) (numbered_has windows row.window h.def h.of_window))) h.stood h.same_start h.same_end h.selects_others ∙ (λ k. Some (Again (sym h.shows k) (sym h.showed k))))))
 changes_are_all_listed windows key old new rise Dropped h = absurd h

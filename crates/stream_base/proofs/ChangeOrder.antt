@@ -57,19 +57,19 @@ by_place_total =
     (then_total (on_total (λ (c : Change). (place_of c).window) nat_cmp_total)
     (then_total (on_total (λ (c : Change). (place_of c).low) nat_cmp_total) (on_total (λ (c : Change). (place_of c).high) nat_cmp_total))))
 
-first_decides : (o p : Ordering) → o ≡ Less → ordering_then o p ≡ Less
+pub first_decides : (o p : Ordering) → o ≡ Less → ordering_then o p ≡ Less
 first_decides o p e = ap (λ q. ordering_then q p) e
 
-tie_passes : (o p : Ordering) → o ≡ Equal → ordering_then o p ≡ p
+pub tie_passes : (o p : Ordering) → o ≡ Equal → ordering_then o p ≡ p
 tie_passes o p e = ap (λ q. ordering_then q p) e
 
-by_index : ℕ × Def → ℕ × Def → Ordering
+unfoldable pub by_index : ℕ × Def → ℕ × Def → Ordering
 by_index v w = nat_cmp v.0 w.0
 
-same_tie : (a b : ℕ) → a ≡ b → nat_cmp a b ≡ Equal
+pub same_tie : (a b : ℕ) → a ≡ b → nat_cmp a b ≡ Equal
 same_tie a b h = grind (arith, nat_tests)
 
-key_tie : (k l : List ℕ) → k ≡ l → slice_cmp nat_cmp k l ≡ Equal
+pub key_tie : (k l : List ℕ) → k ≡ l → slice_cmp nat_cmp k l ≡ Equal
 key_tie k l e = ap (λ m. slice_cmp nat_cmp m l) e ∙ tied_itself nat_list_cmp_total l
 
 pub less_at_key : (a b : Change) → slice_cmp nat_cmp (place_of a).key (place_of b).key ≡ Less → by_place a b ≡ Less
@@ -100,8 +100,8 @@ record IsAt (key : List ℕ) (comes window low : ℕ) (c : Change) : Type 0 wher
   window_is : (place_of c).window ≡ window
   low_is : (place_of c).low ≡ low
 
-retraction_at : (window : ℕ) (key : List ℕ) (now : List Instance) (i : Instance) (c : Change) → retraction window key now i ≡ Some c → IsAt key 0 window i.low c
-retraction_at window key now i c e = subst (IsAt key 0 window i.low) (sym (retraction_says window key now i c e).0) (record { key_is = refl; comes_is = refl; window_is = refl; low_is = refl })
+retraction_at : (window : ℕ) (key : List ℕ) (def : Def) (now : List Instance) (i : Instance) (c : Change) → retraction window key def.func now i ≡ Some c → IsAt key 0 window i.low c
+retraction_at window key def now i c e = subst (IsAt key 0 window i.low) (sym (retraction_says window key def.func now i c e).0) (record { key_is = refl; comes_is = refl; window_is = refl; low_is = refl })
 
 emission_at : (window : ℕ) (key : List ℕ) (def : Def) (before : List Instance) (i : Instance) (c : Change) → emission window key def.func before i ≡ Some c → IsAt key 1 window i.low c
 emission_at window key def before i c e =
@@ -118,8 +118,8 @@ later_start key comes window i j a b l p q =
 module _ (windows : List Def) (key : List ℕ) (old new : Moment) where
   retracted_at : (w : ℕ × Def) (c : Change) → Contains (retractions key old new w) c → (low : ℕ) × IsAt key 0 w.0 low c
   retracted_at w c d =
-      let m : (i : Instance) × Contains (standing_at w.1 old) i × (retraction w.0 key (standing_at w.1 new) i ≡ Some c) = filter_map_members (retraction w.0 key (standing_at w.1 new)) (standing_at w.1 old) c d in
-      ((m.0).low, retraction_at w.0 key (standing_at w.1 new) m.0 c m.2)
+      let m : (i : Instance) × Contains (standing_at w.1 old) i × (retraction w.0 key (w.1).func (standing_at w.1 new) i ≡ Some c) = filter_map_members (retraction w.0 key (w.1).func (standing_at w.1 new)) (standing_at w.1 old) c d in
+      ((m.0).low, retraction_at w.0 key w.1 (standing_at w.1 new) m.0 c m.2)
 
   emitted_at : (w : ℕ × Def) (c : Change) → Contains (emissions key old new w) c → (low : ℕ) × IsAt key 1 w.0 low c
   emitted_at w c d =
@@ -128,8 +128,8 @@ module _ (windows : List Def) (key : List ℕ) (old new : Moment) where
 
   retractions_in_order : (w : ℕ × Def) → RiseByStart (standing_at w.1 old) → AreInOrder (retractions key old new w)
   retractions_in_order w s =
-      sorted_filter_map by_place_total by_start_total (retraction w.0 key (standing_at w.1 new))
-      (λ i j a b l e f. later_start key 0 w.0 i j a b l (retraction_at w.0 key (standing_at w.1 new) i a e) (retraction_at w.0 key (standing_at w.1 new) j b f))
+      sorted_filter_map by_place_total by_start_total (retraction w.0 key (w.1).func (standing_at w.1 new))
+      (λ i j a b l e f. later_start key 0 w.0 i j a b l (retraction_at w.0 key w.1 (standing_at w.1 new) i a e) (retraction_at w.0 key w.1 (standing_at w.1 new) j b f))
       (standing_at w.1 old) s
 
   emissions_in_order : (w : ℕ × Def) → RiseByStart (standing_at w.1 new) → AreInOrder (emissions key old new w)
@@ -158,11 +158,11 @@ module _ (windows : List Def) (key : List ℕ) (old new : Moment) where
       let q : (low : ℕ) × IsAt key 1 w.0 low b = emitted_at w b d in
       less_at_comes a b ((p.1).key_is ∙ sym (q.1).key_is) (omega (arith, (p.1).comes_is, (q.1).comes_is))
 
-by_index_total : IsTotalOrder by_index
+pub by_index_total : IsTotalOrder by_index
 unfolding by_index
 by_index_total = on_total (λ (w : ℕ × Def). w.0) nat_cmp_total
 
-numbered_in_order : (n : ℕ) (windows : List Def) → IsStrictlySortedBy by_index (enumerate_from n windows)
+pub numbered_in_order : (n : ℕ) (windows : List Def) → IsStrictlySortedBy by_index (enumerate_from n windows)
 unfolding by_index
 numbered_in_order n [] = sorted_nil by_index_total
 numbered_in_order n (def ∷ windows) =

@@ -20,17 +20,20 @@ use Rattle.stream_base.specs.declared.change.Change.TheVariants.{Dropped}
 use Rattle.stream_base.specs.declared.def.Def.{Def}
 use Rattle.stream_base.specs.declared.entry.Entry.{Entry}
 use Rattle.stream_base.specs.declared.what.What.{What}
-use Rattle.stream_base.specs.declared.what.What.TheVariants.{Tuple, Mark, Water, End}
+use Rattle.stream_base.specs.declared.what.What.TheVariants.{Tuple, Mark, Water, Idle, End}
 use Rattle.stream_base.specs.Limits.{Definitions, AreWithinLimits, IsKindWithin}
 use Rattle.stream_base.specs.declared.kept.Kept.{Kept}
 use Rattle.stream_base.specs.declared.kind.Kind.{Kind}
 use Rattle.stream_base.specs.declared.kind.Kind.TheVariants.{Tumbling, Sliding, Session, Marks, Events}
 use Rattle.stream_base.specs.Model.Windows.{standing_of}
-use Rattle.stream_base.specs.Model.Journal.{put_in_order, is_end, water_time, is_late, key_in, keys_of, kept_of, marks_of, mark_in, tuple_in, water_of}
+use Rattle.stream_base.specs.Model.Journal.{put_in_order, keys_of, kept_of, marks_of}
+use Rattle.stream_base.specs.Model.Watermark.{water_of}
+use Rattle.stream_base.specs.Model.What.{is_late, is_progress, key_in, mark_in, tuple_in}
 use Rattle.stream_base.specs.Model.Changes.{moment_of, standing_at, changes_between, changes_of_key, changes_after}
-use Rattle.stream_base.specs.Laws.{RiseByStart, AreInOrder, by_place, IsCausedBy, completions, completions_after, is_water_or_end, is_timed}
+use Rattle.stream_base.specs.Laws.{RiseByStart, AreInOrder, by_place, IsCausedBy, completions, completions_after, is_timed}
 use Rattle.stream_base.proofs.Rising.{none_in_nil, Contains-cons_cases, below_tail, not_below_itself, Contains-head, key_rising_is_sorted, sorted_cons, sorted_nil}
-use Rattle.stream_base.proofs.Growing.{kept_of_tuple, water_of_same, kept_of_other, marks_of_other, keys_of_push, water_rises}
+use Rattle.stream_base.proofs.Growing.{kept_of_tuple, kept_of_other, marks_of_other, keys_of_push}
+use Rattle.stream_base.proofs.Watermarks.{water_of_same, water_rises}
 use Rattle.stream_base.proofs.Members.{flat_map_members, flat_map_has}
 use Rattle.stream_base.proofs.Spans.{standing_of_tumbling_put, standing_of_sliding_put}
 use Rattle.stream_base.proofs.EventOrder.{kept_times_do_not_fall}
@@ -103,43 +106,47 @@ changes_in_order d sources before e limits = by (is_late d.lateness (water_of so
         (keys_of (before ++ e ∷ [])) (keys_in_order (before ++ e ∷ []))
         (λ key c. changes_between_in_order d.windows key (moment_of d sources key before) (moment_of d sources key (before ++ e ∷ [])) (rises_after d sources key before limits) (rises_after d sources key (before ++ e ∷ []) limits)))
 
--- ---- a watermark or an end
-water_is_no_tuple : (key : List ℕ) (position : ℕ) (what : What) → is_water_or_end what ≡ true → tuple_in key position what ≡ None
+-- ---- a word on the progress of its source
+water_is_no_tuple : (key : List ℕ) (position : ℕ) (what : What) → is_progress what ≡ true → tuple_in key position what ≡ None
 water_is_no_tuple key position (Tuple of time value) h = absurd (false≢true h)
 water_is_no_tuple key position (Mark of time) h = absurd (false≢true h)
 water_is_no_tuple key position (Water time) h = refl
+water_is_no_tuple key position Idle h = refl
 water_is_no_tuple key position End h = refl
 
-water_is_no_mark : (key : List ℕ) (what : What) → is_water_or_end what ≡ true → mark_in key what ≡ None
+water_is_no_mark : (key : List ℕ) (what : What) → is_progress what ≡ true → mark_in key what ≡ None
 water_is_no_mark key (Tuple of time value) h = absurd (false≢true h)
 water_is_no_mark key (Mark of time) h = absurd (false≢true h)
 water_is_no_mark key (Water time) h = refl
+water_is_no_mark key Idle h = refl
 water_is_no_mark key End h = refl
 
-water_has_no_key : (what : What) → is_water_or_end what ≡ true → key_in what ≡ None
+water_has_no_key : (what : What) → is_progress what ≡ true → key_in what ≡ None
 water_has_no_key (Tuple key time value) h = absurd (false≢true h)
 water_has_no_key (Mark key time) h = absurd (false≢true h)
 water_has_no_key (Water time) h = refl
+water_has_no_key Idle h = refl
 water_has_no_key End h = refl
 
-water_is_not_late : (lateness water : ℕ) (what : What) → is_water_or_end what ≡ true → is_late lateness water what ≡ false
+water_is_not_late : (lateness water : ℕ) (what : What) → is_progress what ≡ true → is_late lateness water what ≡ false
 water_is_not_late lateness water (Tuple key time value) h = absurd (false≢true h)
 water_is_not_late lateness water (Mark key time) h = absurd (false≢true h)
 water_is_not_late lateness water (Water time) h = refl
+water_is_not_late lateness water Idle h = refl
 water_is_not_late lateness water End h = refl
 
-pub keys_of_water : (journal : List Entry) (e : Entry) → is_water_or_end e.what ≡ true → keys_of (journal ++ e ∷ []) ≡ keys_of journal
+pub keys_of_water : (journal : List Entry) (e : Entry) → is_progress e.what ≡ true → keys_of (journal ++ e ∷ []) ≡ keys_of journal
 keys_of_water journal e h = keys_of_push journal e ∙ ap (λ o. option_map_or (insert_key (slice_cmp nat_cmp) (keys_of journal)) o (keys_of journal)) (water_has_no_key e.what h)
 
-pub moment_of_water : (d : Definitions) (sources : ℕ) (key : List ℕ) (journal : List Entry) (e : Entry) → is_water_or_end e.what ≡ true
+pub moment_of_water : (d : Definitions) (sources : ℕ) (key : List ℕ) (journal : List Entry) (e : Entry) → is_progress e.what ≡ true
     → moment_of d sources key (journal ++ e ∷ []) ≡ record { kept = kept_of d.lateness sources key journal; marks = marks_of d.lateness sources key journal; water = water_of sources (journal ++ e ∷ []) }
 moment_of_water d sources key journal e h =
     let kept : kept_of d.lateness sources key (journal ++ e ∷ []) ≡ kept_of d.lateness sources key journal = kept_of_other d.lateness sources key journal e (water_is_no_tuple key (length journal) e.what h) in
     let marks : marks_of d.lateness sources key (journal ++ e ∷ []) ≡ marks_of d.lateness sources key journal = marks_of_other d.lateness sources key journal e (water_is_no_mark key e.what h) in
     λ i. record { kept = kept i; marks = marks i; water = water_of sources (journal ++ e ∷ []) }
 
--- where an entry is a watermark or an end, the changes are the completions
-pub changes_of_water : (d : Definitions) (sources : ℕ) (before : List Entry) (e : Entry) → AreWithinLimits d → is_water_or_end e.what ≡ true → changes_after d sources before e ≡ completions_after d sources before e
+-- where an entry is a word on the progress of its source, the changes are the completions
+pub changes_of_water : (d : Definitions) (sources : ℕ) (before : List Entry) (e : Entry) → AreWithinLimits d → is_progress e.what ≡ true → changes_after d sources before e ≡ completions_after d sources before e
 changes_of_water d sources before e limits h =
     on_time_changes d sources before e (water_is_not_late d.lateness (water_of sources before) e.what h)
     ∙ ap (flat_map (changes_of_key d sources before e)) (keys_of_water before e h)
@@ -148,7 +155,7 @@ changes_of_water d sources before e limits h =
     ∙ changes_at_water d.windows key (kept_of d.lateness sources key before) (marks_of d.lateness sources key before) (water_of sources before) (water_of sources (before ++ e ∷ [])) limits.kinds (kept_times_do_not_fall d.lateness sources key before) (water_rises sources before e))
 
 -- and where it doesn't move the watermark, nothing changes
-pub no_news_no_changes : (d : Definitions) (sources : ℕ) (before : List Entry) (e : Entry) → AreWithinLimits d → is_water_or_end e.what ≡ true → water_of sources (before ++ e ∷ []) ≡ water_of sources before → changes_after d sources before e ≡ []
+pub no_news_no_changes : (d : Definitions) (sources : ℕ) (before : List Entry) (e : Entry) → AreWithinLimits d → is_progress e.what ≡ true → water_of sources (before ++ e ∷ []) ≡ water_of sources before → changes_after d sources before e ≡ []
 no_news_no_changes d sources before e limits h stays =
     on_time_changes d sources before e (water_is_not_late d.lateness (water_of sources before) e.what h)
     ∙ flat_map_none (changes_of_key d sources before e) (keys_of (before ++ e ∷ []))
@@ -171,23 +178,26 @@ other_tuple : (key of : List ℕ) (position : ℕ) (what : What) → key_in what
 other_tuple key of position (Tuple k time value) h ne = ap (λ b. cond b (Some (record { position = position; time = time; value = value })) None) (false_from_ne_true (bytes_eq k key) (λ e. ne (let same : k ≡ of = cc in sym (bytes_eq_true k key e) ∙ same)))
 other_tuple key of position (Mark k time) h ne = refl
 other_tuple key of position (Water time) h ne = refl
+other_tuple key of position Idle h ne = refl
 other_tuple key of position End h ne = refl
 
 other_mark : (key of : List ℕ) (what : What) → key_in what ≡ Some of → (key ≡ of → ⊥) → mark_in key what ≡ None
 other_mark key of (Tuple k time value) h ne = refl
 other_mark key of (Mark k time) h ne = ap (λ b. cond b (Some time) None) (false_from_ne_true (bytes_eq k key) (λ e. ne (let same : k ≡ of = cc in sym (bytes_eq_true k key e) ∙ same)))
 other_mark key of (Water time) h ne = refl
+other_mark key of Idle h ne = refl
 other_mark key of End h ne = refl
 
-keyed_keeps_water : (what : What) (of : List ℕ) → key_in what ≡ Some of → (is_end what ≡ false) × (water_time what ≡ 0)
-keyed_keeps_water (Tuple k time value) of h = (refl, refl)
-keyed_keeps_water (Mark k time) of h = (refl, refl)
-keyed_keeps_water (Water time) of h = cc
-keyed_keeps_water End of h = cc
+keyed_is_no_progress : (what : What) (of : List ℕ) → key_in what ≡ Some of → is_progress what ≡ false
+keyed_is_no_progress (Tuple k time value) of h = refl
+keyed_is_no_progress (Mark k time) of h = refl
+keyed_is_no_progress (Water time) of h = cc
+keyed_is_no_progress Idle of h = cc
+keyed_is_no_progress End of h = cc
 
 -- a tuple or mark leaves the watermark
 pub water_of_keyed : (sources : ℕ) (journal : List Entry) (e : Entry) (of : List ℕ) → key_in e.what ≡ Some of → water_of sources (journal ++ e ∷ []) ≡ water_of sources journal
-water_of_keyed sources journal e of h = let k : (is_end e.what ≡ false) × (water_time e.what ≡ 0) = keyed_keeps_water e.what of h in water_of_same sources journal e k.0 k.1
+water_of_keyed sources journal e of h = water_of_same sources journal e (keyed_is_no_progress e.what of h)
 
 -- a tuple or mark that is not late changes only what stands of its key
 pub changes_of_keyed : (d : Definitions) (sources : ℕ) (before : List Entry) (e : Entry) (of : List ℕ) → AreWithinLimits d → key_in e.what ≡ Some of → is_late d.lateness (water_of sources before) e.what ≡ false → changes_after d sources before e ≡ changes_of_key d sources before e of
@@ -219,6 +229,7 @@ tuple_has_no_mark : (key of : List ℕ) (position : ℕ) (what : What) (x : Kept
 tuple_has_no_mark key of position (Tuple k time value) x h = refl
 tuple_has_no_mark key of position (Mark k time) x h = cc
 tuple_has_no_mark key of position (Water time) x h = cc
+tuple_has_no_mark key of position Idle x h = cc
 tuple_has_no_mark key of position End x h = cc
 
 -- where every window is tumbling or sliding, a tuple that is at or after the watermark changes nothing

@@ -38,7 +38,7 @@ pub lt_from_less : (a b : ℕ) → nat_cmp a b ≡ Less → a < b
 lt_from_less a b h = grind (arith, nat_tests)
 
 -- a list stays in order through a function that keeps it
-sorted_map : {X Y : Type 0} {cmp : X → X → Ordering} {by : Y → Y → Ordering} (o : IsTotalOrder by) (f : X → Y) → ((x y : X) → cmp x y ≡ Less → by (f x) (f y) ≡ Less) → (xs : List X) → IsStrictlySortedBy cmp xs → IsStrictlySortedBy by (map f xs)
+pub sorted_map : {X Y : Type 0} {cmp : X → X → Ordering} {by : Y → Y → Ordering} (o : IsTotalOrder by) (f : X → Y) → ((x y : X) → cmp x y ≡ Less → by (f x) (f y) ≡ Less) → (xs : List X) → IsStrictlySortedBy cmp xs → IsStrictlySortedBy by (map f xs)
 sorted_map o f keeps [] s = sorted_nil o
 sorted_map {cmp = cmp} {by = by} o f keeps (x ∷ xs) s =
     sorted_cons o (f x) (map f xs)

@@ -19,8 +19,10 @@ use Rattle.std.proofs.lemmas.Map.Keys.{sorted_head, sorted_tail, Less-from_sorte
 use Rattle.stream_base.specs.declared.entry.Entry.{Entry}
 use Rattle.stream_base.specs.declared.kept.Kept.{Kept}
 use Rattle.stream_base.specs.declared.what.What.{What}
-use Rattle.stream_base.specs.declared.what.What.TheVariants.{Tuple, Mark, Water, End}
-use Rattle.stream_base.specs.Model.Journal.{is_late, water_of, on_time, tuple_in, tuples_in, put_in_order, in_event_order, kept_of}
+use Rattle.stream_base.specs.declared.what.What.TheVariants.{Tuple, Mark, Water, Idle, End}
+use Rattle.stream_base.specs.Model.Journal.{on_time, tuples_in, put_in_order, in_event_order, kept_of}
+use Rattle.stream_base.specs.Model.Watermark.{water_of}
+use Rattle.stream_base.specs.Model.What.{is_late, tuple_in}
 use Rattle.stream_base.specs.Laws.{accepted_tuple, by_time_and_position, AreInEventOrder, TimesDoNotFall}
 use Rattle.stream_base.proofs.Rising.{sorted_cons, sorted_nil}
 use Rattle.stream_base.proofs.Growing.{kept_of_push, kept_of_nil}
@@ -86,7 +88,7 @@ put_in_event_order (y ∷ ys) x s older =
         later
 
 -- the position of a tuple that a journal's next entry is
-position_of_tuple : (key : List ℕ) (position : ℕ) (what : What) (x : Kept) → tuple_in key position what ≡ Some x → x.position ≡ position
+pub position_of_tuple : (key : List ℕ) (position : ℕ) (what : What) (x : Kept) → tuple_in key position what ≡ Some x → x.position ≡ position
 position_of_tuple key position (Tuple of time value) x h = by (bytes_eq of key) h
   where
     by : (b : Bool) → cond b (Some (record { position = position; time = time; value = value })) None ≡ Some x → x.position ≡ position
@@ -94,6 +96,7 @@ position_of_tuple key position (Tuple of time value) x h = by (bytes_eq of key) 
     by false e = cc
 position_of_tuple key position (Mark of time) x h = cc
 position_of_tuple key position (Water time) x h = cc
+position_of_tuple key position Idle x h = cc
 position_of_tuple key position End x h = cc
 
 record IsKeptOf (kept : List Kept) (journal : List Entry) : Type 0 where

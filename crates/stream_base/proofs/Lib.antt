@@ -5,7 +5,9 @@ pub mod ReadBack
 pub mod ReadBackChanges
 pub mod ReadBackExact
 pub mod LimitFacts
+pub mod CutFacts
 pub mod Rising
+pub mod Watermarks
 pub mod Growing
 pub mod Members
 pub mod Spans
@@ -18,3 +20,11 @@ pub mod ChangeList
 pub mod ChangeOrder
 pub mod ChangesAfter
 pub mod Absent
+pub mod Lawful
+pub mod Fronts
+pub mod WatermarkBounds
+pub mod Accepted
+pub mod Positions
+pub mod CutLaws
+pub mod PiecesBetween
+pub mod Standing

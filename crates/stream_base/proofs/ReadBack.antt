@@ -8,9 +8,9 @@ use Rattle.std.specs.Str.{bytes_eq}
 use Rattle.std.specs.Prelude.{◌&&◌, Option, None, Some, codes}
 use Rattle.stream_base.specs.Limits.{Definitions}
 use Rattle.stream_base.specs.declared.entry.Entry.{Entry}
-use Rattle.stream_base.specs.Model.Text.{entry_line, journal_lines, shard_lines, text_of, changes_under, report_of}
+use Rattle.stream_base.specs.Model.Text.{entry_line, journal_lines, shard_lines, text_of, changes_under, Form, report_of}
 use Rattle.stream_base.specs.Model.Journals.{lines_of, is_entry_within, with_entry, guessed_entry, entry_in, is_header, after_line, journals_of}
-use Rattle.stream_base.specs.ReadBack.{AreEntriesWithin, AreWithin, is_other_line, AreOtherLines, AreOtherLinesUnder}
+use Rattle.stream_base.specs.ReadBack.{AreEntriesWithin, AreWithin, is_other_line, AreOtherLines, AreOtherLinesUnder, IsToldFromJournals}
 use Rattle.stream_base.proofs.ReadBackLines.{Lacks, lines_of-line, lines_of-append}
 use Rattle.stream_base.proofs.ReadBackChanges.{changes_under-others}
 use Rattle.stream_base.proofs.ReadBackEntry.{entry_text, entry_line-is, header_text, after_line-other, after_line-entry_text, after_line-header_text, Lacks-entry_text, Lacks-header_text}
@@ -86,20 +86,22 @@ after_text-shards under k before (journal ∷ journals) rest few h o =
     ∙ (after_text-shards under (k + 1) (before ++ journal ∷ []) journals rest fewer (All-tail AreEntriesWithin journal journals h) (All-tail (AreOtherLinesUnder under []) journal journals o)
     ∙ ap (λ (js : List (List Entry)). after_text js rest) (append_assoc before (journal ∷ []) journals))))))
 
-pub journals_of-text_of : (under : List Entry → Entry → List ℕ) (journals : List (List Entry)) → AreWithin journals → All (AreOtherLinesUnder under []) journals → journals_of (text_of under journals) ≡ journals
+pub journals_of-text_of : (front : List ℕ) (under : List Entry → Entry → List ℕ) (journals : List (List Entry)) → AreOtherLines front → AreWithin journals → All (AreOtherLinesUnder under []) journals → journals_of (front ++ text_of under journals) ≡ journals
 unfolding journals_of
-journals_of-text_of under journals h o = after_text-shards under 0 [] journals (codes "end\n") (omega (arith, h.few)) h.entries o
+journals_of-text_of front under journals f h o =
+    after_text-other [] front (text_of under journals) f
+    ∙ after_text-shards under 0 [] journals (codes "end\n") (omega (arith, h.few)) h.entries o
 
 -- and from a report
-pub journals_of-report_of : (d : Definitions) (sources : ℕ) (journals : List (List Entry)) → AreWithin journals → journals_of (report_of d sources journals) ≡ journals
+pub journals_of-report_of : (form : Form) (d : Definitions) (sources : ℕ) (journals : List (List Entry)) → IsToldFromJournals form → AreWithin journals → journals_of (report_of form d sources journals) ≡ journals
 unfolding report_of
-journals_of-report_of d sources journals h =
-    let others : All (AreOtherLinesUnder (changes_under d sources) []) journals = All-weaker AreEntriesWithin (AreOtherLinesUnder (changes_under d sources) []) (λ journal within. changes_under-others d sources [] journal (All-nil (λ x. is_entry_within x ≡ true)) within) journals h.entries in
-    journals_of-text_of (changes_under d sources) journals h others
+journals_of-report_of form d sources journals told h =
+    let others : All (AreOtherLinesUnder (changes_under form d sources) []) journals = All-weaker AreEntriesWithin (AreOtherLinesUnder (changes_under form d sources) []) (λ journal within. changes_under-others form d sources [] journal told (All-nil (λ x. is_entry_within x ≡ true)) within) journals h.entries in
+    journals_of-text_of form.front (changes_under form d sources) journals told.front h others
 
 -- so one report holds the journals of no other
-pub report_of-injective : (d e : Definitions) (m n : ℕ) (journals others : List (List Entry)) → AreWithin journals → AreWithin others → report_of d m journals ≡ report_of e n others → journals ≡ others
-report_of-injective d e m n journals others h g same = sym (journals_of-report_of d m journals h) ∙ (ap journals_of same ∙ journals_of-report_of e n others g)
+pub report_of-injective : (form other : Form) (d e : Definitions) (m n : ℕ) (journals others : List (List Entry)) → IsToldFromJournals form → IsToldFromJournals other → AreWithin journals → AreWithin others → report_of form d m journals ≡ report_of other e n others → journals ≡ others
+report_of-injective form other d e m n journals others t u h g same = sym (journals_of-report_of form d m journals t h) ∙ (ap journals_of same ∙ journals_of-report_of other e n others u g)
 
 -- what is read back from any text is within the limits
 passed : (b c : Bool) (e : Entry) → is_entry_within e ≡ c → IfSome (cond (b && c) (Some e) None) (λ x. is_entry_within x ≡ true)

@@ -10,24 +10,28 @@ use Rattle.std.specs.Ordering.{nat_cmp}
 use Rattle.std.specs.Cmp.Lexicographic.{slice_cmp}
 use Rattle.std.specs.Prelude.{codes, decimal, Option, None, Some, ◌&&◌}
 use Rattle.std.specs.Fmt.{signed_decimal}
-use Rattle.stream_base.specs.Limits.{Definitions}
+use Rattle.stream_base.specs.Limits.{Definitions, is_value}
 use Rattle.stream_base.specs.declared.limits.TheConstants.{FINAL, TIME_MAX}
 use Rattle.stream_base.specs.declared.change.Change.{Change}
 use Rattle.stream_base.specs.declared.change.Change.TheVariants.{Gone, New, Again, Dropped}
 use Rattle.stream_base.specs.declared.def.Def.{Def}
 use Rattle.stream_base.specs.declared.entry.Entry.{Entry}
+use Rattle.stream_base.specs.declared.former.Former.{Former}
 use Rattle.stream_base.specs.declared.func.Func.{Func}
 use Rattle.stream_base.specs.declared.row.Row.{Row}
 use Rattle.stream_base.specs.declared.shown.Shown.{Shown}
 use Rattle.stream_base.specs.declared.shown.Shown.TheVariants.{Whole, Ratio}
 use Rattle.stream_base.specs.declared.what.What.{What}
-use Rattle.stream_base.specs.declared.what.What.TheVariants.{Tuple, Mark, Water, End}
-use Rattle.stream_base.specs.Model.Text.{line_of, shown_text, end_text, row_fields, change_line, change_lines, changes_under}
-use Rattle.stream_base.specs.Model.Journal.{is_late, water_of, keys_of, key_in, rising}
+use Rattle.stream_base.specs.declared.what.What.TheVariants.{Tuple, Mark, Water, Idle, End}
+use Rattle.stream_base.specs.Model.Text.{line_of, shown_text, end_text, row_fields, updated_fields, change_line, change_line_2, Form, report_1, report_2, change_lines, changes_under}
+use Rattle.stream_base.specs.Model.Journal.{keys_of, rising}
+use Rattle.stream_base.specs.Model.Watermark.{water_of}
+use Rattle.stream_base.specs.Model.What.{is_late, key_in, is_what_within}
 use Rattle.stream_base.specs.Model.Windows.{Instance}
-use Rattle.stream_base.specs.Model.Changes.{Moment, retraction, emitted, emission, retractions, emissions, standing_at, changes_between, changes_of_key, changes_after, moment_of, is_same, are_same_tuples, row_of}
-use Rattle.stream_base.specs.Model.Journals.{lines_of, is_entry_within, is_what_within, is_value, is_key}
-use Rattle.stream_base.specs.ReadBack.{AreEntriesWithin, is_other_line, is_change_within, AreOtherLines, AreOtherLinesUnder}
+use Rattle.stream_base.specs.Model.Changes.{Moment, retraction, emitted, emission, retractions, emissions, standing_at, changes_between, changes_of_key, changes_after, moment_of, is_same, are_same_tuples, row_of, former_of}
+use Rattle.stream_base.specs.Model.Journals.{lines_of, is_entry_within}
+use Rattle.stream_base.specs.Key.{is_key}
+use Rattle.stream_base.specs.ReadBack.{AreEntriesWithin, is_other_line, is_change_within, AreOtherLines, AreOtherLinesUnder, IsToldFromJournals}
 use Rattle.stream_base.proofs.ReadBackLines.{Lacks, Lacks-append, lines_of-line, lines_of-append, is_whole-append, is_whole-line}
 use Rattle.stream_base.proofs.ReadBackWords.{Lacks-decimal, Lacks-signed_decimal}
 use Rattle.stream_base.proofs.ReadBackEntry.{Lacks-key}
@@ -67,9 +71,9 @@ change_text byte next fields o b h = subst AreOtherLines (sym (line_of-spaced (b
 
 -- the key of a change has no line feed
 abbrev IsPlain : Change → Type 0
-IsPlain (Gone window key low high) = Lacks 10 key
+IsPlain (Gone row) = Lacks 10 row.key
 IsPlain (New row) = Lacks 10 row.key
-IsPlain (Again row) = Lacks 10 row.key
+IsPlain (Again row former) = Lacks 10 row.key
 IsPlain Dropped = Unit {0}
 
 either_lacks : (t : Bool) (xs ys : List ℕ) → Lacks 10 xs → Lacks 10 ys → Lacks 10 (cond t xs ys)
@@ -89,29 +93,44 @@ after_window row = decimal row.low ∷ end_text row.high ∷ decimal row.number 
 row_plain : (row : Row) → Lacks 10 row.key → AllByRecursion (Lacks 10) (row_fields row)
 row_plain row h = (Lacks-decimal 10 (omega arith) row.window, (Lacks-decimal 10 (omega arith) row.low, (Lacks-end_text row.high, (Lacks-decimal 10 (omega arith) row.number, (Lacks-shown_text row.shown, (h, tt))))))
 
-pub change_line-other : (change : Change) → IsPlain change → AreOtherLines (change_line change)
-change_line-other (Gone window key low high) h = change_text 45 (decimal window) (decimal low ∷ end_text high ∷ key ∷ []) refl refl (Lacks-decimal 10 (omega arith) window, (Lacks-decimal 10 (omega arith) low, (Lacks-end_text high, (h, tt))))
+change_line-other : (change : Change) → IsPlain change → AreOtherLines (change_line change)
+change_line-other (Gone row) h = change_text 45 (decimal row.window) (decimal row.low ∷ end_text row.high ∷ row.key ∷ []) refl refl (Lacks-decimal 10 (omega arith) row.window, (Lacks-decimal 10 (omega arith) row.low, (Lacks-end_text row.high, (h, tt))))
 change_line-other (New row) h = change_text 43 (decimal row.window) (after_window row) refl refl (row_plain row h)
-change_line-other (Again row) h = change_text 126 (decimal row.window) (after_window row) refl refl (row_plain row h)
+change_line-other (Again row former) h = change_text 126 (decimal row.window) (after_window row) refl refl (row_plain row h)
 change_line-other Dropped h = other_line (120 ∷ []) (refl, tt) refl
 
-pub change_lines-other : (changes : List Change) → AllByRecursion IsPlain changes → AreOtherLines (change_lines changes)
-change_lines-other [] h = no_lines
-change_lines-other (change ∷ changes) h = other_lines-append (change_line change) (change_lines changes) (change_line-other change h.0) (change_lines-other changes h.1)
+abbrev updated_after_window : Row → Former → List (List ℕ)
+updated_after_window row former = decimal row.low ∷ end_text row.high ∷ decimal row.number ∷ shown_text row.shown ∷ decimal former.number ∷ shown_text former.shown ∷ row.key ∷ []
+
+updated_plain : (row : Row) (former : Former) → Lacks 10 row.key → AllByRecursion (Lacks 10) (updated_fields row former)
+updated_plain row former h = (Lacks-decimal 10 (omega arith) row.window, (Lacks-decimal 10 (omega arith) row.low, (Lacks-end_text row.high, (Lacks-decimal 10 (omega arith) row.number, (Lacks-shown_text row.shown, (Lacks-decimal 10 (omega arith) former.number, (Lacks-shown_text former.shown, (h, tt))))))))
+
+change_line_2-other : (change : Change) → IsPlain change → AreOtherLines (change_line_2 change)
+change_line_2-other (Gone row) h = change_text 45 (decimal row.window) (after_window row) refl refl (row_plain row h)
+change_line_2-other (New row) h = change_text 43 (decimal row.window) (after_window row) refl refl (row_plain row h)
+change_line_2-other (Again row former) h = change_text 126 (decimal row.window) (updated_after_window row former) refl refl (updated_plain row former h)
+change_line_2-other Dropped h = other_line (120 ∷ []) (refl, tt) refl
 
 -- as where their keys are keys
 plain_change : (change : Change) → is_change_within change ≡ true → IsPlain change
-plain_change (Gone window key low high) h = Lacks-key key h
+plain_change (Gone row) h = Lacks-key row.key h
 plain_change (New row) h = Lacks-key row.key h
-plain_change (Again row) h = Lacks-key row.key h
+plain_change (Again row former) h = Lacks-key row.key h
 plain_change Dropped h = tt
 
-plain_changes : (changes : List Change) → AllByRecursion (λ c. is_change_within c ≡ true) changes → AllByRecursion IsPlain changes
-plain_changes [] h = tt
-plain_changes (change ∷ changes) h = (plain_change change h.0, plain_changes changes h.1)
+-- so both forms tell their own lines from those of journals
+pub report_1-told : IsToldFromJournals report_1
+report_1-told = record { front = no_lines; lines = λ change h. change_line-other change (plain_change change h) }
 
-pub change_lines-within : (changes : List Change) → All (λ c. is_change_within c ≡ true) changes → AreOtherLines (change_lines changes)
-change_lines-within changes h = change_lines-other changes (plain_changes changes (recursion_from_All (λ c. is_change_within c ≡ true) changes h))
+pub report_2-told : IsToldFromJournals report_2
+report_2-told = record { front = other_line (codes "report 2") (refl, (refl, (refl, (refl, (refl, (refl, (refl, (refl, tt)))))))) refl; lines = λ change h. change_line_2-other change (plain_change change h) }
+
+other_lines-flat_map : (form : Form) → IsToldFromJournals form → (changes : List Change) → AllByRecursion (λ c. is_change_within c ≡ true) changes → AreOtherLines (change_lines form changes)
+other_lines-flat_map form told [] h = no_lines
+other_lines-flat_map form told (change ∷ changes) h = other_lines-append (form.line change) (change_lines form changes) (told.lines change h.0) (other_lines-flat_map form told changes h.1)
+
+pub change_lines-within : (form : Form) (changes : List Change) → IsToldFromJournals form → All (λ c. is_change_within c ≡ true) changes → AreOtherLines (change_lines form changes)
+change_lines-within form changes told h = other_lines-flat_map form told changes (recursion_from_All (λ c. is_change_within c ≡ true) changes h)
 
 -- what holds of each element that a list gives
 always : {X : Type 0} (xs : List X) → AllByRecursion (λ x. Unit {0}) xs
@@ -135,65 +154,72 @@ all-filter_map Q P f each [] h = tt
 all-filter_map Q P f each (x ∷ xs) h = all-cons_option P (f x) (filter_map f xs) (each x h.0) (all-filter_map Q P f each xs h.1)
 
 -- the changes of a key have that key
-unless : (t : Bool) (change : Change) → IsPlain change → IfSome (cond t None (Some change)) IsPlain
+abbrev IsKeyed : Change → Type 0
+IsKeyed c = is_change_within c ≡ true
+
+unless : (t : Bool) (change : Change) → IsKeyed change → IfSome (cond t None (Some change)) IsKeyed
 unless true change h = tt
 unless false change h = h
 
-emitted-plain : (window : ℕ) (key : List ℕ) (func : Func) (i : Instance) (old : Option Instance) → Lacks 10 key → IfSome (emitted window key func i old) IsPlain
-emitted-plain window key func i None h = h
-emitted-plain window key func i (Some old) h = unless (are_same_tuples old.chosen i.chosen) (Again (row_of window key func i)) h
+emitted-keyed : (window : ℕ) (key : List ℕ) (func : Func) (i : Instance) (old : Option Instance) → is_key key ≡ true → IfSome (emitted window key func i old) IsKeyed
+emitted-keyed window key func i None h = h
+emitted-keyed window key func i (Some old) h = unless (are_same_tuples old.chosen i.chosen) (Again (row_of window key func i) (former_of func old)) h
 
-retractions-plain : (key : List ℕ) (old new : Moment) → Lacks 10 key → (w : ℕ × Def) → Unit {0} → AllByRecursion IsPlain (retractions key old new w)
-retractions-plain key old new h w u =
-    all-filter_map (λ i. Unit {0}) IsPlain (retraction w.0 key (standing_at w.1 new)) (λ i v. unless (list_any (is_same i) (standing_at w.1 new)) (Gone w.0 key i.low i.high) h) (standing_at w.1 old) (always (standing_at w.1 old))
+retractions-keyed : (key : List ℕ) (old new : Moment) → is_key key ≡ true → (w : ℕ × Def) → Unit {0} → AllByRecursion IsKeyed (retractions key old new w)
+retractions-keyed key old new h w u =
+    all-filter_map (λ i. Unit {0}) IsKeyed (retraction w.0 key (w.1).func (standing_at w.1 new)) (λ i v. unless (list_any (is_same i) (standing_at w.1 new)) (Gone (row_of w.0 key (w.1).func i)) h) (standing_at w.1 old) (always (standing_at w.1 old))
 
-emissions-plain : (key : List ℕ) (old new : Moment) → Lacks 10 key → (w : ℕ × Def) → Unit {0} → AllByRecursion IsPlain (emissions key old new w)
-emissions-plain key old new h w u =
-    all-filter_map (λ i. Unit {0}) IsPlain (emission w.0 key (w.1).func (standing_at w.1 old)) (λ i v. emitted-plain w.0 key (w.1).func i (find (is_same i) (standing_at w.1 old)) h) (standing_at w.1 new) (always (standing_at w.1 new))
+emissions-keyed : (key : List ℕ) (old new : Moment) → is_key key ≡ true → (w : ℕ × Def) → Unit {0} → AllByRecursion IsKeyed (emissions key old new w)
+emissions-keyed key old new h w u =
+    all-filter_map (λ i. Unit {0}) IsKeyed (emission w.0 key (w.1).func (standing_at w.1 old)) (λ i v. emitted-keyed w.0 key (w.1).func i (find (is_same i) (standing_at w.1 old)) h) (standing_at w.1 new) (always (standing_at w.1 new))
 
-changes_between-plain : (windows : List Def) (key : List ℕ) (old new : Moment) → Lacks 10 key → AllByRecursion IsPlain (changes_between windows key old new)
+changes_between-keyed : (windows : List Def) (key : List ℕ) (old new : Moment) → is_key key ≡ true → AllByRecursion IsKeyed (changes_between windows key old new)
 unfolding changes_between
-changes_between-plain windows key old new h =
+changes_between-keyed windows key old new h =
     let numbered = enumerate_from 0 windows in
-    all-append IsPlain (flat_map (retractions key old new) numbered) (flat_map (emissions key old new) numbered)
-    (all-flat_map (λ w. Unit {0}) IsPlain (retractions key old new) (retractions-plain key old new h) numbered (always numbered))
-    (all-flat_map (λ w. Unit {0}) IsPlain (emissions key old new) (emissions-plain key old new h) numbered (always numbered))
+    all-append IsKeyed (flat_map (retractions key old new) numbered) (flat_map (emissions key old new) numbered)
+    (all-flat_map (λ w. Unit {0}) IsKeyed (retractions key old new) (retractions-keyed key old new h) numbered (always numbered))
+    (all-flat_map (λ w. Unit {0}) IsKeyed (emissions key old new) (emissions-keyed key old new h) numbered (always numbered))
 
 -- the keys of a journal are its entries'
-key_plain : (what : What) → is_what_within what ≡ true → IfSome (key_in what) (Lacks 10)
-key_plain (Tuple key time value) h = Lacks-key key (and_parts (is_value value) (is_key key) (and_parts (leb time TIME_MAX) (is_value value && is_key key) h).1).1
-key_plain (Mark key time) h = Lacks-key key (and_parts (leb time TIME_MAX) (is_key key) h).1
-key_plain (Water time) h = tt
-key_plain End h = tt
+abbrev HasKeyText : List ℕ → Type 0
+HasKeyText key = is_key key ≡ true
 
-rising-plain : (keys rest : List (List ℕ)) → All (Lacks 10) keys → AllByRecursion (Lacks 10) rest → All (Lacks 10) (fold (insert_key (slice_cmp nat_cmp)) keys rest)
-rising-plain keys [] h g = h
-rising-plain keys (key ∷ rest) h g = rising-plain (insert_key (slice_cmp nat_cmp) keys key) rest (All-insert_key (slice_cmp nat_cmp) key (Lacks 10) keys h g.0) g.1
+key_within : (what : What) → is_what_within what ≡ true → IfSome (key_in what) HasKeyText
+key_within (Tuple key time value) h = (and_parts (is_value value) (is_key key) (and_parts (leb time TIME_MAX) (is_value value && is_key key) h).1).1
+key_within (Mark key time) h = (and_parts (leb time TIME_MAX) (is_key key) h).1
+key_within (Water time) h = tt
+key_within Idle h = tt
+key_within End h = tt
 
-keys_of-plain : (journal : List Entry) → AreEntriesWithin journal → AllByRecursion (Lacks 10) (keys_of journal)
+rising-keyed : (keys rest : List (List ℕ)) → All HasKeyText keys → AllByRecursion HasKeyText rest → All HasKeyText (fold (insert_key (slice_cmp nat_cmp)) keys rest)
+rising-keyed keys [] h g = h
+rising-keyed keys (key ∷ rest) h g = rising-keyed (insert_key (slice_cmp nat_cmp) keys key) rest (All-insert_key (slice_cmp nat_cmp) key HasKeyText keys h g.0) g.1
+
+keys_of-keyed : (journal : List Entry) → AreEntriesWithin journal → AllByRecursion HasKeyText (keys_of journal)
 unfolding keys_of
-keys_of-plain journal h =
+keys_of-keyed journal h =
     let found = filter_map (λ (e : Entry). key_in e.what) journal in
-    let plain = all-filter_map (λ (e : Entry). is_entry_within e ≡ true) (Lacks 10) (λ e. key_in e.what) (λ e g. key_plain e.what (and_parts (ltb e.source (2 ^ 16)) (is_what_within e.what) g).1) journal (recursion_from_All (λ e. is_entry_within e ≡ true) journal h) in
-    recursion_from_All (Lacks 10) (rising (slice_cmp nat_cmp) found) (rising-plain [] found (All-nil (Lacks 10)) plain)
+    let found-keyed = all-filter_map (λ (e : Entry). is_entry_within e ≡ true) HasKeyText (λ e. key_in e.what) (λ e g. key_within e.what (and_parts (ltb e.source (2 ^ 16)) (is_what_within e.what) g).1) journal (recursion_from_All (λ e. is_entry_within e ≡ true) journal h) in
+    recursion_from_All HasKeyText (rising (slice_cmp nat_cmp) found) (rising-keyed [] found (All-nil HasKeyText) found-keyed)
 
-either_plain : (t : Bool) (xs ys : List Change) → AllByRecursion IsPlain xs → AllByRecursion IsPlain ys → AllByRecursion IsPlain (cond t xs ys)
-either_plain true xs ys h g = h
-either_plain false xs ys h g = g
+either_keyed : (t : Bool) (xs ys : List Change) → AllByRecursion IsKeyed xs → AllByRecursion IsKeyed ys → AllByRecursion IsKeyed (cond t xs ys)
+either_keyed true xs ys h g = h
+either_keyed false xs ys h g = g
 
-changes_after-plain : (d : Definitions) (sources : ℕ) (before : List Entry) (e : Entry) → AreEntriesWithin (before ++ e ∷ []) → AllByRecursion IsPlain (changes_after d sources before e)
+changes_after-keyed : (d : Definitions) (sources : ℕ) (before : List Entry) (e : Entry) → AreEntriesWithin (before ++ e ∷ []) → AllByRecursion IsKeyed (changes_after d sources before e)
 unfolding changes_after
-changes_after-plain d sources before e h =
+changes_after-keyed d sources before e h =
     let keys = keys_of (before ++ e ∷ []) in
-    either_plain (is_late d.lateness (water_of sources before) e.what) (Dropped ∷ []) (flat_map (changes_of_key d sources before e) keys) (tt, tt)
-    (all-flat_map (Lacks 10) IsPlain (changes_of_key d sources before e) (λ key plain. changes_between-plain d.windows key (moment_of d sources key before) (moment_of d sources key (before ++ e ∷ [])) plain) keys (keys_of-plain (before ++ e ∷ []) h))
+    either_keyed (is_late d.lateness (water_of sources before) e.what) (Dropped ∷ []) (flat_map (changes_of_key d sources before e) keys) (refl, tt)
+    (all-flat_map HasKeyText IsKeyed (changes_of_key d sources before e) (λ key keyed. changes_between-keyed d.windows key (moment_of d sources key before) (moment_of d sources key (before ++ e ∷ [])) keyed) keys (keys_of-keyed (before ++ e ∷ []) h))
 
 -- so the lines of the changes under an entry are other lines
-pub changes_under-other : (d : Definitions) (sources : ℕ) (before : List Entry) (e : Entry) → AreEntriesWithin (before ++ e ∷ []) → AreOtherLines (changes_under d sources before e)
-changes_under-other d sources before e h = change_lines-other (changes_after d sources before e) (changes_after-plain d sources before e h)
+pub changes_under-other : (form : Form) (d : Definitions) (sources : ℕ) (before : List Entry) (e : Entry) → IsToldFromJournals form → AreEntriesWithin (before ++ e ∷ []) → AreOtherLines (changes_under form d sources before e)
+changes_under-other form d sources before e told h = other_lines-flat_map form told (changes_after d sources before e) (changes_after-keyed d sources before e h)
 
-pub changes_under-others : (d : Definitions) (sources : ℕ) (before es : List Entry) → AreEntriesWithin before → AreEntriesWithin es → AreOtherLinesUnder (changes_under d sources) before es
-changes_under-others d sources before [] b h = tt
-changes_under-others d sources before (e ∷ es) b h =
+pub changes_under-others : (form : Form) (d : Definitions) (sources : ℕ) (before es : List Entry) → IsToldFromJournals form → AreEntriesWithin before → AreEntriesWithin es → AreOtherLinesUnder (changes_under form d sources) before es
+changes_under-others form d sources before [] told b h = tt
+changes_under-others form d sources before (e ∷ es) told b h =
     let longer : AreEntriesWithin (before ++ e ∷ []) = All-push (λ x. is_entry_within x ≡ true) before e b (All-head (λ x. is_entry_within x ≡ true) e es h) in
-    (changes_under-other d sources before e longer, changes_under-others d sources (before ++ e ∷ []) es longer (All-tail (λ x. is_entry_within x ≡ true) e es h))
+    (changes_under-other form d sources before e told longer, changes_under-others form d sources (before ++ e ∷ []) es told longer (All-tail (λ x. is_entry_within x ≡ true) e es h))

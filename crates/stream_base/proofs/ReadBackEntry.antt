@@ -8,13 +8,15 @@ use Rattle.std.specs.Option.{option_map_or}
 use Rattle.std.specs.Str.{bytes_eq}
 use Rattle.std.specs.Prelude.{ℤ, codes, decimal, Option, None, Some, ◌&&◌}
 use Rattle.std.specs.Fmt.{signed_decimal}
-use Rattle.stream_base.specs.Key.{is_control}
+use Rattle.stream_base.specs.Key.{is_control, is_key}
 use Rattle.stream_base.specs.declared.limits.TheConstants.{TIME_MAX}
 use Rattle.stream_base.specs.declared.entry.Entry.{Entry}
 use Rattle.stream_base.specs.declared.what.What.{What}
-use Rattle.stream_base.specs.declared.what.What.TheVariants.{Tuple, Mark, Water, End}
-use Rattle.stream_base.specs.Model.Text.{entry_line, line_of, what_fields}
-use Rattle.stream_base.specs.Model.Journals.{word, after_word, number_in, signed_in, is_value, is_key, is_what_within, is_entry_within, guessed_what, guessed_entry, entry_in, is_header, after_line, with_entry}
+use Rattle.stream_base.specs.declared.what.What.TheVariants.{Tuple, Mark, Water, Idle, End}
+use Rattle.stream_base.specs.Model.Text.{entry_line, line_of}
+use Rattle.stream_base.specs.Model.What.{what_fields, is_what_within}
+use Rattle.stream_base.specs.Model.Journals.{word, after_word, number_in, signed_in, is_entry_within, guessed_what, guessed_entry, entry_in, is_header, after_line, with_entry}
+use Rattle.stream_base.specs.Limits.{is_value}
 use Rattle.stream_base.specs.ReadBack.{is_other_line}
 use Rattle.stream_base.proofs.ReadBackLines.{Lacks, Lacks-append}
 use Rattle.stream_base.proofs.ReadBackWords.{word-space, after_word-space, number_in-decimal, signed_in-decimal, Lacks-decimal, Lacks-signed_decimal}
@@ -24,6 +26,7 @@ abbrev pub what_text : What → List ℕ
 what_text (Tuple key time value) = codes "t" ++ (32 ∷ (decimal time ++ (32 ∷ (signed_decimal value ++ (32 ∷ key)))))
 what_text (Mark key time) = codes "m" ++ (32 ∷ (decimal time ++ (32 ∷ key)))
 what_text (Water time) = codes "w" ++ (32 ∷ decimal time)
+what_text Idle = codes "i"
 what_text End = codes "e"
 
 abbrev pub source_text : ℕ → What → List ℕ
@@ -40,6 +43,7 @@ source_line : (source : ℕ) (what : What) → line_of (decimal source ∷ what_
 source_line source (Tuple key time value) = simp append_assoc
 source_line source (Mark key time) = simp append_assoc
 source_line source (Water time) = simp append_assoc
+source_line source Idle = simp append_assoc
 source_line source End = simp append_assoc
 
 pub entry_line-is : (e : Entry) → entry_line e ≡ entry_text e ++ 10 ∷ []
@@ -83,6 +87,7 @@ guessed_what-is (Mark key time) h =
     (after_word-space (decimal time) key plain)
     (ap number_in (word-space (decimal time) key plain) ∙ number_in-decimal time (time_small time _ h))
 guessed_what-is (Water time) h = ap Water (number_in-decimal time (time_small time true (and_from _ true h refl)))
+guessed_what-is Idle h = refl
 guessed_what-is End h = refl
 
 -- and so is its source
@@ -153,6 +158,7 @@ Lacks-what_text (Tuple key time value) h =
     (refl, (refl, Lacks-append 10 (decimal time) (32 ∷ (signed_decimal value ++ (32 ∷ key))) (Lacks-decimal 10 (omega arith) time) (refl, Lacks-append 10 (signed_decimal value) (32 ∷ key) (Lacks-signed_decimal 10 (omega arith) value) (refl, Lacks-key key is_key_within))))
 Lacks-what_text (Mark key time) h = (refl, (refl, Lacks-append 10 (decimal time) (32 ∷ key) (Lacks-decimal 10 (omega arith) time) (refl, Lacks-key key (and_parts _ _ h).1)))
 Lacks-what_text (Water time) h = (refl, (refl, Lacks-decimal 10 (omega arith) time))
+Lacks-what_text Idle h = (refl, tt)
 Lacks-what_text End h = (refl, tt)
 
 pub Lacks-entry_text : (e : Entry) → is_entry_within e ≡ true → Lacks 10 (entry_text e)

@@ -10,7 +10,8 @@ use Rattle.std.specs.List.{AllByRecursion, fold}
 use Rattle.std.specs.Str.{all_ascii_digits}
 use Rattle.std.specs.Fmt.{digits, digits_onto, digit_glyph, decimal, signed_decimal}
 use Rattle.std.specs.Prelude.{ℤ, pos, negsuc}
-use Rattle.stream_base.specs.Model.Journals.{word, after_word, number_in, signed_in, is_value}
+use Rattle.stream_base.specs.Model.Journals.{word, after_word, number_in, signed_in}
+use Rattle.stream_base.specs.Limits.{is_value}
 use Rattle.stream_base.proofs.ReadBackLines.{Lacks}
 
 -- the word in front of a space

@@ -1,5 +1,5 @@
 -- What a key is.
-use Rattle.std.specs.Prelude.{◌≡◌, ◌≤◌, ◌==◌, ◌||◌, ◌&&◌, ◌++◌, ◌-◌, ℕ, Bool, false, List, length, replicate, Option, None, Some, if◌then◌else◌, nat_lt, nat_le}
+use Rattle.std.specs.Prelude.{◌≡◌, ◌≤◌, ◌==◌, ◌||◌, ◌&&◌, ◌++◌, ◌-◌, ℕ, Bool, false, List, length, replicate, Option, None, Some, is_none, if◌then◌else◌, nat_lt, nat_le}
 use Rattle.std.specs.List.{list_any}
 use Rattle.stream_base.specs.declared.key_text.KeyFault.{KeyFault}
 use Rattle.stream_base.specs.declared.key_text.KeyFault.TheVariants.{Length, Control}
@@ -15,7 +15,10 @@ key_fault bytes =
     then (if list_any is_control bytes then Some Control else None)
     else Some Length
 
--- the bytes are a key
+-- the bytes are a key: as a test, and as facts
+abbrev pub is_key : List ℕ → Bool
+is_key bytes = is_none (key_fault bytes)
+
 pub record IsKey (bytes : List ℕ) : Type 0 where
   pub nonempty : 1 ≤ length bytes
   pub short : length bytes ≤ 64

@@ -1,7 +1,7 @@
 -- The words of the laws about journals, windows and changes.
-use Rattle.std.specs.Prelude.{◌≡◌, ◌≢◌, ◌≤◌, ◌<◌, ◌+◌, ◌*◌, ◌++◌, ◌&&◌, ℕ, Bool, true, false, List, [], ◌∷◌, length, map, filter, Option, None, Some, slice_get, if◌then◌else◌, nat_lt, nat_le}
+use Rattle.std.specs.Prelude.{◌≡◌, ◌≢◌, ◌≤◌, ◌<◌, ◌+◌, ◌*◌, ◌++◌, ◌&&◌, ℕ, Bool, true, false, List, [], ◌∷◌, length, take, map, filter, Option, None, Some, slice_get, if◌then◌else◌, nat_lt, nat_le, All}
 use Rattle.std.specs.Cmp.Lexicographic.{slice_cmp}
-use Rattle.std.specs.List.{Contains, enumerate_from, flat_map}
+use Rattle.std.specs.List.{Contains, enumerate_from, flat_map, range_with_len}
 use Rattle.std.specs.List.Sorted.{IsNonDecreasingBy, IsStrictlySortedBy}
 use Rattle.std.specs.Ordering.{nat_cmp, ordering_then}
 use Rattle.std.specs.declared.cmp.Ordering.{Ordering}
@@ -9,16 +9,22 @@ use Rattle.stream_base.specs.declared.change.Change.{Change}
 use Rattle.stream_base.specs.declared.change.Change.TheVariants.{Gone, New, Again, Dropped}
 use Rattle.stream_base.specs.declared.def.Def.{Def}
 use Rattle.stream_base.specs.declared.entry.Entry.{Entry}
+use Rattle.stream_base.specs.declared.former.Former.{Former}
 use Rattle.stream_base.specs.declared.kept.Kept.{Kept}
 use Rattle.stream_base.specs.declared.kind.Kind.{Kind}
 use Rattle.stream_base.specs.declared.kind.Kind.TheVariants.{Tumbling, Sliding, Session, Marks, Events}
 use Rattle.stream_base.specs.declared.row.Row.{Row}
-use Rattle.stream_base.specs.declared.what.What.{What}
-use Rattle.stream_base.specs.declared.what.What.TheVariants.{Tuple, Mark, Water, End}
 use Rattle.stream_base.specs.Limits.{Definitions}
-use Rattle.stream_base.specs.Model.Changes.{Moment, moment_of, row_of, standing_at}
-use Rattle.stream_base.specs.Model.Journal.{is_late, keys_of, mark_in, tuple_in, water_of}
+use Rattle.stream_base.specs.Model.Changes.{Moment, former_of, moment_of, row_of, standing_at}
+use Rattle.stream_base.specs.Model.Journal.{keys_of}
+use Rattle.stream_base.specs.Model.Routes.{routed}
+use Rattle.stream_base.specs.Model.Watermark.{source_water, water_of}
+use Rattle.stream_base.specs.Model.What.{is_late, mark_in, tuple_in}
 use Rattle.stream_base.specs.Model.Windows.{Instance, instances_of}
+
+-- the watermarks of the sources, in their order
+abbrev pub waters_of : ℕ → List Entry → List ℕ
+waters_of sources journal = map (λ source. source_water source journal) (range_with_len 0 sources)
 
 -- the tuple of a key that an entry behind a journal is, if it is one and not late
 abbrev pub accepted_tuple : ℕ → ℕ → List ℕ → List Entry → Entry → Option Kept
@@ -29,6 +35,21 @@ accepted_tuple lateness sources key before e =
 abbrev pub accepted_mark : ℕ → ℕ → List ℕ → List Entry → Entry → Option ℕ
 accepted_mark lateness sources key before e =
     if is_late lateness (water_of sources before) e.what then None else mark_in key e.what
+
+-- the journal has the tuple of the key at its position, and it wasn't late at the watermark of the entries before it
+pub record IsAcceptedTuple (lateness sources : ℕ) (key : List ℕ) (journal : List Entry) (x : Kept) : Type 0 where
+  pub entry : Entry
+  pub stands : slice_get journal x.position ≡ Some entry
+  pub says : tuple_in key x.position entry.what ≡ Some x
+  pub in_time : is_late lateness (water_of sources (take x.position journal)) entry.what ≡ false
+
+-- the journal has a mark of the key at a time, and it wasn't late at the watermark of the entries before it
+pub record IsAcceptedMark (lateness sources : ℕ) (key : List ℕ) (journal : List Entry) (time : ℕ) : Type 0 where
+  pub position : ℕ
+  pub entry : Entry
+  pub stands : slice_get journal position ≡ Some entry
+  pub says : mark_in key entry.what ≡ Some time
+  pub in_time : is_late lateness (water_of sources (take position journal)) entry.what ≡ false
 
 -- an entry behind a journal, with its position, unless it is late
 abbrev pub on_time_entry : ℕ → ℕ → List Entry → Entry → List (ℕ × Entry)
@@ -72,12 +93,14 @@ HasInstance instances low high = (i : Instance) × Contains instances i × (i.lo
 abbrev pub positions_of : Instance → List ℕ
 positions_of i = map (λ x. x.position) i.chosen
 
--- an instance of a window stood with this start and end, and none does now
-pub record IsRetracted (windows : List Def) (old new : Moment) (window low high : ℕ) : Type 0 where
+-- the row is that of an instance that stood, and none stands now with its start and end
+pub record IsRetracted (windows : List Def) (key : List ℕ) (old new : Moment) (row : Row) : Type 0 where
   pub def : Def
-  pub of_window : slice_get windows window ≡ Some def
-  pub stood : HasInstance (standing_at def old) low high
-  pub stands_no_longer : ¬ HasInstance (standing_at def new) low high
+  pub of_window : slice_get windows row.window ≡ Some def
+  pub before : Instance
+  pub stood : Contains (standing_at def old) before
+  pub stands_no_longer : ¬ HasInstance (standing_at def new) before.low before.high
+  pub showed : row ≡ row_of row.window key def.func before
 
 -- the row is that of an instance that stands, where none stood with its start and end
 pub record IsEmitted (windows : List Def) (key : List ℕ) (old new : Moment) (row : Row) : Type 0 where
@@ -88,8 +111,8 @@ pub record IsEmitted (windows : List Def) (key : List ℕ) (old new : Moment) (r
   pub did_not_stand : ¬ HasInstance (standing_at def old) now.low now.high
   pub shows : row ≡ row_of row.window key def.func now
 
--- the row is that of an instance that stands, where one stood with its start and end and selected other positions
-pub record IsUpdated (windows : List Def) (key : List ℕ) (old new : Moment) (row : Row) : Type 0 where
+-- the row is that of an instance that stands, where one stood with its start and end, selected other positions, and showed what is told
+pub record IsUpdated (windows : List Def) (key : List ℕ) (old new : Moment) (row : Row) (former : Former) : Type 0 where
   pub def : Def
   pub of_window : slice_get windows row.window ≡ Some def
   pub before : Instance
@@ -100,12 +123,13 @@ pub record IsUpdated (windows : List Def) (key : List ℕ) (old new : Moment) (r
   pub same_end : before.high ≡ now.high
   pub selects_others : positions_of before ≢ positions_of now
   pub shows : row ≡ row_of row.window key def.func now
+  pub showed : former ≡ former_of def.func before
 
 -- the change is one of a key's from one moment to the next
 abbrev pub IsChangeOf : List Def → List ℕ → Moment → Moment → Change → Type 0
-IsChangeOf windows key old new (Gone window of low high) = (of ≡ key) × IsRetracted windows old new window low high
+IsChangeOf windows key old new (Gone row) = IsRetracted windows key old new row
 IsChangeOf windows key old new (New row) = IsEmitted windows key old new row
-IsChangeOf windows key old new (Again row) = IsUpdated windows key old new row
+IsChangeOf windows key old new (Again row former) = IsUpdated windows key old new row former
 IsChangeOf windows key old new Dropped = ⊥
 
 -- the change is one of some key's, from before an entry to behind it
@@ -122,9 +146,9 @@ pub record Place : Type 0 where
   pub high : ℕ
 
 abbrev pub place_of : Change → Place
-place_of (Gone window key low high) = record { key = key; comes = 0; window = window; low = low; high = high }
+place_of (Gone row) = record { key = row.key; comes = 0; window = row.window; low = row.low; high = row.high }
 place_of (New row) = record { key = row.key; comes = 1; window = row.window; low = row.low; high = row.high }
-place_of (Again row) = record { key = row.key; comes = 1; window = row.window; low = row.low; high = row.high }
+place_of (Again row former) = record { key = row.key; comes = 1; window = row.window; low = row.low; high = row.high }
 place_of Dropped = record { key = []; comes = 0; window = 0; low = 0; high = 0 }
 
 -- changes compared by the bytes of their keys, then retractions before emissions and updates, then by window, start and end
@@ -143,13 +167,6 @@ AreInOrder changes = IsStrictlySortedBy by_place changes
 abbrev pub completions_after : Definitions → ℕ → List Entry → Entry → List Change
 completions_after d sources before e =
     flat_map (λ key. flat_map (completions key (moment_of d sources key before) (water_of sources (before ++ e ∷ []))) (enumerate_from 0 d.windows)) (keys_of before)
-
--- whether an entry is a watermark or the end of a source
-abbrev pub is_water_or_end : What → Bool
-is_water_or_end (Tuple key time value) = false
-is_water_or_end (Mark key time) = false
-is_water_or_end (Water time) = true
-is_water_or_end End = true
 
 -- whether a window is tumbling or sliding
 abbrev pub is_timed : Kind → Bool
@@ -171,3 +188,35 @@ HoldsKept length slide kept low =
 -- what the instances select
 abbrev pub selections_of : List Instance → List (List Kept)
 selections_of instances = map (λ i. i.chosen) instances
+
+-- pieces of a list that lie between cuts: none is empty, there is no cut between neighbours in one, and a cut between the last of one and the first of the next
+pub record ArePiecesBetween (cut : Kept → Kept → Bool) (pieces : List (List Kept)) : Type 0 where
+  pub nonempty : All (λ piece. 1 ≤ length piece) pieces
+  pub uncut : (before : List (List Kept)) (front : List Kept) (a b : Kept) (back : List Kept) (after : List (List Kept)) → pieces ≡ before ++ (front ++ a ∷ b ∷ back) ∷ after → cut a b ≡ false
+  pub apart : (before : List (List Kept)) (front : List Kept) (a b : Kept) (back : List Kept) (after : List (List Kept)) → pieces ≡ before ++ (front ++ a ∷ []) ∷ (b ∷ back) ∷ after → cut a b ≡ true
+
+-- the row is that of an instance of its window and key that stands after a journal
+pub record IsStandingRow (d : Definitions) (sources : ℕ) (journal : List Entry) (row : Row) : Type 0 where
+  pub def : Def
+  pub of_window : slice_get d.windows row.window ≡ Some def
+  pub instance : Instance
+  pub stands : Contains (standing_at def (moment_of d sources row.key journal)) instance
+  pub shows : row ≡ row_of row.window row.key def.func instance
+
+-- rows compared by the bytes of their keys, then by window, start and end
+abbrev pub by_row : Row → Row → Ordering
+by_row r s =
+    ordering_then (slice_cmp nat_cmp r.key s.key)
+    (ordering_then (nat_cmp r.window s.window) (ordering_then (nat_cmp r.low s.low) (nat_cmp r.high s.high)))
+
+-- the journals of one source: in each shard its routed entries
+abbrev pub journals_of_one : ℕ → List Entry → List (List Entry)
+journals_of_one shards entries = map (λ k. routed shards k entries) (range_with_len 0 shards)
+
+-- whether a window is one of sessions
+abbrev pub is_session : Kind → Bool
+is_session (Tumbling length) = false
+is_session (Sliding length slide) = false
+is_session (Session gap) = true
+is_session Marks = false
+is_session (Events count) = false

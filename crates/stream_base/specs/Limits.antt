@@ -1,5 +1,5 @@
--- The limits of window definitions.
-use Rattle.std.specs.Prelude.{◌≤◌, ◌*◌, ◌&&◌, ℕ, Bool, true, not, List, length, Option, None, Some, if◌then◌else◌, nat_le, All}
+-- The limits of values and of window definitions.
+use Rattle.std.specs.Prelude.{◌≤◌, ◌-◌, ◌*◌, ◌^◌, ◌&&◌, ℕ, ℤ, pos, negsuc, Bool, true, not, List, length, Option, None, Some, if◌then◌else◌, nat_le, int_le, All}
 use Rattle.std.specs.List.{position}
 use Rattle.std.specs.Option.{option_map}
 use Rattle.stream_base.specs.declared.limits.TheConstants.{TIME_MAX, JOURNAL_MAX, EVERY_MAX, WINDOWS_MAX, LENGTH_RATIO_MAX}
@@ -8,6 +8,10 @@ use Rattle.stream_base.specs.declared.kind.Kind.{Kind}
 use Rattle.stream_base.specs.declared.kind.Kind.TheVariants.{Tumbling, Sliding, Session, Marks, Events}
 use Rattle.stream_base.specs.declared.defs.LimitFault.{LimitFault}
 use Rattle.stream_base.specs.declared.defs.LimitFault.TheVariants.{Many, Limit}
+
+-- a value is a signed number of 64 bits
+abbrev pub is_value : ℤ → Bool
+is_value value = int_le (negsuc (2 ^ 63 - 1)) value && int_le value (pos (2 ^ 63 - 1))
 
 -- what a `Defs` is in contracts: its windows, in order, and its three numbers
 pub record Definitions : Type 0 where

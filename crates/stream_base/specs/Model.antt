@@ -1,4 +1,6 @@
 -- What a reader must believe: the definitions that the promises of the runtime speak of, on plain lists and whole numbers.
+pub mod What
+pub mod Watermark
 pub mod Functions
 pub mod Journal
 pub mod Routes

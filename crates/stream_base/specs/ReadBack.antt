@@ -3,7 +3,9 @@ use Rattle.std.specs.Prelude.{◌≡◌, ◌^◌, ◌<◌, ◌==◌, ◌&&◌, �
 use Rattle.stream_base.specs.declared.change.Change.{Change}
 use Rattle.stream_base.specs.declared.change.Change.TheVariants.{Gone, New, Again, Dropped}
 use Rattle.stream_base.specs.declared.entry.Entry.{Entry}
-use Rattle.stream_base.specs.Model.Journals.{is_key, is_entry_within, lines_of}
+use Rattle.stream_base.specs.Key.{is_key}
+use Rattle.stream_base.specs.Model.Journals.{is_entry_within, lines_of}
+use Rattle.stream_base.specs.Model.Text.{Form}
 
 -- each entry's source, time, value and key are within their limits
 abbrev pub AreEntriesWithin : List Entry → Type 0
@@ -37,7 +39,12 @@ AreOtherLinesUnder under before (e ∷ es) = AreOtherLines (under before e) × A
 
 -- the key of a change, where it has one, is a key
 abbrev pub is_change_within : Change → Bool
-is_change_within (Gone window key low high) = is_key key
+is_change_within (Gone row) = is_key row.key
 is_change_within (New row) = is_key row.key
-is_change_within (Again row) = is_key row.key
+is_change_within (Again row former) = is_key row.key
 is_change_within Dropped = true
+
+-- a form of the report whose own lines are other lines, so that its journals can be told from the rest
+pub record IsToldFromJournals (form : Form) : Type 0 where
+  pub front : AreOtherLines form.front
+  pub lines : (change : Change) → is_change_within change ≡ true → AreOtherLines (form.line change)

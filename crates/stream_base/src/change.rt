@@ -1,20 +1,16 @@
-use crate::key_text::KeyText;
+use crate::former::Former;
 use crate::row::Row;
 
-/// One change of the results, caused by one entry.
+/// One change of the results, caused by one entry. Whoever booked a result can undo it: a
+/// retraction and an update say what stood before.
 #[derive(Clone, Copy, Debug, PartialEq, Eq)]
 pub enum Change {
-    /// A retraction: this instance stands no longer.
-    Gone {
-        window: u32,
-        key: KeyText,
-        low: u64,
-        high: u64,
-    },
-    /// An emission: this instance newly stands.
+    /// A retraction: this row stands no longer.
+    Gone(Row),
+    /// An emission: this row newly stands.
     New(Row),
-    /// An update: this instance stood, still stands, and selects other tuples.
-    Again(Row),
+    /// An update: the instance stood and showed `former`, still stands, and selects other tuples.
+    Again { row: Row, former: Former },
     /// The entry was late beyond the allowed lateness, and was dropped.
     Dropped,
 }

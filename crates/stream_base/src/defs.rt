@@ -28,7 +28,8 @@ impl Model for Defs {
 
     ghost view = { λ d. definitions_of d.windows.items d.lateness d.every d.disorder };
 
-    ghost invariant = { λ d. AreWithinLimits (definitions_of d.windows.items d.lateness d.every d.disorder) };
+    ghost invariant = { λ d. AreWithinLimits
+        (definitions_of d.windows.items d.lateness d.every d.disorder) };
 }
 
 /// Which limit the given definitions pass. The first that holds is answered, in this order.
@@ -52,8 +53,11 @@ impl Defs {
         disorder: u64,
     ) -> Result<Defs, LimitFault>
         ensures ok { IfOk result (λ d. d ≡ definitions_of windows.items lateness every disorder) }
-        ensures valid { OnOk result (limit_fault (definitions_of windows.items lateness every disorder) ≡ None) }
-        ensures refused { IfErr result (λ fault. limit_fault (definitions_of windows.items lateness every disorder) ≡ Some fault) }
+        ensures valid { OnOk result
+            (limit_fault (definitions_of windows.items lateness every disorder) ≡ None) }
+        ensures refused { IfErr result
+            (λ fault. limit_fault (definitions_of windows.items lateness every disorder)
+            ≡ Some fault) }
     {
         if windows.is_empty() || windows.len() > WINDOWS_MAX {
             return Err(LimitFault::Many);

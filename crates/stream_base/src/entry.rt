@@ -29,7 +29,7 @@ impl Entry {
                 time <= TIME_MAX
             }
             What::Water { time } => time <= TIME_MAX,
-            What::End => true,
+            What::Idle | What::End => true,
         }
     }
 }

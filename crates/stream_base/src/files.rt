@@ -36,8 +36,10 @@ pub trait Files {
         requires { 1 ≤ out self.old }
         ensures one_less { out self.new + 1 ≡ out self.old }
         ensures opens { failed_opens self.new ≡ failed_opens self.old }
-        ensures failed { 0 < Self.Input.faults source → Rose (failed_reads self.old) (failed_reads self.new) }
-        ensures quiet { Self.Input.faults source ≡ 0 → failed_reads self.new ≡ failed_reads self.old }
+        ensures failed { 0 < Self.Input.faults source
+            → Rose (failed_reads self.old) (failed_reads self.new) }
+        ensures quiet { Self.Input.faults source ≡ 0
+            → failed_reads self.new ≡ failed_reads self.old }
         ensures never_falls { failed_reads self.old ≤ failed_reads self.new }
         ensures same { (which : List ℕ) → told self.new which ≡ told self.old which };
 }

@@ -16,7 +16,7 @@ use std::marker::Model;
 /// contract sees a key as the list of its bytes.
 pub struct KeyText {
     cells: [u8; KEY_MAX],
-    len: usize,
+    len: u8,
 }
 
 impl Model for KeyText {
@@ -59,7 +59,7 @@ impl KeyText {
         }
         Ok(KeyText {
             cells: padded(bytes),
-            len: bytes.len(),
+            len: bytes.len() as u8,
         })
     }
 
@@ -68,7 +68,7 @@ impl KeyText {
         ensures value { result.now ≡ self.now }
         ensures valid { IsKey self.now }
     {
-        &self.cells[..self.len]
+        &self.cells[..self.len as usize]
     }
 }
 

@@ -27,7 +27,13 @@ impl<'a> Model for MemFiles<'a> {
 
     ghost Value = { Shelved };
 
-    ghost view = { λ s. record { files = map filed s.files.now; piece = s.piece; failed_opens = s.failed_opens; failed_reads = s.failed_reads; out = s.out } };
+    ghost view = { λ s. record {
+      files = map filed s.files.now;
+      piece = s.piece;
+      failed_opens = s.failed_opens;
+      failed_reads = s.failed_reads;
+      out = s.out;
+    } };
 
     ghost invariant = { λ s. 1 ≤ s.piece };
 }
@@ -36,7 +42,14 @@ impl<'a> MemFiles<'a> {
     /// These files, each read giving at most `piece` bytes.
     pub fn new(files: &'a [MemFile], piece: u64) -> MemFiles<'a>
         requires { 1 ≤ piece }
-        ensures { result ≡ record { files = map filed files.now; piece = piece; failed_opens = 0; failed_reads = 0; out = 0 } }
+        ensures { result
+            ≡ record {
+              files = map filed files.now;
+              piece = piece;
+              failed_opens = 0;
+              failed_reads = 0;
+              out = 0;
+            } }
     {
         MemFiles {
             files,
@@ -81,7 +94,8 @@ impl<'a> Files for MemFiles<'a> {
 }
 
 fn first_named<'a>(files: &'a [MemFile], name: &str) -> Option<&'a MemFile>
-    ensures { option_map filed (option_copied result) ≡ find (is_named name.now) (map filed files.now) }
+    ensures { option_map filed (option_copied result)
+        ≡ find (is_named name.now) (map filed files.now) }
 {
     for file in files {
         if file.name.as_str() == name {

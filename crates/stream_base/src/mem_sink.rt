@@ -25,7 +25,14 @@ impl Model for MemSink {
 
     ghost Value = { Gathered };
 
-    ghost view = { λ s. record { bytes = s.bytes.items; room = s.room; failing = s.failing.items; calls = s.calls; faults = s.faults; piece = s.piece } };
+    ghost view = { λ s. record {
+      bytes = s.bytes.items;
+      room = s.room;
+      failing = s.failing.items;
+      calls = s.calls;
+      faults = s.faults;
+      piece = s.piece;
+    } };
 
     ghost invariant = { λ s. (1 ≤ s.piece) × (vec_len s.bytes + s.room ≤ vec_capacity s.bytes) };
 }
@@ -34,7 +41,16 @@ impl MemSink {
     /// An empty sink with room for `room` bytes, all of it taken from memory here.
     pub fn new(alloc: Global, room: u64, failing: Vec<u64>, piece: u64) -> Result<MemSink, NoMemory>
         requires { 1 ≤ piece }
-        ensures { IfOk result (λ sink. sink ≡ record { bytes = []; room = room; failing = failing.items; calls = 0; faults = 0; piece = piece }) }
+        ensures { IfOk result
+            (λ sink. sink
+            ≡ record {
+              bytes = [];
+              room = room;
+              failing = failing.items;
+              calls = 0;
+              faults = 0;
+              piece = piece;
+            }) }
     {
         Ok(MemSink {
             bytes: Vec::with_capacity(alloc, room as usize)?,

@@ -21,7 +21,13 @@ impl<'a> Model for MemSource<'a> {
 
     ghost Value = { Served };
 
-    ghost view = { λ s. record { left = s.left.now; failing = s.failing.now; calls = s.calls; faults = s.faults; piece = s.piece } };
+    ghost view = { λ s. record {
+      left = s.left.now;
+      failing = s.failing.now;
+      calls = s.calls;
+      faults = s.faults;
+      piece = s.piece;
+    } };
 
     ghost invariant = { λ s. 1 ≤ s.piece };
 }
@@ -30,7 +36,14 @@ impl<'a> MemSource<'a> {
     /// A source that gives these bytes.
     pub fn new(bytes: &'a [u8], failing: &'a [u64], piece: u64) -> MemSource<'a>
         requires { 1 ≤ piece }
-        ensures { result ≡ record { left = bytes.now; failing = failing.now; calls = 0; faults = 0; piece = piece } }
+        ensures { result
+            ≡ record {
+              left = bytes.now;
+              failing = failing.now;
+              calls = 0;
+              faults = 0;
+              piece = piece;
+            } }
     {
         MemSource {
             left: bytes,

@@ -16,7 +16,8 @@ pub trait Sink {
     fn write(&mut self, bytes: &[u8]) -> Result<usize, Failed>
         ensures within { IfOk result (λ n. n ≤ length bytes.now) }
         ensures some { 0 < length bytes.now → IfOk result (λ n. 1 ≤ n) }
-        ensures appended { IfOk result (λ n. written self.new ≡ with_back (take n bytes.now) (written self.old)) }
+        ensures appended { IfOk result
+            (λ n. written self.new ≡ with_back (take n bytes.now) (written self.old)) }
         ensures quiet { OnOk result (faults self.new ≡ faults self.old) }
         ensures failed { OnErr result (Rose (faults self.old) (faults self.new)) }
         ensures kept { OnErr result (written self.new ≡ written self.old) }

@@ -28,8 +28,10 @@ pub trait Source {
     /// buffer are the end of the source. A failed read takes nothing away.
     fn read(&mut self, buf: &mut [u8]) -> Result<usize, Failed>
         ensures within { IfOk result (λ n. n ≤ length buf.old) }
-        ensures given { IfOk result (λ n. rest self.old ≡ with_front (take n buf.new) (rest self.new)) }
-        ensures ends { IfOk result (λ n. n ≡ 0 → 0 < length buf.old → IfSome (rest self.old) (λ bytes. bytes ≡ [])) }
+        ensures given { IfOk result
+            (λ n. rest self.old ≡ with_front (take n buf.new) (rest self.new)) }
+        ensures ends { IfOk result
+            (λ n. n ≡ 0 → 0 < length buf.old → IfSome (rest self.old) (λ bytes. bytes ≡ [])) }
         ensures quiet { OnOk result (faults self.new ≡ faults self.old) }
         ensures failed { OnErr result (Rose (faults self.old) (faults self.new)) }
         ensures kept { OnErr result (rest self.new ≡ rest self.old) }

@@ -9,6 +9,8 @@ pub enum What {
     Mark { key: KeyText, time: u64 },
     /// The source's watermark: it has told all that it has before this time.
     Water { time: u64 },
+    /// The source is idle: until it says something of its watermark again, it holds no other back.
+    Idle,
     /// The end of the source.
     End,
 }

@@ -1,4 +1,3 @@
-pub mod CutFacts
 pub mod TableFacts
 pub mod WindowFacts
 pub mod ReadingFacts

@@ -1,6 +1,5 @@
-ghost use Rattle.std.specs.Prelude.{◌≡◌, ◌≤◌, ◌↔◌, ℕ, [], IsTrue};
+ghost use Rattle.std.specs.Prelude.{◌≡◌, ◌≤◌, ◌↔◌, [], IsTrue};
 ghost use Rattle.std.specs.List.{Any};
-ghost use Rattle.stream_base.specs.declared.kind.Kind.{Kind};
 ghost use Rattle.stream_base.specs.Limits.{IsKindWithin};
 ghost use Rattle.stream_base.specs.Model.Cuts.{CutsBetween, cuts_between, has_cut, bounds_up_to, has_bound};
 
@@ -19,12 +18,6 @@ pub fn cut_between(defs: &Defs, low: u64, high: u64) -> bool
         .iter()
         .any(|window| cuts(&window.kind, low, high))
 }
-
-/// A law: for a kind within its limits, the counts of starts and ends up to two times differ exactly
-/// where one of them lies after the first and at or before the second.
-pub fn cuts_between_decides()
-    ensures decides { (kind : Kind) (low high : ℕ) → IsKindWithin kind → IsTrue (cuts_between kind low high) ↔ CutsBetween kind low high }
-{}
 
 fn cuts(kind: &Kind, low: u64, high: u64) -> bool
     requires kind { IsKindWithin kind.now }

@@ -16,7 +16,7 @@ mod table;
 mod top;
 mod window;
 
-pub use cut::{cut_between, cuts_between_decides};
+pub use cut::cut_between;
 pub use defs_fault::DefsFault;
 pub use read::{BYTES_MAX, read_defs};
 pub use window::first_in_trouble_is_named;

@@ -24,7 +24,8 @@ pub const BYTES_MAX: usize = 1_048_576;
 pub fn read_defs(alloc: Global, bytes: &[u8]) -> Result<Defs, DefsFault>
     ensures ok { IfOk result (λ defs. reading_of bytes.now ≡ Ok defs) }
     // A fault for another cause than memory is the one that the bytes have.
-    ensures refused { IfErr result (λ fault. ¬ (fault ≡ NoMemory) → reading_of bytes.now ≡ Err fault) }
+    ensures refused { IfErr result (λ fault. ¬ (fault ≡ NoMemory)
+        → reading_of bytes.now ≡ Err fault) }
     // Want of memory is never in the bytes.
     ensures memory { ¬ (reading_of bytes.now ≡ Err NoMemory) }
 {

@@ -8,7 +8,8 @@ ghost use Rattle.window_defs.specs.Tables.{text_at, integer_at, integer_or_zero,
 use toml::{Table, Value};
 
 fn at<'a>(table: &'a Table, key: &str) -> Option<&'a Value>
-    ensures { option_map (λ value. view value.now) result ≡ get_member key.now (table_view table.now) }
+    ensures { option_map (λ value. view value.now) result
+        ≡ get_member key.now (table_view table.now) }
 {
     table.get(key)
 }
@@ -40,7 +41,8 @@ pub fn integer_or_zero(table: &Table, key: &str) -> Option<i64>
 /// The elements of the array at a key.
 #[tactic(auto, using(crate::proofs::TableFacts::elements_of_items))]
 pub fn array_at<'a>(table: &'a Table, key: &str) -> Option<&'a [Value]>
-    ensures { option_map (λ values. map view values.now) result ≡ array_at key.now (table_view table.now) }
+    ensures { option_map (λ values. map view values.now) result
+        ≡ array_at key.now (table_view table.now) }
 {
     let values = at(table, key)?.as_array()?;
     Some(values.as_slice())

@@ -33,7 +33,8 @@ pub fn windows_of(alloc: Global, values: &[Value]) -> Result<Vec<Def>, DefsFault
 /// A law: the elements are refused with a fault exactly where it is the fault of an element in trouble
 /// and no element before that one is in trouble.
 pub fn first_in_trouble_is_named()
-    ensures named { (elements : List Data) (fault : DefsFault) → (windows_from 0 elements ≡ Err fault) ↔ IsOfFirstInTrouble elements fault }
+    ensures named { (elements : List Data) (fault : DefsFault)
+        → (windows_from 0 elements ≡ Err fault) ↔ IsOfFirstInTrouble elements fault }
 {}
 
 fn window_at(i: u32, value: &Value) -> Result<Def, DefsFault>

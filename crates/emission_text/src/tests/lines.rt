@@ -1,8 +1,9 @@
 use crate::change_line::put_change;
 use crate::entry_line::put_entry;
 use crate::pending::Pending;
+use crate::report_form::ReportForm;
 use std::test::Fail;
-use stream_base::{Change, Entry, FINAL, KeyText, MemSink, Row, Shown, TIME_MAX, What};
+use stream_base::{Change, Entry, FINAL, Former, KeyText, MemSink, Row, Shown, TIME_MAX, What};
 
 fn row(key: KeyText, high: u64, number: u64, shown: Shown) -> Row {
     Row {
@@ -56,6 +57,7 @@ fn entries_have_their_lines(rt: HostRuntime) -> Result<(), Fail> {
             "j 1 m 12 new york\n",
         ),
         (2, What::Water { time: 0 }, "j 2 w 0\n"),
+        (4, What::Idle, "j 4 i\n"),
         (15, What::End, "j 15 e\n"),
     ];
     for (source, what, line) in &lines {
@@ -72,53 +74,46 @@ fn entries_have_their_lines(rt: HostRuntime) -> Result<(), Fail> {
     Ok(())
 }
 
+// Whether a change has this line in a form.
+fn has_line(rt: &HostRuntime, form: ReportForm, change: &Change, line: &str) -> Result<bool, Fail> {
+    let mut sink = MemSink::new(rt.alloc(), 200, Vec::new(rt.alloc()), 8)?;
+    let mut out = Pending::new();
+    put_change(form, change, &mut out, &mut sink)?;
+    out.flush(&mut sink)?;
+    Ok(sink.bytes() == line.as_bytes())
+}
+
 #[test]
-fn changes_have_their_lines(rt: HostRuntime) -> Result<(), Fail> {
+fn changes_have_their_lines_in_both_forms(rt: HostRuntime) -> Result<(), Fail> {
     let a = KeyText::from_bytes(b"a")?;
     let comma = KeyText::from_bytes(b"a,b")?;
+    let least = row(comma, FINAL, u64::MAX, Shown::Whole(i128::MIN));
+    let mean = row(a, 5, 2, Shown::Ratio { sum: -7, count: 2 });
+    let former = Former {
+        number: 1,
+        shown: Shown::Ratio { sum: 3, count: 1 },
+    };
     let lines = [
         (
-            Change::New(row(a, 10, 2, Shown::Whole(12))),
-            "+ 31 0 10 2 12 a\n",
-        ),
-        (
-            Change::Again(row(comma, FINAL, u64::MAX, Shown::Whole(i128::MIN))),
-            "~ 31 0 end 18446744073709551615 -170141183460469231731687303715884105728 a,b\n",
-        ),
-        (
-            Change::New(row(a, FINAL - 1, 1, Shown::Whole(i128::MAX))),
-            "+ 31 0 4611686018427387903 1 170141183460469231731687303715884105727 a\n",
-        ),
-        (
-            Change::New(row(a, 5, 2, Shown::Ratio { sum: -7, count: 2 })),
+            Change::New(mean),
+            "+ 31 0 5 2 -7/2 a\n",
             "+ 31 0 5 2 -7/2 a\n",
         ),
         (
-            Change::Gone {
-                window: 0,
-                key: comma,
-                low: 3,
-                high: FINAL,
-            },
-            "- 0 3 end a,b\n",
+            Change::Again { row: mean, former },
+            "~ 31 0 5 2 -7/2 a\n",
+            "~ 31 0 5 2 -7/2 1 3/1 a\n",
         ),
         (
-            Change::Gone {
-                window: 1,
-                key: a,
-                low: 0,
-                high: 10,
-            },
-            "- 1 0 10 a\n",
+            Change::Gone(least),
+            "- 31 0 end a,b\n",
+            "- 31 0 end 18446744073709551615 -170141183460469231731687303715884105728 a,b\n",
         ),
-        (Change::Dropped, "x\n"),
+        (Change::Dropped, "x\n", "x\n"),
     ];
-    for (change, line) in &lines {
-        let mut sink = MemSink::new(rt.alloc(), 200, Vec::new(rt.alloc()), 8)?;
-        let mut out = Pending::new();
-        put_change(change, &mut out, &mut sink)?;
-        out.flush(&mut sink)?;
-        assert_eq!(rt; sink.bytes(), line.as_bytes(), "{line}");
+    for (change, one, two) in &lines {
+        assert!(rt; has_line(&rt, ReportForm::One, change, one)?, "{one}");
+        assert!(rt; has_line(&rt, ReportForm::Two, change, two)?, "{two}");
     }
     Ok(())
 }

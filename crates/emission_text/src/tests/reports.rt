@@ -116,7 +116,7 @@ fn a_report_has_each_shard_with_its_entries_and_their_changes(rt: HostRuntime) -
 }
 
 #[test]
-fn where_a_write_fails_a_front_of_the_report_went_out(rt: HostRuntime) -> Result<(), Fail> {
+fn where_a_write_fails_a_prefix_of_the_report_went_out(rt: HostRuntime) -> Result<(), Fail> {
     let shards = two_shards(&rt, rt.alloc())?;
     let pieces = REPORT.len().div_ceil(8) as u64;
     for failing in 0..pieces {
@@ -124,8 +124,8 @@ fn where_a_write_fails_a_front_of_the_report_went_out(rt: HostRuntime) -> Result
         let mut sink = MemSink::new(rt.alloc(), 1_000, failing_calls, 8)?;
         let written = write_report(&shards, &mut sink);
         assert!(rt; written.is_err(), "write {failing}");
-        let front = (8 * failing) as usize;
-        assert_eq!(rt; sink.bytes(), &REPORT[..front], "write {failing}");
+        let count = (8 * failing) as usize;
+        assert_eq!(rt; sink.bytes(), &REPORT[..count], "write {failing}");
     }
     Ok(())
 }

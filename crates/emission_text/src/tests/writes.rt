@@ -6,15 +6,15 @@ use stream_base::MemSink;
 const LINE: &[u8] = b"fault full shard 12\n";
 
 #[test]
-fn where_a_write_fails_the_front_before_it_went_out(rt: HostRuntime) -> Result<(), Fail> {
+fn where_a_write_fails_the_prefix_before_it_went_out(rt: HostRuntime) -> Result<(), Fail> {
     for (piece, writes) in [(1u64, 20u64), (8, 3), (20, 1)] {
         for failing in 0..writes {
             let failing_calls = vec![in rt.alloc(); failing]?;
             let mut sink = MemSink::new(rt.alloc(), 40, failing_calls, piece)?;
             let written = write_fault(&Fault::FullShard { shard: 12 }, &mut sink);
             assert_eq!(rt; written, Err(SinkFault::Write), "write {failing}");
-            let front = (piece * failing) as usize;
-            assert_eq!(rt; sink.bytes(), &LINE[..front], "write {failing}");
+            let count = (piece * failing) as usize;
+            assert_eq!(rt; sink.bytes(), &LINE[..count], "write {failing}");
         }
         let failing_calls = vec![in rt.alloc(); writes]?;
         let mut sink = MemSink::new(rt.alloc(), 40, failing_calls, piece)?;

@@ -7,11 +7,14 @@ use Rattle.stream_base.specs.declared.change.Change.{Change}
 use Rattle.stream_base.specs.declared.change.Change.TheVariants.{Gone, New, Again, Dropped}
 use Rattle.stream_base.specs.declared.def.Def.{Def}
 use Rattle.stream_base.specs.declared.entry.Entry.{Entry}
+use Rattle.stream_base.specs.declared.former.Former.{Former}
 use Rattle.stream_base.specs.declared.func.Func.{Func}
 use Rattle.stream_base.specs.declared.kept.Kept.{Kept}
 use Rattle.stream_base.specs.declared.row.Row.{Row}
 use Rattle.stream_base.specs.Model.Functions.{shown_of}
-use Rattle.stream_base.specs.Model.Journal.{is_late, keys_of, kept_of, marks_of, water_of}
+use Rattle.stream_base.specs.Model.Journal.{keys_of, kept_of, marks_of}
+use Rattle.stream_base.specs.Model.Watermark.{water_of}
+use Rattle.stream_base.specs.Model.What.{is_late}
 use Rattle.stream_base.specs.Model.Windows.{Instance, standing_of}
 
 -- the row of an instance: its window's index, the key, its start and end, how many tuples it selects, and what the window's function shows of their values in event order
@@ -25,6 +28,10 @@ row_of window key func i = record {
   shown = shown_of func (map (λ x. x.value) i.chosen);
 }
 
+-- what stood of an instance: how many tuples it selected, and what the window's function showed
+abbrev pub former_of : Func → Instance → Former
+former_of func i = record { number = length i.chosen; shown = shown_of func (map (λ x. x.value) i.chosen) }
+
 -- two instances of one window and key are the same where they start and end alike
 abbrev pub is_same : Instance → Instance → Bool
 is_same i j = (i.low == j.low) && (i.high == j.high)
@@ -36,16 +43,16 @@ are_same_tuples [] (y ∷ ys) = false
 are_same_tuples (x ∷ xs) [] = false
 are_same_tuples (x ∷ xs) (y ∷ ys) = (x.position == y.position) && are_same_tuples xs ys
 
--- an instance that stood stands no longer: it is retracted
-abbrev pub retraction : ℕ → List ℕ → List Instance → Instance → Option Change
-retraction window key now i =
-    if list_any (is_same i) now then None else Some (Gone window key i.low i.high)
+-- an instance that stood stands no longer: it is retracted, with the row that stood
+abbrev pub retraction : ℕ → List ℕ → Func → List Instance → Instance → Option Change
+retraction window key func now i =
+    if list_any (is_same i) now then None else Some (Gone (row_of window key func i))
 
--- an instance that stands is emitted where it newly stands, and updated where it stood and now selects other tuples
+-- an instance that stands is emitted where it newly stands, and updated where it stood and now selects other tuples: then with what stood
 abbrev pub emitted : ℕ → List ℕ → Func → Instance → Option Instance → Option Change
 emitted window key func i None = Some (New (row_of window key func i))
 emitted window key func i (Some old) =
-    if are_same_tuples old.chosen i.chosen then None else Some (Again (row_of window key func i))
+    if are_same_tuples old.chosen i.chosen then None else Some (Again (row_of window key func i) (former_of func old))
 
 -- what becomes of an instance that stands, given what stood before
 abbrev pub emission : ℕ → List ℕ → Func → List Instance → Instance → Option Change
@@ -64,7 +71,7 @@ standing_at def m = standing_of def.kind m.kept m.marks m.water
 -- the retractions of one window of a key from one moment to the next, by start and end
 abbrev pub retractions : List ℕ → Moment → Moment → ℕ × Def → List Change
 retractions key old new (window, def) =
-    filter_map (retraction window key (standing_at def new)) (standing_at def old)
+    filter_map (retraction window key def.func (standing_at def new)) (standing_at def old)
 
 -- the emissions and updates of one window of a key from one moment to the next, by start and end
 abbrev pub emissions : List ℕ → Moment → Moment → ℕ × Def → List Change

@@ -1,13 +1,12 @@
 -- The journals that are read back from a text.
-use Rattle.std.specs.Prelude.{◌+◌, ◌-◌, ◌*◌, ◌^◌, ◌==◌, ◌&&◌, ℕ, ℤ, pos, negsuc, Bool, true, not, List, [], ◌∷◌, ◌++◌, drop, fold, length, take_while, Option, None, Some, is_none, codes, decimal, if◌then◌else◌, nat_lt, nat_le, int_le}
+use Rattle.std.specs.Prelude.{◌+◌, ◌-◌, ◌*◌, ◌^◌, ◌==◌, ◌&&◌, ℕ, ℤ, pos, negsuc, Bool, not, List, [], ◌∷◌, ◌++◌, drop, fold, length, take_while, Option, None, Some, codes, decimal, if◌then◌else◌, nat_lt}
 use Rattle.std.specs.Option.{option_map_or}
 use Rattle.std.specs.Str.{bytes_eq}
-use Rattle.stream_base.specs.Key.{key_fault}
-use Rattle.stream_base.specs.declared.limits.TheConstants.{TIME_MAX}
 use Rattle.stream_base.specs.declared.entry.Entry.{Entry}
 use Rattle.stream_base.specs.declared.what.What.{What}
-use Rattle.stream_base.specs.declared.what.What.TheVariants.{Tuple, Mark, Water, End}
+use Rattle.stream_base.specs.declared.what.What.TheVariants.{Tuple, Mark, Water, Idle, End}
 use Rattle.stream_base.specs.Model.Text.{line_of, entry_line}
+use Rattle.stream_base.specs.Model.What.{is_what_within}
 
 -- a byte in front of lines: a line feed ends a line, any other byte begins the first of them or joins it
 abbrev pub with_byte : ℕ → List (List ℕ) → List (List ℕ)
@@ -40,6 +39,7 @@ guessed_what kind text =
     if bytes_eq kind (codes "t") then Tuple (after_word (after_word text)) (number_in (word text)) (signed_in (word (after_word text)))
     else if bytes_eq kind (codes "m") then Mark (after_word text) (number_in (word text))
     else if bytes_eq kind (codes "w") then Water (number_in text)
+    else if bytes_eq kind (codes "i") then Idle
     else End
 
 abbrev pub guessed_entry : List ℕ → Entry
@@ -50,21 +50,7 @@ guessed_entry line =
       what = guessed_what (word (after_word fields)) (after_word (after_word fields));
     }
 
--- the bytes are a key; the number is a value of 64 bits
-abbrev pub is_key : List ℕ → Bool
-is_key key = is_none (key_fault key)
-
-abbrev pub is_value : ℤ → Bool
-is_value value = int_le (negsuc (2 ^ 63 - 1)) value && int_le value (pos (2 ^ 63 - 1))
-
--- time, value and key are within their limits
-abbrev pub is_what_within : What → Bool
-is_what_within (Tuple key time value) = nat_le time TIME_MAX && (is_value value && is_key key)
-is_what_within (Mark key time) = nat_le time TIME_MAX && is_key key
-is_what_within (Water time) = nat_le time TIME_MAX
-is_what_within End = true
-
--- and the source is below 2^16
+-- an entry within its limits: what it says is, and its source is below 2^16
 abbrev pub is_entry_within : Entry → Bool
 is_entry_within e = nat_lt e.source (2 ^ 16) && is_what_within e.what
 

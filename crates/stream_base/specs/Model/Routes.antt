@@ -1,8 +1,9 @@
 -- Which shard an entry goes to, and which journals are lawful.
 use Rattle.std.specs.Prelude.{◌≡◌, ◌<◌, ◌+◌, ◌*◌, ◌%◌, ◌^◌, ◌==◌, ℕ, Bool, true, List, length, fold, filter, slice_index_or, []}
+use Rattle.std.specs.Option.{option_map_or}
 use Rattle.stream_base.specs.declared.entry.Entry.{Entry}
 use Rattle.stream_base.specs.declared.what.What.{What}
-use Rattle.stream_base.specs.declared.what.What.TheVariants.{Tuple, Mark, Water, End}
+use Rattle.stream_base.specs.Model.What.{key_in}
 
 -- the number of a key: for each byte in order, 31 times the number before plus the byte, modulo 2^32
 abbrev pub number_of : List ℕ → ℕ
@@ -12,12 +13,9 @@ number_of key = fold (λ number byte. (31 * number + byte) % 2 ^ 32) 0 key
 abbrev pub shard_of : List ℕ → ℕ → ℕ
 shard_of key shards = number_of key % shards
 
--- an entry goes to a shard: a tuple or mark to the shard of its key, a watermark and an end to every shard
+-- an entry goes to a shard: a tuple or mark to the shard of its key, and a word on the progress of its source to every shard
 abbrev pub goes_to : ℕ → ℕ → What → Bool
-goes_to shards k (Tuple key time value) = shard_of key shards == k
-goes_to shards k (Mark key time) = shard_of key shards == k
-goes_to shards k (Water time) = true
-goes_to shards k End = true
+goes_to shards k what = option_map_or (λ key. shard_of key shards == k) (key_in what) true
 
 -- the entries of one source that go to a shard, in the source's order
 abbrev pub routed : ℕ → ℕ → List Entry → List Entry

@@ -7,25 +7,18 @@ use Rattle.stream_base.specs.declared.limits.TheConstants.{FINAL}
 use Rattle.stream_base.specs.declared.change.Change.{Change}
 use Rattle.stream_base.specs.declared.change.Change.TheVariants.{Gone, New, Again, Dropped}
 use Rattle.stream_base.specs.declared.entry.Entry.{Entry}
+use Rattle.stream_base.specs.declared.former.Former.{Former}
 use Rattle.stream_base.specs.declared.row.Row.{Row}
 use Rattle.stream_base.specs.declared.shown.Shown.{Shown}
 use Rattle.stream_base.specs.declared.shown.Shown.TheVariants.{Whole, Ratio}
-use Rattle.stream_base.specs.declared.what.What.{What}
-use Rattle.stream_base.specs.declared.what.What.TheVariants.{Tuple, Mark, Water, End}
 use Rattle.stream_base.specs.Model.Changes.{changes_after}
+use Rattle.stream_base.specs.Model.What.{what_fields}
 
 -- fields with one space between each two, and a line feed behind them
 abbrev pub line_of : List (List ℕ) → List ℕ
 line_of [] = 10 ∷ []
 line_of (field ∷ []) = field ++ 10 ∷ []
 line_of (field ∷ next ∷ fields) = field ++ (32 ∷ line_of (next ∷ fields))
-
--- the fields of an entry
-abbrev pub what_fields : What → List (List ℕ)
-what_fields (Tuple key time value) = codes "t" ∷ decimal time ∷ signed_decimal value ∷ key ∷ []
-what_fields (Mark key time) = codes "m" ∷ decimal time ∷ key ∷ []
-what_fields (Water time) = codes "w" ∷ decimal time ∷ []
-what_fields End = codes "e" ∷ []
 
 -- the journal line of an entry
 abbrev pub entry_line : Entry → List ℕ
@@ -44,16 +37,40 @@ end_text high = if high == FINAL then codes "end" else decimal high
 abbrev pub row_fields : Row → List (List ℕ)
 row_fields row = decimal row.window ∷ decimal row.low ∷ end_text row.high ∷ decimal row.number ∷ shown_text row.shown ∷ row.key ∷ []
 
--- the line of a change
+-- the line of a change in report 1, which leaves out what stood before
 abbrev pub change_line : Change → List ℕ
-change_line (Gone window key low high) = line_of (codes "-" ∷ decimal window ∷ decimal low ∷ end_text high ∷ key ∷ [])
+change_line (Gone row) = line_of (codes "-" ∷ decimal row.window ∷ decimal row.low ∷ end_text row.high ∷ row.key ∷ [])
 change_line (New row) = line_of (codes "+" ∷ row_fields row)
-change_line (Again row) = line_of (codes "~" ∷ row_fields row)
+change_line (Again row former) = line_of (codes "~" ∷ row_fields row)
 change_line Dropped = line_of (codes "x" ∷ [])
 
--- the lines of changes
-abbrev pub change_lines : List Change → List ℕ
-change_lines changes = flat_map change_line changes
+-- the fields of an updated row, with the number and value that stood, the key last
+abbrev pub updated_fields : Row → Former → List (List ℕ)
+updated_fields row former =
+    decimal row.window ∷ decimal row.low ∷ end_text row.high ∷ decimal row.number ∷ shown_text row.shown
+    ∷ decimal former.number ∷ shown_text former.shown ∷ row.key ∷ []
+
+-- the line of a change in report 2, with what stood before
+abbrev pub change_line_2 : Change → List ℕ
+change_line_2 (Gone row) = line_of (codes "-" ∷ row_fields row)
+change_line_2 (New row) = line_of (codes "+" ∷ row_fields row)
+change_line_2 (Again row former) = line_of (codes "~" ∷ updated_fields row former)
+change_line_2 Dropped = line_of (codes "x" ∷ [])
+
+-- a form of the report: the lines in front of all shards, and the line of a change
+pub record Form : Type 0 where
+  pub front : List ℕ
+  pub line : Change → List ℕ
+
+abbrev pub report_1 : Form
+report_1 = record { front = []; line = change_line }
+
+abbrev pub report_2 : Form
+report_2 = record { front = codes "report 2\n"; line = change_line_2 }
+
+-- the lines of changes in a form
+abbrev pub change_lines : Form → List Change → List ℕ
+change_lines form changes = flat_map form.line changes
 
 -- the lines of the entries behind `before`: each entry's own, and what stands under it
 abbrev pub journal_lines : (List Entry → Entry → List ℕ) → List Entry → List Entry → List ℕ
@@ -71,9 +88,9 @@ abbrev pub text_of : (List Entry → Entry → List ℕ) → List (List Entry) �
 text_of under journals = shard_lines under 0 journals ++ codes "end\n"
 
 -- the lines of the changes under an entry
-abbrev pub changes_under : Definitions → ℕ → List Entry → Entry → List ℕ
-changes_under d sources before entry = change_lines (changes_after d sources before entry)
+abbrev pub changes_under : Form → Definitions → ℕ → List Entry → Entry → List ℕ
+changes_under form d sources before entry = change_lines form (changes_after d sources before entry)
 
--- the report of journals: under each entry stand its changes
-unfoldable pub report_of : Definitions → ℕ → List (List Entry) → List ℕ
-report_of d sources journals = text_of (changes_under d sources) journals
+-- the report of journals in a form: under each entry stand its changes
+unfoldable pub report_of : Form → Definitions → ℕ → List (List Entry) → List ℕ
+report_of form d sources journals = form.front ++ text_of (changes_under form d sources) journals

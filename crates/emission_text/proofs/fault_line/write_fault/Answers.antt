@@ -1,7 +1,6 @@
--- What was left of the line failed.
-use Rattle.std.proofs.lemmas.Result.{on_err_weaker}
-use Rattle.emission_text.proofs.Sent.{front-then}
+-- What was left of the line goes out.
+use Rattle.emission_text.proofs.Sent.{put_then_flushed}
 use Rattle.emission_text.proofs.fault_line.write_fault.Goals as goal
 
-pub returns-clause-refused : goal.returns-clause-refused
-returns-clause-refused g c = on_err_weaker c.flush.result (front-then (rw c.new-out.ensures at c.in_ok-put_fault.ensures.added)) c.flush.ensures.refused
+pub returns : goal.returns
+returns g c = put_then_flushed c.flush.new.sink c.flush.result (rw c.new-out.ensures at c.in_ok-put_fault.ensures) c.flush.ensures.writes

@@ -1,10 +1,12 @@
 -- What stops the reading of the definitions is told by the bytes that were read and by the counts.
-use Rattle.std.proofs.Common.{◌≡◌, ◌<◌, ◌+◌, ℕ, List, Option, length, subst}
+use Rattle.std.proofs.Common.{◌≡◌, ◌<◌, ℕ, List, Option, subst}
 use Rattle.std.specs.Prelude.{IfOk, IsErrOf}
+use Rattle.source_feed.specs.Whole.{PassesLimit}
 use Rattle.source_feed.specs.declared.whole_fault.WholeFault.TheVariants.{Read, TooLong}
 use Rattle.window_defs.specs.declared.read.TheConstants.{BYTES_MAX}
 use Rattle.stream_base.specs.Outside.{Rose, with_front}
-use Rattle.scotty_cli.specs.Causes.{Counts, StopsAtDefs, StopsAtReading}
+use Rattle.scotty_cli.specs.Causes.{StopsAtDefs, StopsAtReading}
+use Rattle.scotty_cli.specs.Outside.{counts_of}
 use Rattle.scotty_cli.proofs.Told.{if_err, stops_at_reading}
 use Rattle.scotty_cli.proofs.definitions.read_definitions.Goals as goal
 
@@ -16,9 +18,9 @@ returns-in-Ok-clause-stopped g c =
     let left = g.F.Input.Source.rest read.new.source in
     let faults = g.F.Input.Source.faults read.new.source in
     let from : g.F.Input.Source.rest c.in-Ok.source ≡ told = c.in-Ok.ensures.content in
-    let counts : Counts = record { opens = record { before = f.failed_opens c.args.files.now; after = f.failed_opens c.give_back.new.self }; reads = record { before = f.failed_reads c.args.files.now; after = f.failed_reads c.give_back.new.self } } in
+    let counts = counts_of f.failed_opens f.failed_reads c.args.files.now c.give_back.new.self in
     let whole = subst (λ (o : Option (List ℕ)). IfOk read.result (λ b. o ≡ with_front b.items left)) from read.ensures.whole in
-    let long = subst (λ (o : Option (List ℕ)). IsErrOf read.result TooLong → (taken : List ℕ) × (length taken ≡ BYTES_MAX + 1) × (o ≡ with_front taken left)) from read.ensures.too_long in
+    let long = subst (λ (o : Option (List ℕ)). IsErrOf read.result TooLong → PassesLimit BYTES_MAX o left) from read.ensures.too_long in
     let failed = subst (λ (n : ℕ). IsErrOf read.result Read → Rose n faults) c.in-Ok.ensures.fresh read.ensures.read in
     let rose = subst (λ (n : ℕ). 0 < faults → Rose n counts.reads.after) c.in-Ok.ensures.reads c.give_back.ensures.failed in
     if_err c.accept.result (StopsAtReading read.result) (StopsAtDefs told counts) c.accept.ensures.stopped

@@ -1,13 +1,13 @@
-use Rattle.std.proofs.Common.{◌≡◌, length, codes, string_bytes, ◌-◌, arith, drop, take, Global}
+use Rattle.std.proofs.Common.{◌≡◌, length, string_bytes, ◌-◌, arith, drop, take, Global}
 use Rattle.std.proofs.lemmas.Grind.{common_steps}
-use Rattle.scotty_cli.specs.Words.{IsName, IsNumberWithin, IsWay}
+use Rattle.scotty_cli.specs.Words.{IsName, IsNumberWithin, IsRunWord, IsWay}
 use Rattle.scotty_cli.proofs.WordFacts.{four_up, run_words, run_sources, take-all_of}
 use Rattle.scotty_cli.proofs.words.is_run.Goals as goal
 
 pub returns-then-is_way : goal.returns-then-is_way
 returns-then-is_way c =
     let spelled = four_up (string_bytes {Z = Global}) c.args.words.now c.run-item.result c.defs-item.result c.shards-item.result c.way-item.result (omega arith) c.run-item.is c.defs-item.is c.shards-item.is c.way-item.is in
-    let run : string_bytes c.run-item.result ≡ codes "run" = grind (arith, common_steps) in
+    let run : IsRunWord (string_bytes c.run-item.result) = grind (arith, common_steps) in
     let defs : IsName (string_bytes c.defs-item.result) = grind (arith, common_steps) in
     let shards : IsNumberWithin 1 16 (string_bytes c.shards-item.result) = grind (arith, common_steps) in
     let way : IsWay (string_bytes c.way-item.result) = grind (arith, common_steps) in

@@ -6,7 +6,7 @@ use Rattle.std.proofs.lemmas.Iterator.{YieldsList-from_slice}
 use Rattle.std.proofs.lemmas.Iterator.Search.{any_from_yields_List}
 use Rattle.stream_base.specs.declared.def.Def.{Def}
 use Rattle.stream_base.specs.Model.Cuts.{cuts_between}
-use Rattle.window_defs.proofs.CutFacts.{any_decides}
+use Rattle.stream_base.proofs.CutFacts.{any_decides}
 use Rattle.window_defs.proofs.cut.cut_between.Goals as goal
 
 any_cuts : (c : goal.After-any) → c.any.result ≡ list_any (λ w. cuts_between w.kind c.args.low c.args.high) c.args.defs.now.windows

@@ -1,13 +1,9 @@
 -- What was pending goes out, and then the bytes.
-use Rattle.emission_text.proofs.Sent.{on-err, flushed-then, flushed-failed, front-before}
-use Rattle.std.proofs.lemmas.Result.{on_ok_weaker, on_err_weaker}
+use Rattle.emission_text.proofs.Sent.{fails_before, flushed_then, put_failed}
 use Rattle.emission_text.proofs.pending.Pending.add.Goals as goal
 
-pub returns-in_err-flush-clause-refused : goal.returns-in_err-flush-clause-refused
-returns-in_err-flush-clause-refused g c = on-err c.from_residual.result (front-before c.args.bytes.now c.in_err-flush.ensures.refused)
+pub returns-in_err-flush : goal.returns-in_err-flush
+returns-in_err-flush g c = put_failed c.args.bytes.now c.args.self.now c.flush.new.self c.flush.new.sink c.from_residual.result c.from_residual.ensures.0 (fails_before c.args.bytes.now c.in_err-flush.ensures.writes)
 
-pub returns-clause-added : goal.returns-clause-added
-returns-clause-added g c = on_ok_weaker c.keep_or_write.result (flushed-then c.args.self.now c.args.bytes.now c.in_ok-flush.ensures.written) c.keep_or_write.ensures.added
-
-pub returns-clause-refused : goal.returns-clause-refused
-returns-clause-refused g c = on_err_weaker c.keep_or_write.result (flushed-failed c.args.self.now c.args.bytes.now c.in_ok-flush.ensures.written) c.keep_or_write.ensures.refused
+pub returns : goal.returns
+returns g c = flushed_then c.args.self.now c.args.bytes.now c.keep_or_write.new.self c.keep_or_write.new.sink c.keep_or_write.result c.in_ok-flush.ensures.writes c.keep_or_write.ensures

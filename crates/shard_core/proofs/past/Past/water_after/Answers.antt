@@ -1,19 +1,14 @@
--- The entry raises its source's watermark in a copy, whose least is the new watermark.
-use Rattle.std.proofs.Common.{◌≡◌, ◌∙◌, ◌<◌, ap, get_or, length, min, set}
-use Rattle.std.specs.List.{fold}
-use Rattle.stream_base.specs.declared.limits.TheConstants.{FINAL}
-use Rattle.stream_base.specs.Model.Journal.{water_of, waters_of}
-use Rattle.shard_core.specs.Past.{raised}
-use Rattle.shard_core.proofs.Waters.{waters_raised}
+-- A tuple or mark leaves the watermark, and all entries are within their limits.
+use Rattle.std.proofs.Common.{◌∙◌, ap, sym, ⊎_elim}
+use Rattle.stream_base.specs.Model.What.{key_in}
+use Rattle.stream_base.proofs.ChangesAfter.{water_of_keyed}
+use Rattle.watermark_table.specs.Watched.{sources_of}
 use Rattle.shard_core.proofs.past.Past.water_after.Goals as goal
 
-pub returns : goal.returns
-unfolding water_of
-returns c =
-    let a = c.self.inside in
+pub returns-in-Tuple : goal.returns-in-Tuple
+returns-in-Tuple c =
+    let J = c.self.inside.journal.items in
+    let n = sources_of c.self.inside.waters in
     let e = c.args.entry.now in
-    let n = length a.waters.items in
-    let copied : c.in_ok-waters.waters.items ≡ waters_of n a.journal.items = c.in_ok-waters.ensures.items ∙ c.deref.ensures.value ∙ c.self.invariant.waters in
-    let source : e.source < n = rw (← c.self.view_is) at c.requires.source in
-    rw (← c.self.view_is)
-    (c.least.ensures.value ∙ ap (fold min FINAL) (c.deref-2.ensures.value ∙ c.raise.ensures ∙ ap (λ ws. set ws e.source (raised (get_or ws e.source 0) e.what)) copied ∙ waters_raised n a.journal.items e c.requires.within source))
+    rw (← c.self.view_is) (c.water.ensures.journal J c.self.invariant.waters
+    ∙ sym (⊎_elim (λ t. water_of_keyed n J e t.0 (ap key_in t.3)) (λ m. water_of_keyed n J e m.0 (ap key_in m.2)) c.in-Tuple.is))

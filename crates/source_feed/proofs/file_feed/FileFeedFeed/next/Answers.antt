@@ -1,10 +1,15 @@
-use Rattle.std.proofs.Common.{ap, sym, ◌∙◌}
-use Rattle.source_feed.specs.Feeding.{Feeding}
-use Rattle.source_feed.specs.FeedState.{reading_of}
-use Rattle.source_feed.proofs.Closing.{whole_unread}
+-- A source that can't be read.
+use Rattle.std.proofs.Common.{Err, subst}
+use Rattle.source_feed.specs.FeedFault.{refusal_of}
+use Rattle.source_feed.specs.FileFeedState.{FileFeedState, feed_state, state_unreadable}
+use Rattle.source_feed.specs.Gives.{Gives}
+use Rattle.source_feed.proofs.Closing.{gives_unreadable}
 use Rattle.source_feed.proofs.file_feed.FileFeedFeed.next.Goals as goal
 
--- what was told before the source was read
-pub returns-in-Err-clause-whole : goal.returns-in-Err-clause-whole
-returns-in-Err-clause-whole g c =
-    whole_unread g.S.Source.rest c.args.self.now (sym (ap (λ (feed : Feeding g.row.S.Denot). feed.reading) c.self.view_is) ∙ ap reading_of c.in-Unread.is)
+pub returns-in-Err-clause-gives : goal.returns-in-Err-clause-gives
+returns-in-Err-clause-gives g c =
+    let a = c.self.inside in
+    let rest = g.S.Source.rest in
+    let fault = c.in-Err.fault in
+    subst (λ (feed : FileFeedState g.row.S.Denot). Gives refusal_of (feed_state rest feed) (Err fault) (state_unreadable a.index fault)) c.self.view_is
+    (rw c.in-Unread.is (gives_unreadable a.index a.every a.disorder (rest a.source) fault c.in-Err.ensures.refused))

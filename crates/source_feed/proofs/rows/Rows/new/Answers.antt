@@ -1,14 +1,15 @@
--- At the start nothing was said before.
+-- At the start there was no event before.
 use Rattle.std.proofs.Common.{Some, None, false, ap}
 use Rattle.csv.specs.Reading.{default_config, records, strip_bom}
-use Rattle.source_feed.specs.Coming.{Coming}
-use Rattle.source_feed.specs.Rows.{said_by}
-use Rattle.source_feed.specs.Told.{Told}
-use Rattle.source_feed.proofs.Made.{told_alike}
+use Rattle.source_feed.specs.Events.{events_of}
+use Rattle.source_feed.specs.FeedState.{FeedState}
+use Rattle.source_feed.specs.Stream.{Stream}
+use Rattle.source_feed.specs.declared.row_fault.RowFault.{RowFault}
+use Rattle.source_feed.proofs.Made.{stream_alike}
 use Rattle.source_feed.proofs.rows.Rows.new.Goals as goal
 
 pub returns : goal.returns
 returns c =
-    let coming : Told → Coming = λ told. record { source = c.args.source; told = Some told; ended = false; answered = None } in
-    rw c.reader_of.ensures.left
-    (ap coming (told_alike c.args.source c.args.every c.args.disorder (said_by (records default_config (strip_bom c.args.bytes.items)))))
+    let state : Stream → FeedState RowFault = λ stream. record { source = c.args.source; ended = false; answered = None; rest = Some stream } in
+    rw (c.start.ensures, c.nothing.ensures, c.reader_of.ensures.left)
+    (ap state (stream_alike c.args.source c.args.every c.args.disorder (events_of (records default_config (strip_bom c.args.bytes.items)))))

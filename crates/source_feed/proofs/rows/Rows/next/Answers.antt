@@ -1,63 +1,63 @@
-use Rattle.std.proofs.Common.{sym, ◌∙◌}
+-- Each answer is the one that the fields say.
+use Rattle.std.proofs.Common.{◌≡◌, ◌<◌, ◌≤◌, ◌+◌, ◌^◌, [], ◌∷◌, Some, subst, sym, ◌∙◌, arith}
+use Rattle.stream_base.specs.declared.limits.TheConstants.{TIME_MAX}
+use Rattle.source_feed.specs.EventsLeft.{TookEventOf}
+use Rattle.source_feed.specs.Pace.{told_by, waiting_of}
 use Rattle.source_feed.specs.RecordsLeft.{records_left, text_left}
-use Rattle.source_feed.specs.SaidLeft.{said_after}
-use Rattle.source_feed.proofs.Closing.{whole_at}
-use Rattle.source_feed.proofs.Giving.{fault_shown, gave_end, gave_what}
+use Rattle.source_feed.specs.RowsView.{AreInner}
+use Rattle.source_feed.proofs.Giving.{IsBounded, bounded_told, gives_end, gives_event, gives_fault, gives_waiting, inner_told, tuples_told}
 use Rattle.source_feed.proofs.rows.Rows.next.Goals as goal
 
--- what the record says was the first entry that was told
-pub returns-in-Ok-Some-clause-given : goal.returns-in-Ok-Some-clause-given
-returns-in-Ok-Some-clause-given c =
-    let took = rw c.in-Ok-Some.field-0-is at c.in-Ok-Some.ensures in
-    rw (← c.self.view_is, c.in-Open.is, c.entry-in-Ok-Some.ensures, c.take_in-self-inside.ensures.pace, c.take_in-self-inside.ensures.made)
-    (gave_what c.self.inside.pace c.self.inside.made
-    (said_after c.self.inside.number (records_left text_left c.self.inside.reader))
-    (said_after c.next_said.new.number (records_left text_left c.next_said.new.reader))
-    c.in-Ok-Some.what (sym c.take.ensures.value ∙ c.in_default.is) took.3)
+-- what waited
+pub returns-in-Some-clause-gives : goal.returns-in-Some-clause-gives
+returns-in-Some-clause-gives c =
+    let a = c.self.inside in
+    let small : a.pace.source < 2 ^ 16 = omega arith in
+    rw (← c.self.view_is, c.entry.ensures)
+    (gives_waiting a.pace (waiting_of a.waiting) (waiting_of c.next.new.self) a.number (records_left text_left a.reader) a.stage c.in-Some.what c.self.invariant.waits c.in-Some.ensures.some small c.self.invariant.waiting)
 
--- no record says the end
-pub returns-in-Ok-Some-clause-end : goal.returns-in-Ok-Some-clause-end
-returns-in-Ok-Some-clause-end c =
+-- an event was read, and is remembered
+pub invariant_of-self-in-Ok-Some : goal.invariant_of-self-in-Ok-Some
+invariant_of-self-in-Ok-Some c =
+    let a = c.self.inside in
+    let told = c.take_in-first.ensures.told in
     let took = rw c.in-Ok-Some.field-0-is at c.in-Ok-Some.ensures in
-    rw (c.in-Open.is, c.entry-in-Ok-Some.ensures) (sym took.2)
+    let bounded : IsBounded a.pace = record { greatest = c.self.invariant.greatest; water = c.self.invariant.water } in
+    let after = bounded_told a.pace c.in-Ok-Some.what bounded took.event in
+    let inner : AreInner (c.take_in-first.result.0 ∷ waiting_of c.take_in-first.result.1) = subst AreInner (sym told) (inner_told a.pace c.in-Ok-Some.what bounded took.event) in
+    let more = tuples_told a.pace c.in-Ok-Some.what in
+    let before : a.pace.tuples ≤ a.number = rw c.in-Open.is at c.self.invariant.tuples in
+    let further : a.number < c.next_event.new.number = took.on.further in
+    rw (c.in-Open.is, c.take_in-first.ensures.pace) (record {
+      readable = took.on.readable;
+      few = took.on.few;
+      tuples = omega arith;
+      waits = tt;
+      greatest = after.greatest;
+      water = after.water;
+      waiting = inner.1;
+    })
 
--- where no record says anything more, the end was told
-pub returns-in-Ok-None-clause-given : goal.returns-in-Ok-None-clause-given
-returns-in-Ok-None-clause-given c =
-    let took = rw c.in-Ok-None.field-0-is at c.in-Ok-None.ensures in
+-- the event of the next record
+pub returns-in-Ok-Some-clause-gives : goal.returns-in-Ok-Some-clause-gives
+returns-in-Ok-Some-clause-gives c =
+    let a = c.self.inside in
+    let small : a.pace.source < 2 ^ 16 = omega arith in
+    let bounded : IsBounded a.pace = record { greatest = c.self.invariant.greatest; water = c.self.invariant.water } in
+    rw (← c.self.view_is, c.in-Open.is, c.entry-in-Ok-Some.ensures, c.take_in-first.ensures.pace)
+    (gives_event text_left a.number c.next_event.new.number a.reader c.next_event.new.reader a.pace (waiting_of a.waiting) (waiting_of c.take_in-first.result.1) c.in-Ok-Some.what c.take_in-first.result.0 c.in_default.ensures.none small bounded c.take_in-first.ensures.told (rw c.in-Ok-Some.field-0-is at c.in-Ok-Some.ensures))
+
+-- no record is left
+pub returns-in-Ok-None-clause-gives : goal.returns-in-Ok-None-clause-gives
+returns-in-Ok-None-clause-gives c =
+    let a = c.self.inside in
+    let small : a.pace.source < 2 ^ 16 = omega arith in
     rw (← c.self.view_is, c.in-Open.is, c.entry-in-Ok-None.ensures)
-    (gave_end c.self.inside.pace c.self.inside.made
-    (said_after c.self.inside.number (records_left text_left c.self.inside.reader))
-    (sym c.take.ensures.value ∙ c.in_default.is) took)
+    (gives_end text_left a.number c.next_event.new.number a.reader c.next_event.new.reader a.pace (waiting_of a.waiting) c.in_default.ensures.none small (rw c.in-Ok-None.field-0-is at c.in-Ok-None.ensures))
 
--- a refusal was told
-pub returns-in-Err-clause-refused : goal.returns-in-Err-clause-refused
-returns-in-Err-clause-refused c =
+-- a fault
+pub returns-in-Err-clause-gives : goal.returns-in-Err-clause-gives
+returns-in-Err-clause-gives c =
+    let a = c.self.inside in
     rw (← c.self.view_is, c.in-Open.is)
-    (fault_shown text_left c.self.inside.number c.next_said.new.number c.self.inside.reader c.next_said.new.reader c.self.inside.pace c.self.inside.made c.in-Err.fault
-    (sym c.take.ensures.value ∙ c.in_default.is) c.in-Err.ensures)
-
--- what was told closes rightly, and so does what is told now
-pub returns-in-Some-clause-whole : goal.returns-in-Some-clause-whole
-returns-in-Some-clause-whole c =
-    rw (← c.self.view_is) (whole_at c.self.inside.pace c.self.inside.made c.self.inside.number (records_left text_left c.self.inside.reader) c.self.inside.stage)
-
-pub returns-in-Some-clause-whole_after : goal.returns-in-Some-clause-whole_after
-returns-in-Some-clause-whole_after c =
-    whole_at c.self.inside.pace c.take.new.self c.self.inside.number (records_left text_left c.self.inside.reader) c.self.inside.stage
-
-pub returns-in-Ok-Some-clause-whole : goal.returns-in-Ok-Some-clause-whole
-returns-in-Ok-Some-clause-whole c =
-    rw (← c.self.view_is) (whole_at c.self.inside.pace c.self.inside.made c.self.inside.number (records_left text_left c.self.inside.reader) c.self.inside.stage)
-
-pub returns-in-Ok-Some-clause-whole_after : goal.returns-in-Ok-Some-clause-whole_after
-returns-in-Ok-Some-clause-whole_after c =
-    whole_at c.take_in-self-inside.new.self c.take_in-self-inside.result c.next_said.new.number (records_left text_left c.next_said.new.reader) c.self.inside.stage
-
-pub returns-in-Ok-None-clause-whole : goal.returns-in-Ok-None-clause-whole
-returns-in-Ok-None-clause-whole c =
-    rw (← c.self.view_is) (whole_at c.self.inside.pace c.self.inside.made c.self.inside.number (records_left text_left c.self.inside.reader) c.self.inside.stage)
-
-pub returns-in-Err-clause-whole : goal.returns-in-Err-clause-whole
-returns-in-Err-clause-whole c =
-    rw (← c.self.view_is) (whole_at c.self.inside.pace c.self.inside.made c.self.inside.number (records_left text_left c.self.inside.reader) c.self.inside.stage)
+    (gives_fault text_left a.number c.next_event.new.number a.reader c.next_event.new.reader a.pace (waiting_of a.waiting) c.in-Err.fault c.in_default.ensures.none c.in-Err.ensures)

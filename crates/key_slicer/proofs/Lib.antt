@@ -1,0 +1,5 @@
+pub mod After
+pub mod Standins
+pub mod Counting
+pub mod Places
+pub mod Keeps

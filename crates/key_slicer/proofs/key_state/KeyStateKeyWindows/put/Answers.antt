@@ -1,0 +1,30 @@
+-- A tuple after the watermark changes nothing, and an earlier one as much as its stand-in.
+use Rattle.std.proofs.Common.{◌≡◌, ◌∙◌, ◌++◌, ◌-◌, ◌<◌, ◌≤◌, [], length, vec_len, ap, sym, subst, append-nil, arith, to_z, of_z, w64}
+use Rattle.std.specs.Prelude.{vec_capacity}
+use Rattle.stream_base.specs.declared.limits.TheConstants.{JOURNAL_MAX}
+use Rattle.stream_base.specs.Model.Changes.{changes_between}
+use Rattle.stream_base.specs.Model.Journal.{put_in_order}
+use Rattle.key_slicer.specs.Calls.{changes_by_put, kept_at, moment}
+use Rattle.key_slicer.proofs.Keeps.{put_count, put_nothing}
+use Rattle.key_slicer.proofs.key_state.KeyStateKeyWindows.put.Goals as goal
+
+pub put_late-requires-clause-spare : goal.put_late-requires-clause-spare
+put_late-requires-clause-spare g c =
+    let d = c.args.defs.now in
+    let s = c.args.self.now in
+    let few : s.next < JOURNAL_MAX = omega (arith, c.requires.position, c.requires.few) in
+    let counted : length (changes_between c.windows-windows.result.now s.key (moment s.kept s.marks c.args.water) (moment (put_in_order s.kept c.kept_at-x.result) s.marks c.args.water)) ≡ s.promise =
+    (λ i. length (changes_between (c.windows-windows.ensures.value i) s.key (moment s.kept s.marks c.args.water) (moment (put_in_order s.kept (c.kept_at-x.ensures i)) s.marks c.args.water)))
+    ∙ put_count d s.key s.kept s.marks s.next c.args.pos c.args.time (to_z w64 (of_z w64 c.args.value)) c.args.water c.vouch.ensures c.requires.position c.requires.few
+    ∙ sym (c.requires.ready.promised c.if-water-time.false few s.key) in
+    subst (λ n. n ≤ vec_capacity c.args.out.now - vec_len c.args.out.now) (sym counted) c.requires.spare
+
+pub returns-then-water-time-clause-changes : goal.returns-then-water-time-clause-changes
+returns-then-water-time-clause-changes g c = λ kept marks fits.
+    let d = c.args.defs.now in
+    let s = c.args.self.now in
+    let x = kept_at c.args.pos c.args.time c.args.value in
+    let none : changes_by_put d s.key kept marks c.args.water x ≡ [] =
+    (λ i. changes_by_put d s.key (sym fits.0 i) (sym fits.1 i) c.args.water x)
+    ∙ put_nothing d s.key s.kept s.marks c.args.water x c.windows-windows.ensures.limits c.vouch.ensures.lists c.if-water-time.true in
+    sym (append-nil c.args.out.now.items) ∙ ap (λ cs. c.args.out.now.items ++ cs) (sym none)

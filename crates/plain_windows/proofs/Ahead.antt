@@ -1,0 +1,103 @@
+-- The least bound above the watermark is that of the first instance there.
+use Rattle.std.proofs.Common.{◌≡◌, ◌∙◌, ◌≤◌, ◌<◌, ◌+◌, ◌++◌, ℕ, Bool, true, false, cond, List, [], ◌∷◌, length, get_or, drop, map, ap, sym, refl, ⊎_elim, arith, None, Some}
+use Rattle.std.specs.Prelude.{◌&&◌, min, nat_le, nat_lt}
+use Rattle.std.specs.List.{Contains, enumerate_from, filter, find, flat_map, fold}
+use Rattle.std.proofs.lemmas.Bool.{lt-ltb, ltb-true}
+use Rattle.std.proofs.lemmas.Bool.Decides.{nat_tests}
+use Rattle.std.proofs.lemmas.List.{drop_all, drop_more}
+use Rattle.stream_base.specs.declared.change.Change.TheVariants.{New}
+use Rattle.stream_base.specs.declared.def.Def.{Def}
+use Rattle.stream_base.specs.Laws.{becomes_complete, completions}
+use Rattle.stream_base.specs.Model.Changes.{Moment, row_of}
+use Rattle.stream_base.specs.Model.Windows.{Instance, instances_of}
+use Rattle.stream_base.proofs.ChangeFacts.{enumerate_members, flat_map_none}
+use Rattle.stream_base.proofs.Members.{filter_has, filter_members, flat_map_has, map_has, map_members}
+use Rattle.stream_base.proofs.Rising.{none_in_nil, Contains-cons_cases, Contains-head, Contains-tail}
+use Rattle.plain_windows.specs.Changing.{bounds_ahead}
+use Rattle.plain_windows.proofs.Bounds.{RunOn}
+use Rattle.plain_windows.proofs.Walks.{none_passes}
+
+abbrev ahead : ℕ → List Instance → List ℕ
+ahead water is = filter (λ bound. nat_lt water bound) (map (λ i. i.bound) is)
+
+fold_min_stays : (a : ℕ) (bs : List ℕ) → ((b : ℕ) → Contains bs b → a ≤ b) → fold min a bs ≡ a
+fold_min_stays a [] h = refl
+fold_min_stays a (b ∷ bs) h =
+    let le : a ≤ b = h b (Contains-head b bs) in
+    let same : min a b ≡ a = omega arith in
+    ap (λ c. fold min c bs) same ∙ fold_min_stays a bs (λ c d. h c (Contains-tail b bs c d))
+
+pub fold_min_append : (a : ℕ) (bs cs : List ℕ) → fold min a (bs ++ cs) ≡ fold min (fold min a bs) cs
+fold_min_append a [] cs = refl
+fold_min_append a (b ∷ bs) cs = fold_min_append (min a b) bs cs
+
+pub first_ahead : (is : List Instance) (water a : ℕ) (i : Instance) → RunOn is → find (λ j. nat_lt water j.bound) is ≡ Some i → fold min a (ahead water is) ≡ min a i.bound
+first_ahead [] water a i r e = cc
+first_ahead (x ∷ is) water a i r e = by (nat_lt water x.bound) e (λ f. first_ahead is water a i r.1 f)
+  where
+    behind : (b : ℕ) → Contains (ahead water is) b → x.bound ≤ b
+    behind b c =
+        let m : (j : Instance) × Contains is j × (j.bound ≡ b) = map_members (λ (j : Instance). j.bound) is b (filter_members (λ bound. nat_lt water bound) (map (λ i. i.bound) is) b c).0 in
+        let le : x.bound ≤ (m.0).bound = (r.0 m.0 m.1).1 in
+        omega (arith, m.2)
+
+    by : (b : Bool) → cond b (Some x) (find (λ j. nat_lt water j.bound) is) ≡ Some i → (find (λ j. nat_lt water j.bound) is ≡ Some i → fold min a (ahead water is) ≡ min a i.bound) → fold min a (cond b (x.bound ∷ ahead water is) (ahead water is)) ≡ min a i.bound
+    by true f later =
+        let same : x.bound ≡ i.bound = ap (λ (j : Instance). j.bound) (let one : x ≡ i = cc in one) in
+        fold_min_stays (min a x.bound) (ahead water is) (λ b c. let le : x.bound ≤ b = behind b c in omega arith) ∙ ap (min a) same
+    by false f later = later f
+
+pub none_ahead : (is : List Instance) (water a : ℕ) → find (λ j. nat_lt water j.bound) is ≡ None → fold min a (ahead water is) ≡ a
+none_ahead [] water a e = refl
+none_ahead (x ∷ is) water a e = by (nat_lt water x.bound) e (λ f. none_ahead is water a f)
+  where
+    by : (b : Bool) → cond b (Some x) (find (λ j. nat_lt water j.bound) is) ≡ None → (find (λ j. nat_lt water j.bound) is ≡ None → fold min a (ahead water is) ≡ a) → fold min a (cond b (x.bound ∷ ahead water is) (ahead water is)) ≡ a
+    by true f later = cc
+    by false f later = later f
+
+-- the least of a window's numbers and of those that are left
+pub least_more : {X : Type 0} (f : X → List ℕ) (a b : ℕ) (xs : List X) (i : ℕ) (d : X) → i < length xs → b ≡ fold min a (f (get_or xs i d)) → fold min b (flat_map f (drop (i + 1) xs)) ≡ fold min a (flat_map f (drop i xs))
+least_more f a b xs i d h e =
+    ap (λ c. fold min c (flat_map f (drop (i + 1) xs))) e
+    ∙ sym (fold_min_append a (f (get_or xs i d)) (flat_map f (drop (i + 1) xs)))
+    ∙ sym (ap (λ l. fold min a (flat_map f l)) (drop_more xs i d h))
+
+pub least_end : {X : Type 0} (f : X → List ℕ) (a : ℕ) (xs : List X) (i : ℕ) → length xs ≤ i → fold min a (flat_map f (drop i xs)) ≡ a
+least_end f a xs i h = ap (λ l. fold min a (flat_map f l)) (drop_all i xs h)
+
+-- each of the numbers is at least the least
+pub least_is_least : (a : ℕ) (bs : List ℕ) (b : ℕ) → Contains bs b → fold min a bs ≤ b
+least_is_least a [] b c = absurd (none_in_nil b c)
+least_is_least a (x ∷ bs) b c =
+    ⊎_elim
+    (λ e. let le : fold min (min a x) bs ≤ min a x = falls (min a x) bs in omega arith)
+    (λ d. least_is_least (min a x) bs b d)
+    (Contains-cons_cases x bs b c)
+  where
+    falls : (a : ℕ) (bs : List ℕ) → fold min a bs ≤ a
+    falls a [] = omega arith
+    falls a (b ∷ bs) = let le : fold min (min a b) bs ≤ min a b = falls (min a b) bs in omega arith
+
+not_due : (water new bound : ℕ) → (water < bound → new < bound) → (nat_lt water bound && nat_le bound new) ≡ false
+not_due water new bound h = by (nat_lt water bound) refl
+  where
+    by : (b : Bool) → nat_lt water bound ≡ b → (b && nat_le bound new) ≡ false
+    by true e = lt-not_le new bound (h (ltb-true water bound e))
+      where
+        lt-not_le : (new bound : ℕ) → new < bound → nat_le bound new ≡ false
+        lt-not_le new bound l = grind (arith, nat_tests)
+    by false e = refl
+
+-- a move to below the least bound completes nothing
+pub nothing_due : (windows : List Def) (key : List ℕ) (m : Moment) (most new least : ℕ) → least ≡ fold min most (flat_map (bounds_ahead m) windows) → new < least → flat_map (completions key m new) (enumerate_from 0 windows) ≡ []
+nothing_due windows key m most new least e lt = flat_map_none (completions key m new) (enumerate_from 0 windows) none
+  where
+    none : (w : ℕ × Def) → Contains (enumerate_from 0 windows) w → completions key m new w ≡ []
+    none w c =
+        ap (map (λ i. New (row_of w.0 key (w.1).func i)))
+        (none_passes (becomes_complete m.water new) (instances_of (w.1).kind m.kept m.marks)
+        (λ i d. not_due m.water new i.bound
+        (λ above.
+        let here : Contains (bounds_ahead m w.1) i.bound = filter_has (λ bound. nat_lt m.water bound) (map (λ (j : Instance). j.bound) (instances_of (w.1).kind m.kept m.marks)) i.bound (map_has (λ (j : Instance). j.bound) (instances_of (w.1).kind m.kept m.marks) i d) (lt-ltb m.water i.bound above) in
+        let least_of_all : fold min most (flat_map (bounds_ahead m) windows) ≤ i.bound = least_is_least most (flat_map (bounds_ahead m) windows) i.bound (flat_map_has (bounds_ahead m) windows w.1 i.bound (enumerate_members 0 windows w c) here) in
+        omega arith)))

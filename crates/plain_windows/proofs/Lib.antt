@@ -1,0 +1,17 @@
+pub mod Folds
+pub mod Bounds
+pub mod Walks
+pub mod Appending
+pub mod Looking
+pub mod Fates
+pub mod Ahead
+pub mod Found
+pub mod PlaceFacts
+pub mod RankFacts
+pub mod SpanFacts
+pub mod PieceFacts
+pub mod RunFacts
+pub mod EdgeFacts
+pub mod BoundFacts
+pub mod Turns
+pub mod Neighbours

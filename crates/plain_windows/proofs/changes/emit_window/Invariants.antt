@@ -1,0 +1,19 @@
+-- What is appended so far, with what those that are left append, is all.
+use Rattle.std.proofs.Common.{◌≡◌, ◌≤◌, ◌-◌, ◌++◌, length, vec_len}
+use Rattle.std.specs.Prelude.{vec_capacity}
+use Rattle.std.specs.List.{filter_map}
+use Rattle.stream_base.specs.Model.Changes.{emission, emissions, standing_at}
+use Rattle.plain_windows.specs.Views.{seen}
+use Rattle.plain_windows.specs.Walks.{left_of}
+use Rattle.plain_windows.proofs.changes.emit_window.Given as goal
+
+abbrev pub invariant-loop-extent : goal.invariant-loop-extent
+invariant-loop-extent g l = record {
+  capacity : vec_capacity l.out ≡ vec_capacity l.initial.out;
+  room : length (filter_map (emission l.owner.window l.owner.key.now l.owner.def.now.func (standing_at l.owner.def.now (seen l.old))) (left_of l.owner.def.now.kind l.new.kept.now l.new.marks.now l.from l.new.water)) ≤ vec_capacity l.out - vec_len l.out;
+  all : l.out.items ++ filter_map (emission l.owner.window l.owner.key.now l.owner.def.now.func (standing_at l.owner.def.now (seen l.old))) (left_of l.owner.def.now.kind l.new.kept.now l.new.marks.now l.from l.new.water)
+      ≡ l.initial.out.items ++ emissions l.owner.key.now (seen l.old) (seen l.new) (l.owner.window, l.owner.def.now);
+}
+
+abbrev pub decreases-loop-extent : goal.decreases-loop-extent
+decreases-loop-extent g l = 18446744073709551616 - l.from

@@ -1,0 +1,15 @@
+-- What is appended so far, with what the windows that are left append, is all.
+use Rattle.std.proofs.Common.{◌≡◌, ◌≤◌, ◌-◌, ◌++◌, length, drop, vec_len}
+use Rattle.std.specs.Prelude.{vec_capacity}
+use Rattle.std.specs.List.{enumerate_from, flat_map}
+use Rattle.stream_base.specs.Laws.{completions}
+use Rattle.plain_windows.specs.Views.{seen}
+use Rattle.plain_windows.proofs.completions.append_completions.Given as goal
+
+abbrev pub invariant-loop-window : goal.invariant-loop-window
+invariant-loop-window g l = record {
+  capacity : vec_capacity l.out ≡ vec_capacity l.initial.out;
+  room : length (flat_map (completions l.key (seen l.view) l.new) (enumerate_from l.window (drop l.window l.windows))) ≤ vec_capacity l.out - vec_len l.out;
+  all : l.out.items ++ flat_map (completions l.key (seen l.view) l.new) (enumerate_from l.window (drop l.window l.windows))
+      ≡ l.initial.out.items ++ flat_map (completions l.key (seen l.view) l.new) (enumerate_from 0 l.windows);
+}

@@ -1,0 +1,45 @@
+-- What becomes of one instance from one moment to the next, and the bounds that lie ahead.
+use Rattle.std.specs.Prelude.{◌==◌, ◌&&◌, ◌-◌, ℕ, Bool, List, Vec, map, filter, nat_lt, vec_capacity, vec_len}
+use Rattle.std.specs.List.{enumerate_from, flat_map}
+use Rattle.std.specs.Option.{option_to_list}
+use Rattle.stream_base.specs.declared.change.Change.{Change}
+use Rattle.stream_base.specs.declared.def.Def.{Def}
+use Rattle.stream_base.specs.Laws.{completions}
+use Rattle.stream_base.specs.Model.Changes.{Moment, emission, emissions, retraction, retractions, standing_at}
+use Rattle.stream_base.specs.Model.Windows.{Instance, instances_of}
+use Rattle.plain_windows.specs.declared.extent.Extent.{Extent}
+use Rattle.plain_windows.specs.declared.fold.Owner.{Owner}
+
+-- how many elements more a vector takes in without memory
+abbrev pub room : {X Z : Type 0} → Vec X Z → ℕ
+room v = vec_capacity v - vec_len v
+
+-- a window with its place among the definitions
+abbrev pub window_of : Owner → ℕ × Def
+window_of owner = (owner.window, owner.def.now)
+
+-- an instance starts and ends as an extent does
+abbrev pub is_over : Extent → Instance → Bool
+is_over e i = (e.low == i.low) && (e.high == i.high)
+
+-- the retraction of an instance that stood, if it stands no longer
+abbrev pub gone_of : List ℕ → Moment → ℕ × Def → Instance → List Change
+gone_of key new (window, def) i = option_to_list (retraction window key def.func (standing_at def new) i)
+
+-- the emission or update of an instance that stands, if it is new or selects other tuples
+abbrev pub come_of : List ℕ → Moment → ℕ × Def → Instance → List Change
+come_of key old (window, def) i = option_to_list (emission window key def.func (standing_at def old) i)
+
+-- the retractions of all windows of a key from one moment to the next, the emissions and updates, and what a move of the watermark completes
+abbrev pub all_retractions : List Def → List ℕ → Moment → Moment → List Change
+all_retractions windows key old new = flat_map (retractions key old new) (enumerate_from 0 windows)
+
+abbrev pub all_emissions : List Def → List ℕ → Moment → Moment → List Change
+all_emissions windows key old new = flat_map (emissions key old new) (enumerate_from 0 windows)
+
+abbrev pub all_completions : List Def → List ℕ → Moment → ℕ → List Change
+all_completions windows key m new = flat_map (completions key m new) (enumerate_from 0 windows)
+
+-- the bounds of a window's instances that lie above the watermark
+abbrev pub bounds_ahead : Moment → Def → List ℕ
+bounds_ahead m def = filter (λ bound. nat_lt m.water bound) (map (λ i. i.bound) (instances_of def.kind m.kept m.marks))

@@ -1,0 +1,8 @@
+pub mod Extents
+pub mod Places
+pub mod Runs
+pub mod Views
+pub mod Rows
+pub mod Walks
+pub mod Changing
+pub mod Turns

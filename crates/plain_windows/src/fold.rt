@@ -1,0 +1,79 @@
+//! The fold of the tuples that an instance selects, and what it shows.
+ghost use Rattle.std.specs.Prelude.{◌≡◌};
+ghost use Rattle.stream_base.specs.Model.Changes.{former_of, row_of};
+ghost use Rattle.stream_base.specs.Model.Functions.{shown_of};
+ghost use Rattle.agg_laws.specs.Bundled.{bundle_of, bundle_of_number, bundles_combined};
+ghost use Rattle.plain_windows.specs.Extents.{IsExtentIn, instance_in};
+ghost use Rattle.plain_windows.specs.Rows.{values_of};
+
+use crate::extent::Extent;
+use agg_laws::{Bundle, Lift, Monoid, Steps};
+use stream_base::{Def, Former, Func, Kept, KeyText, Row, Shown};
+
+/// Whose rows are made: a window with its place among the definitions, and a key.
+#[derive(Clone, Copy)]
+pub struct Owner<'a> {
+    pub window: u32,
+    pub def: &'a Def,
+    pub key: &'a KeyText,
+}
+
+/// The tuples that an instance selects.
+pub fn tuples_of<'a>(kept: &'a [Kept], extent: &Extent) -> &'a [Kept]
+    requires { IsExtentIn kept.now extent.now }
+    ensures { result.now ≡ (instance_in kept.now extent.now).chosen }
+{
+    &kept[extent.first..extent.first + extent.count]
+}
+
+/// The row of an instance, one step for each tuple that it selects.
+pub fn row_of<L>(owner: Owner, kept: &[Kept], extent: &Extent, steps: &mut Steps<L>) -> Row
+    requires { IsExtentIn kept.now extent.now }
+    ensures { result
+        ≡ row_of owner.entry.window owner.entry.key.now owner.entry.def.now.func
+        (instance_in kept.now extent.now) }
+{
+    Row {
+        window: owner.window,
+        key: *owner.key,
+        low: extent.low,
+        high: extent.high,
+        number: extent.count as u64,
+        shown: shown_of(owner.def.func, tuples_of(kept, extent), steps),
+    }
+}
+
+/// What stood of an instance, one step for each tuple that it selected.
+pub fn former_of<L>(func: Func, kept: &[Kept], extent: &Extent, steps: &mut Steps<L>) -> Former
+    requires { IsExtentIn kept.now extent.now }
+    ensures { result ≡ former_of func (instance_in kept.now extent.now) }
+{
+    Former {
+        number: extent.count as u64,
+        shown: shown_of(func, tuples_of(kept, extent), steps),
+    }
+}
+
+// What a function shows of tuples.
+fn shown_of<L>(func: Func, tuples: &[Kept], steps: &mut Steps<L>) -> Shown
+    ensures { result ≡ shown_of func (values_of tuples.now) }
+{
+    folded(tuples, steps).show(func)
+}
+
+// What the nine functions make of tuples, one after another.
+fn folded<L>(tuples: &[Kept], steps: &mut Steps<L>) -> Bundle
+    ensures { result ≡ bundle_of (values_of tuples.now) }
+{
+    let mut bundle = Bundle::unit();
+    for x in tuples {
+        bundle = with_tuple(&bundle, x, steps);
+    }
+    bundle
+}
+
+fn with_tuple<L>(bundle: &Bundle, x: &Kept, steps: &mut Steps<L>) -> Bundle
+    ensures { result ≡ bundles_combined bundle.now (bundle_of_number (x.now).value) }
+{
+    bundle.combine(&Bundle::lift(x.value), steps)
+}

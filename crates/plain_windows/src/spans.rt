@@ -1,0 +1,46 @@
+//! The instances of a tumbling or sliding window: intervals that start at multiples of the slide.
+ghost use Rattle.std.specs.Prelude.{◌≡◌, [], IfSome, nat_le, nat_lt};
+ghost use Rattle.std.specs.List.{find};
+ghost use Rattle.std.specs.Option.{option_map};
+ghost use Rattle.stream_base.specs.declared.kind.Kind.TheVariants.{Sliding};
+ghost use Rattle.stream_base.specs.Limits.{IsKindWithin};
+ghost use Rattle.stream_base.specs.Model.Windows.{spans};
+ghost use Rattle.plain_windows.specs.Extents.{AreKeyLists, IsExtentIn, instance_in};
+
+use crate::extent::Extent;
+use crate::intervals::interval_over;
+use crate::places::tuples_before;
+use stream_base::{Kept, TIME_MAX};
+
+/// The first interval with a tuple that starts at or after a time, if there is one. A tumbling
+/// window slides by its length.
+pub fn first_from(length: u64, slide: u64, kept: &[Kept], from: u64) -> Option<Extent>
+    requires kind { IsKindWithin (Sliding length slide) }
+    requires lists { AreKeyLists kept.now [] }
+    ensures found { option_map (instance_in kept.now) result
+        ≡ find (λ i. nat_le from i.low) (spans length slide kept.now) }
+    ensures inside { IfSome result (IsExtentIn kept.now) }
+{
+    if from > TIME_MAX {
+        return None;
+    }
+    let start = (from + slide - 1) / slide;
+    let place = tuples_before(kept, start * slide);
+    if place == kept.len() {
+        return None;
+    }
+    let holding = (kept[place].time + slide).saturating_sub(length) / slide;
+    let low = start.max(holding) * slide;
+    Some(interval_over(kept, low, low + length))
+}
+
+/// The first interval with a tuple that ends after a watermark, if there is one.
+pub fn first_above(length: u64, slide: u64, kept: &[Kept], water: u64) -> Option<Extent>
+    requires kind { IsKindWithin (Sliding length slide) }
+    requires lists { AreKeyLists kept.now [] }
+    ensures found { option_map (instance_in kept.now) result
+        ≡ find (λ i. nat_lt water i.bound) (spans length slide kept.now) }
+    ensures inside { IfSome result (IsExtentIn kept.now) }
+{
+    first_from(length, slide, kept, water.saturating_sub(length - 1))
+}

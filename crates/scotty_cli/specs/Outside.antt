@@ -1,0 +1,27 @@
+-- What a run finds outside, and counts of what failed there.
+use Rattle.std.specs.Prelude.{◌≡◌, ℕ, List, Option, Some}
+
+-- the bytes under each name, where they are told
+abbrev pub Telling : Type 0
+Telling = List ℕ → Option (List ℕ)
+
+-- where the bytes are told, this holds of them
+abbrev pub WhereTold : Option (List ℕ) → (List ℕ → Type 0) → Type 0
+WhereTold told P = (bytes : List ℕ) → told ≡ Some bytes → P bytes
+
+-- a count before and after
+pub record Count : Type 0 where
+  pub before : ℕ
+  pub after : ℕ
+
+-- the counts of a run: of failed opens, and of sources given back with a failed read
+pub record Counts : Type 0 where
+  pub opens : Count
+  pub reads : Count
+
+-- these counts of files, before and after
+abbrev pub counts_of : {F : Type 0} → (F → ℕ) → (F → ℕ) → F → F → Counts
+counts_of opens reads old new = record {
+  opens = record { before = opens old; after = opens new };
+  reads = record { before = reads old; after = reads new };
+}

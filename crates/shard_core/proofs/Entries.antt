@@ -1,0 +1,122 @@
+-- The table of keys, one tuple or mark on.
+use Rattle.std.proofs.Common.{◌≡◌, ◌∙◌, ◌≤◌, ◌+◌, ℕ, ℤ, true, false, cond, eqb, ◌&&◌, List, [], ◌∷◌, ◌++◌, length, get_or, set, ap, sym, refl, subst, arith, None, Some, inl, length-append}
+use Rattle.std.specs.BTreeSet.{insert_key}
+use Rattle.std.specs.Ordering.{nat_cmp}
+use Rattle.std.specs.Str.{bytes_eq}
+use Rattle.std.proofs.lemmas.Bool.Decides.{nat_tests}
+use Rattle.std.proofs.lemmas.Bool.{false_from_ne_true, le-ltb}
+use Rattle.key_slicer.specs.Calls.{changes_by_mark, changes_by_put, kept_at}
+use Rattle.stream_base.specs.Limits.{AreWithinLimits, Definitions}
+use Rattle.stream_base.specs.declared.entry.Entry.{Entry}
+use Rattle.stream_base.specs.declared.kept.Kept.{Kept}
+use Rattle.stream_base.specs.declared.what.What.{What}
+use Rattle.stream_base.specs.declared.what.What.TheVariants.{Tuple, Mark, Water, Idle, End}
+use Rattle.stream_base.specs.Model.Changes.{changes_after, changes_between, moment_of}
+use Rattle.stream_base.specs.Model.Journal.{kept_of, marks_of, put_in_order}
+use Rattle.stream_base.specs.Model.Watermark.{water_of}
+use Rattle.stream_base.specs.Model.What.{is_late, key_in, mark_in, tuple_in}
+use Rattle.stream_base.proofs.Absent.{bytes_eq_true}
+use Rattle.stream_base.proofs.ChangesAfter.{changes_of_keyed, water_of_keyed}
+use Rattle.stream_base.proofs.Growing.{kept_of_other, kept_of_tuple, marks_of_mark, marks_of_other}
+use Rattle.shard_core.specs.declared.keys.KeyTable.{KeyTable}
+use Rattle.shard_core.specs.declared.slot.Slot.{Slot}
+use Rattle.shard_core.specs.Engines.{AreCurrent, IsCurrent, IsQuiet, place_of}
+use Rattle.shard_core.proofs.Places.{IsSameFor, current_at, replaced}
+
+-- ---- what an entry is to a key
+bytes_eq_self : (key : List ℕ) → bytes_eq key key ≡ true
+bytes_eq_self [] = refl
+bytes_eq_self (byte ∷ key) = let own : eqb byte byte ≡ true = grind (arith, nat_tests) in ap (λ b. b && bytes_eq key key) own ∙ bytes_eq_self key
+
+own_tuple : (key : List ℕ) (position time : ℕ) (value : ℤ) (what : What) → what ≡ Tuple key time value → tuple_in key position what ≡ Some (kept_at position time value)
+own_tuple key position time value what is = ap (tuple_in key position) is ∙ ap (λ b. cond b (Some (kept_at position time value)) None) (bytes_eq_self key)
+
+own_mark : (key : List ℕ) (time : ℕ) (what : What) → what ≡ Mark key time → mark_in key what ≡ Some time
+own_mark key time what is = ap (mark_in key) is ∙ ap (λ b. cond b (Some time) None) (bytes_eq_self key)
+
+other_tuple : (key of : List ℕ) (position : ℕ) (what : What) → key_in what ≡ Some of → (key ≡ of → ⊥) → tuple_in key position what ≡ None
+other_tuple key of position (Tuple k time value) h ne = ap (λ b. cond b (Some (kept_at position time value)) None) (false_from_ne_true (bytes_eq k key) (λ e. ne (let same : k ≡ of = cc in sym (bytes_eq_true k key e) ∙ same)))
+other_tuple key of position (Mark k time) h ne = refl
+other_tuple key of position (Water time) h ne = refl
+other_tuple key of position Idle h ne = refl
+other_tuple key of position End h ne = refl
+
+other_mark : (key of : List ℕ) (what : What) → key_in what ≡ Some of → (key ≡ of → ⊥) → mark_in key what ≡ None
+other_mark key of (Tuple k time value) h ne = refl
+other_mark key of (Mark k time) h ne = ap (λ b. cond b (Some time) None) (false_from_ne_true (bytes_eq k key) (λ e. ne (let same : k ≡ of = cc in sym (bytes_eq_true k key e) ∙ same)))
+other_mark key of (Water time) h ne = refl
+other_mark key of Idle h ne = refl
+other_mark key of End h ne = refl
+
+-- a tuple or mark of one key changes nothing of another
+pub others_stay : (d : Definitions) (sources : ℕ) (journal : List Entry) (e : Entry) (of : List ℕ) → key_in e.what ≡ Some of → (key : List ℕ) → (key ≡ of → ⊥) → IsSameFor d sources journal (journal ++ e ∷ []) key
+others_stay d sources journal e of keyed key ne = record {
+  kept = kept_of_other d.lateness sources key journal e (other_tuple key of (length journal) e.what keyed ne);
+  marks = marks_of_other d.lateness sources key journal e (other_mark key of e.what keyed ne);
+}
+
+not_late : (time lateness water : ℕ) → water ≤ time + lateness → (key : List ℕ) (value : ℤ) (what : What) → what ≡ Tuple key time value → is_late lateness water what ≡ false
+not_late time lateness water h key value what is = ap (is_late lateness water) is ∙ le-ltb (time + lateness) water h
+
+mark_not_late : (time lateness water : ℕ) → water ≤ time + lateness → (key : List ℕ) (what : What) → what ≡ Mark key time → is_late lateness water what ≡ false
+mark_not_late time lateness water h key what is = ap (is_late lateness water) is ∙ le-ltb (time + lateness) water h
+
+module _ (d : Definitions) (sources : ℕ) (journal : List Entry) (e : Entry) (key : List ℕ) (time : ℕ) where
+  -- after a tuple
+  module _ (value : ℤ) (is : e.what ≡ Tuple key time value) (accepted : water_of sources journal ≤ time + d.lateness) where
+    pub kept_with_tuple : kept_of d.lateness sources key (journal ++ e ∷ []) ≡ put_in_order (kept_of d.lateness sources key journal) (kept_at (length journal) time value)
+    kept_with_tuple = kept_of_tuple d.lateness sources key journal e (kept_at (length journal) time value) (not_late time d.lateness (water_of sources journal) accepted key value e.what is) (own_tuple key (length journal) time value e.what is)
+
+    pub marks_with_tuple : marks_of d.lateness sources key (journal ++ e ∷ []) ≡ marks_of d.lateness sources key journal
+    marks_with_tuple = marks_of_other d.lateness sources key journal e (ap (mark_in key) is)
+
+    pub changes_of_tuple : AreWithinLimits d → changes_after d sources journal e ≡ changes_by_put d key (kept_of d.lateness sources key journal) (marks_of d.lateness sources key journal) (water_of sources journal) (kept_at (length journal) time value)
+    changes_of_tuple limits =
+        changes_of_keyed d sources journal e key limits (ap key_in is) (not_late time d.lateness (water_of sources journal) accepted key value e.what is)
+        ∙ (λ i. changes_between d.windows key (moment_of d sources key journal) (record { kept = kept_with_tuple i; marks = marks_with_tuple i; water = water_of_keyed sources journal e key (ap key_in is) i }))
+
+  -- after a mark
+  module _ (is : e.what ≡ Mark key time) (accepted : water_of sources journal ≤ time + d.lateness) where
+    pub kept_with_mark : kept_of d.lateness sources key (journal ++ e ∷ []) ≡ kept_of d.lateness sources key journal
+    kept_with_mark = kept_of_other d.lateness sources key journal e (ap (tuple_in key (length journal)) is)
+
+    pub marks_with_mark : marks_of d.lateness sources key (journal ++ e ∷ []) ≡ insert_key nat_cmp (marks_of d.lateness sources key journal) time
+    marks_with_mark = marks_of_mark d.lateness sources key journal e time (mark_not_late time d.lateness (water_of sources journal) accepted key e.what is) (own_mark key time e.what is)
+
+    pub changes_of_mark : AreWithinLimits d → changes_after d sources journal e ≡ changes_by_mark d key (kept_of d.lateness sources key journal) (marks_of d.lateness sources key journal) (water_of sources journal) time
+    changes_of_mark limits =
+        changes_of_keyed d sources journal e key limits (ap key_in is) (mark_not_late time d.lateness (water_of sources journal) accepted key e.what is)
+        ∙ (λ i. changes_between d.windows key (moment_of d sources key journal) (record { kept = kept_with_mark i; marks = marks_with_mark i; water = water_of_keyed sources journal e key (ap key_in is) i }))
+
+-- ---- the table
+module _ {K : Type 0} (key_of : K → List ℕ) (fits : Definitions → List Kept → List ℕ → ℕ → K → Type 0) (next_position : K → ℕ) (d : Definitions) (sources : ℕ) (journal : List Entry) (e : Entry) (key : List ℕ) (keyed : key_in e.what ≡ Some key) where
+  -- where the slot of the entry's key is that of the longer journal, so is the table
+  pub keyed_table : (old new : KeyTable K) (p : ℕ) (slot new_slot : Slot K) (due : ℕ)
+      → AreCurrent key_of fits next_position d sources journal old
+      → place_of old key ≡ Some p
+      → slot ≡ get_or old.slots.items p slot
+      → slot.water ≡ water_of sources journal
+      → new.index.entries ≡ old.index.entries
+      → new.slots.items ≡ set old.slots.items p new_slot
+      → new.dues.items ≡ set old.dues.items p due
+      → key_of new_slot.state ≡ key_of slot.state
+      → new_slot.water ≡ slot.water
+      → next_position new_slot.state ≤ length journal + 1
+      → (fits d (kept_of d.lateness sources key journal) (marks_of d.lateness sources key journal) slot.water slot.state → fits d (kept_of d.lateness sources key (journal ++ e ∷ [])) (marks_of d.lateness sources key (journal ++ e ∷ [])) new_slot.water new_slot.state)
+      → ((kept : List Kept) (marks : List ℕ) → fits d kept marks new_slot.water new_slot.state → IsQuiet d (key_of new_slot.state) kept marks new_slot.water due)
+      → AreCurrent key_of fits next_position d sources (journal ++ e ∷ []) new
+  keyed_table old new p slot new_slot due c at there w index slots dues same_key same_water next stands quiet =
+      let was : IsCurrent key_of fits next_position d sources journal key slot (get_or old.dues.items p 0) = current_at key_of fits next_position d sources journal old key p slot c at there in
+      let own : key_of new_slot.state ≡ key = same_key ∙ was.of_key in
+      let still : water_of sources (journal ++ e ∷ []) ≡ water_of sources journal = water_of_keyed sources journal e key keyed in
+      let now : fits d (kept_of d.lateness sources key (journal ++ e ∷ [])) (marks_of d.lateness sources key (journal ++ e ∷ [])) new_slot.water new_slot.state = stands was.stands in
+      replaced key_of fits next_position d sources journal (journal ++ e ∷ []) old new key p new_slot due c at index slots dues
+      (others_stay d sources journal e key keyed) (rw length-append (omega arith)) still
+      (record {
+        of_key = own;
+        stands = now;
+        position = rw length-append next;
+        past = omega (arith, same_water, w, still);
+        waits = inl (same_water ∙ w ∙ sym still);
+        quiet = subst (λ l. IsQuiet d l (kept_of d.lateness sources key (journal ++ e ∷ [])) (marks_of d.lateness sources key (journal ++ e ∷ [])) new_slot.water due) own (quiet (kept_of d.lateness sources key (journal ++ e ∷ [])) (marks_of d.lateness sources key (journal ++ e ∷ [])) now);
+      })

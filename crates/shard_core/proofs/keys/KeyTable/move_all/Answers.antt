@@ -1,0 +1,42 @@
+-- One state more is moved.
+use Rattle.std.proofs.Common.{◌≡◌, ◌∙◌, ◌<◌, ◌-◌, ◌++◌, ap, arith, get_or, length, take}
+use Rattle.std.specs.Prelude.{vec_capacity, vec_len}
+use Rattle.std.specs.List.{flat_map}
+use Rattle.std.proofs.lemmas.List.{take_all}
+use Rattle.std.proofs.lemmas.List.Sums.{sum_by-drop_more}
+use Rattle.shard_core.specs.declared.slot.Slot.{Slot}
+use Rattle.shard_core.specs.Engines.{moves_of}
+use Rattle.shard_core.proofs.Loops.{one_moved}
+use Rattle.shard_core.proofs.keys.KeyTable.move_all.Goals as goal
+
+pub move_at-requires-clause-spare : goal.move_at-requires-clause-spare
+move_at-requires-clause-spare g c x =
+    let promised = g.K.KeyWindows.promised in
+    let i = c.loop-place.place-index in
+    let places = c.args.places.now in
+    let within : i < length places = omega arith in
+    let m = c.loop-place.invariant.1 in
+    let same : promised (get_or c.loop-place.self.slots.items (get_or places i 0) x).state ≡ promised (get_or c.args.self.now.slots.items (get_or places i 0) x).state =
+    ap (λ (s : Slot g.row.K.Denot). promised s.state) (m.outside (get_or places i 0) x (λ j jl. c.requires.movable.apart j i jl within)) in
+    omega (arith, same, m.room x, sum_by-drop_more (λ p. promised (get_or c.args.self.now.slots.items p x).state) places i 0 within)
+
+pub loop-place-preserved : goal.loop-place-preserved
+loop-place-preserved g c =
+    let i = c.loop-place.place-index in
+    let places = c.args.places.now in
+    let within : i < length places = omega arith in (
+      c.move_at.ensures.index ∙ c.loop-place.invariant.0,
+      one_moved g.K.KeyWindows.key_of g.K.KeyWindows.fits g.K.KeyWindows.next_position c.args.defs.now (g.K.KeyWindows.is_ready c.args.defs.now) g.K.KeyWindows.promised c.args.new places i
+          c.args.self.now.slots.items c.loop-place.self.slots.items c.move_at.new.self.slots.items c.args.self.now.dues.items c.loop-place.self.dues.items c.move_at.new.self.dues.items c.args.out.now.items c.loop-place.out.items c.move_at.new.out.items
+          (vec_capacity c.loop-place.out - vec_len c.loop-place.out) (vec_capacity c.move_at.new.out - vec_len c.move_at.new.out)
+          within c.requires.movable.apart c.loop-place.invariant.1 c.move_at.ensures.len c.move_at.ensures.dues_len c.move_at.ensures.others c.move_at.ensures.other_dues c.move_at.ensures.moved c.move_at.ensures.changes
+          (λ x. omega (arith, c.move_at.ensures.room x, c.move_at.ensures.capacity)),
+      λ z. absurd (omega arith),
+    )
+
+pub returns-clause-changes : goal.returns-clause-changes
+returns-clause-changes g c x kept marks each =
+    let places = c.args.places.now in
+    let all : take c.loop-place.place-index places ≡ places = take_all c.loop-place.place-index places (omega arith) in
+    c.loop-place.invariant.1.changes x kept marks each
+    ∙ ap (λ ps. c.args.out.now.items ++ flat_map (λ p. moves_of g.K.KeyWindows.key_of c.args.defs.now kept marks c.args.new (get_or c.args.self.now.slots.items p x)) ps) all

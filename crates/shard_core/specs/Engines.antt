@@ -1,0 +1,111 @@
+-- What the table of keys keeps of each key.
+use Rattle.std.specs.Prelude.{◌≡◌, ◌≤◌, ◌<◌, ◌⊎◌, ℕ, List, [], ◌∷◌, ◌++◌, Option, None, Some, length, slice_index, slice_index_or, ◌≢◌, EachIndex, nat_le}
+use Rattle.std.specs.BTreeMap.{IsOrdered, get, values}
+use Rattle.std.specs.Cmp.Lexicographic.{slice_cmp}
+use Rattle.std.specs.Ordering.{nat_cmp}
+use Rattle.key_slicer.specs.Calls.{Call, changes_by_move}
+use Rattle.key_slicer.specs.Calls.Call.{Move}
+use Rattle.std.specs.List.{HoldsAt, filter}
+use Rattle.stream_base.specs.Limits.{Definitions}
+use Rattle.stream_base.specs.declared.change.Change.{Change}
+use Rattle.stream_base.specs.declared.entry.Entry.{Entry}
+use Rattle.stream_base.specs.declared.kept.Kept.{Kept}
+use Rattle.stream_base.specs.Model.Journal.{kept_of, marks_of}
+use Rattle.stream_base.specs.Model.Watermark.{water_of}
+use Rattle.shard_core.specs.Recorded.{Recorded}
+use Rattle.shard_core.specs.declared.keys.KeyTable.{KeyTable}
+use Rattle.shard_core.specs.declared.slot.Slot.{Slot}
+
+-- up to a due number, a move of the watermark changes nothing
+abbrev pub IsQuiet : Definitions → List ℕ → List Kept → List ℕ → ℕ → ℕ → Type 0
+IsQuiet d key kept marks water due = (new : ℕ) → water ≤ new → new < due → changes_by_move d key kept marks water new ≡ []
+
+-- a slot stands for the same as before: only what it has room for may differ
+pub record IsSameSlot {K : Type 0} (key_of : K → List ℕ) (fits : Definitions → List Kept → List ℕ → ℕ → K → Type 0) (next_position : K → ℕ) (d : Definitions) (old new : Slot K) : Type 0 where
+  pub same_key : key_of new.state ≡ key_of old.state
+  pub same_next : next_position new.state ≡ next_position old.state
+  pub same_water : new.water ≡ old.water
+  pub still_fits : (kept : List Kept) (marks : List ℕ) (water : ℕ) → fits d kept marks water old.state → fits d kept marks water new.state
+
+-- a slot stands for these lists, under its own watermark
+abbrev pub SlotFits : {K : Type 0} → (Definitions → List Kept → List ℕ → ℕ → K → Type 0) → Definitions → List Kept → List ℕ → Slot K → Type 0
+SlotFits fits d kept marks slot = fits d kept marks slot.water slot.state
+
+-- room was made for the move of a slot to a watermark
+abbrev pub CanMove : {K : Type 0} → (Call → K → Type 0) → ℕ → Slot K → Type 0
+CanMove is_ready water slot = is_ready (Move slot.water water) slot.state
+
+-- the place of a key in the table
+abbrev pub place_of : {K : Type 0} → KeyTable K → List ℕ → Option ℕ
+place_of t key = get (slice_cmp nat_cmp) t.index key
+
+module _ {K : Type 0} (key_of : K → List ℕ) (fits : Definitions → List Kept → List ℕ → ℕ → K → Type 0) (next_position : K → ℕ) (d : Definitions) (sources : ℕ) (journal : List Entry) where
+  -- a slot has the state of a key after a journal, under a watermark of its own: the journal's, or an earlier one up from which nothing was due yet
+  pub record IsCurrent (key : List ℕ) (slot : Slot K) (due : ℕ) : Type 0 where
+    pub of_key : key_of slot.state ≡ key
+    pub stands : fits d (kept_of d.lateness sources key journal) (marks_of d.lateness sources key journal) slot.water slot.state
+    pub position : next_position slot.state ≤ length journal
+    pub past : slot.water ≤ water_of sources journal
+    pub waits : (slot.water ≡ water_of sources journal) ⊎ (water_of sources journal < due)
+    pub quiet : IsQuiet d key (kept_of d.lateness sources key journal) (marks_of d.lateness sources key journal) slot.water due
+
+  -- each key with a place is current there, and nothing is kept of any other
+  pub record AreCurrent (t : KeyTable K) : Type 0 where
+    pub in_order : IsOrdered (slice_cmp nat_cmp) t.index
+    pub aligned : length t.dues.items ≡ length t.slots.items
+    pub placed : (key : List ℕ) (p : ℕ) → place_of t key ≡ Some p → p < length t.slots.items
+    pub current : (key : List ℕ) (p : ℕ) (slot : Slot K) → place_of t key ≡ Some p → IsCurrent key (slice_index_or t.slots.items p slot) (slice_index t.dues.items p)
+    pub nothing_kept : (key : List ℕ) → place_of t key ≡ None → kept_of d.lateness sources key journal ≡ []
+    pub no_marks : (key : List ℕ) → place_of t key ≡ None → marks_of d.lateness sources key journal ≡ []
+
+-- the table of keys is that of a past
+abbrev pub IsTableOf : {K : Type 0} → (K → List ℕ) → (Definitions → List Kept → List ℕ → ℕ → K → Type 0) → (K → ℕ) → Recorded → KeyTable K → Type 0
+IsTableOf key_of fits next_position past t = AreCurrent key_of fits next_position past.defs past.sources past.journal t
+
+-- and with one entry more, of that past and the entry
+abbrev pub IsTableWith : {K : Type 0} → (K → List ℕ) → (Definitions → List Kept → List ℕ → ℕ → K → Type 0) → (K → ℕ) → Recorded → Entry → KeyTable K → Type 0
+IsTableWith key_of fits next_position past e t = AreCurrent key_of fits next_position past.defs past.sources (past.journal ++ e ∷ []) t
+
+-- the places of the states that are due at a watermark, by the bytes of their keys
+abbrev pub due_places : {K : Type 0} → KeyTable K → ℕ → List ℕ
+due_places t water = filter (λ p. nat_le (slice_index t.dues.items p) water) (values t.index)
+
+-- no place stands twice
+abbrev pub AreApart : List ℕ → Type 0
+AreApart places = (i j : ℕ) → i < j → j < length places → slice_index places i ≢ slice_index places j
+
+-- the elements at all other places are as before
+abbrev pub IsSameElsewhere : {X : Type 0} → List X → List X → ℕ → Type 0
+IsSameElsewhere old new place = (p : ℕ) (x : _) → p ≢ place → slice_index_or new p x ≡ slice_index_or old p x
+
+-- the elements at places that are none of these are as before
+abbrev pub IsSameOutside : {X : Type 0} → List X → List X → List ℕ → Type 0
+IsSameOutside old new places = (p : ℕ) (x : _) → ((j : ℕ) → j < length places → slice_index places j ≢ p) → slice_index_or new p x ≡ slice_index_or old p x
+
+module _ {K : Type 0} (key_of : K → List ℕ) (fits : Definitions → List Kept → List ℕ → ℕ → K → Type 0) (next_position : K → ℕ) (d : Definitions) where
+  -- each slot stands for the same as before
+  pub record AreSameSlots (old new : List (Slot K)) : Type 0 where
+    pub as_many : length new ≡ length old
+    pub each_same : (p : ℕ) (x : Slot K) → IsSameSlot key_of fits next_position d (slice_index_or old p x) (slice_index_or new p x)
+
+  -- a state was moved to a watermark, and nothing is due of it up to its due number
+  pub record IsMovedSlot (water : ℕ) (old new : Slot K) (due : ℕ) : Type 0 where
+    pub same_key : key_of new.state ≡ key_of old.state
+    pub same_next : next_position new.state ≡ next_position old.state
+    pub moved : new.water ≡ water
+    pub still_fits : (kept : List Kept) (marks : List ℕ) → fits d kept marks old.water old.state → fits d kept marks new.water new.state
+    pub quiet : (kept : List Kept) (marks : List ℕ) → fits d kept marks new.water new.state → IsQuiet d (key_of new.state) kept marks new.water due
+
+-- a slot stands for what is kept of its key
+abbrev pub StandsIn : {K : Type 0} → (K → List ℕ) → (Definitions → List Kept → List ℕ → ℕ → K → Type 0) → Definitions → (List ℕ → List Kept) → (List ℕ → List ℕ) → Slot K → Type 0
+StandsIn key_of fits d kept marks slot = fits d (kept (key_of slot.state)) (marks (key_of slot.state)) slot.water slot.state
+
+-- what the move of a slot to a watermark changes
+abbrev pub moves_of : {K : Type 0} → (K → List ℕ) → Definitions → (List ℕ → List Kept) → (List ℕ → List ℕ) → ℕ → Slot K → List Change
+moves_of key_of d kept marks new slot = changes_by_move d (key_of slot.state) (kept (key_of slot.state)) (marks (key_of slot.state)) slot.water new
+
+-- these are places of the slots, each once, and no slot stands under a later watermark
+pub record AreMovable {K : Type 0} (slots : List (Slot K)) (places : List ℕ) (water : ℕ) : Type 0 where
+  pub within : EachIndex places (λ i. slice_index places i < length slots)
+  pub apart : AreApart places
+  pub rises : EachIndex places (λ i. HoldsAt (λ slot. slot.water ≤ water) slots (slice_index places i))

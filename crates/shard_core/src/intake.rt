@@ -1,0 +1,82 @@
+ghost use Rattle.std.specs.Prelude.{◌≡◌, ◌≤◌, ◌<◌, ◌++◌, ◌∷◌, [], true, OnOk, OnErr, length};
+ghost use Rattle.stream_base.specs.declared.limits.TheConstants.{JOURNAL_MAX};
+ghost use Rattle.stream_base.specs.Model.Changes.{changes_after};
+ghost use Rattle.stream_base.specs.Model.Journals.{is_entry_within};
+ghost use Rattle.stream_base.specs.Model.What.{is_progress};
+ghost use Rattle.shard_core.specs.Engines.{IsTableOf, IsTableWith};
+
+use crate::keys::KeyTable;
+use crate::past::Past;
+use agg_laws::Steps;
+use key_slicer::KeyWindows;
+use std::alloc::Global;
+use stream_base::{Change, Entry, NoMemory, What};
+
+impl<K: KeyWindows> KeyTable<K> {
+    // Takes in an entry and appends its changes, or does nothing.
+    pub fn take_in<L>(
+        &mut self,
+        alloc: Global,
+        past: &Past,
+        entry: &Entry,
+        out: &mut Vec<Change>,
+        steps: &mut Steps<L>,
+    ) -> Result<(), NoMemory>
+        requires current { IsTableOf K.key_of K.fits K.next_position past.now self.old }
+        requires source { entry.now.source < past.now.sources }
+        requires within { is_entry_within entry.now ≡ true }
+        requires few { length past.now.journal < JOURNAL_MAX }
+        ensures refused { OnErr result
+            (IsTableOf K.key_of K.fits K.next_position past.now self.new) }
+        ensures nothing { OnErr result (out.new.items ≡ out.old.items) }
+        ensures taken { OnOk result
+            (IsTableWith K.key_of K.fits K.next_position past.now entry.now self.new) }
+        ensures changes { OnOk result (out.new.items ≡ out.old.items
+            ++ changes_after past.now.defs past.now.sources past.now.journal entry.now) }
+    {
+        if past.is_late(entry) {
+            out.push(Change::Dropped)?;
+            return Ok(());
+        }
+        match entry.what {
+            What::Tuple { key, time, value } => {
+                self.put(alloc, past, &key, time, value, out, steps)
+            }
+            What::Mark { key, time } => self.mark(alloc, past, &key, time, out, steps),
+            What::Water { .. } | What::Idle | What::End => {
+                self.progress(alloc, past, entry, out, steps)
+            }
+        }
+    }
+
+    // Takes in a word on the progress of a source, or does nothing. Where the watermark stays,
+    // nothing changes.
+    fn progress<L>(
+        &mut self,
+        alloc: Global,
+        past: &Past,
+        entry: &Entry,
+        out: &mut Vec<Change>,
+        steps: &mut Steps<L>,
+    ) -> Result<(), NoMemory>
+        requires current { IsTableOf K.key_of K.fits K.next_position past.now self.old }
+        requires source { entry.now.source < past.now.sources }
+        requires within { is_entry_within entry.now ≡ true }
+        requires progress { is_progress entry.now.what ≡ true }
+        ensures refused { OnErr result
+            (IsTableOf K.key_of K.fits K.next_position past.now self.new) }
+        ensures nothing { OnErr result (out.new.items ≡ out.old.items) }
+        ensures taken { OnOk result
+            (IsTableWith K.key_of K.fits K.next_position past.now entry.now self.new) }
+        ensures changes { OnOk result (out.new.items ≡ out.old.items
+            ++ changes_after past.now.defs past.now.sources past.now.journal entry.now) }
+    {
+        let _defs = past.defs();
+        let _journal = past.journal();
+        let new = past.water_after(entry);
+        if new == past.water() {
+            return Ok(());
+        }
+        self.advance(alloc, past, entry, new, out, steps)
+    }
+}

@@ -1,0 +1,205 @@
+ghost use Rattle.std.specs.Prelude.{◌≡◌, ◌≤◌, ◌<◌, ◌+◌, ◌++◌, ◌∷◌, [], ℕ, List, true, IfOk, OnOk, OnErr, Some, None, IfSome, length, All, EachIndex, sum_by, ◌-◌, vec_len, vec_capacity, slice_index, slice_index_or};
+ghost use Rattle.std.specs.List.{HoldsAt, flat_map};
+ghost use Rattle.std.specs.BTreeMap.{IsEmpty, values};
+ghost use Rattle.key_slicer.specs.Calls.{changes_by_move};
+ghost use Rattle.key_slicer.specs.Calls.Call.{Move};
+ghost use Rattle.stream_base.specs.declared.kept.Kept.{Kept};
+ghost use Rattle.stream_base.specs.declared.entry.Entry.{Entry};
+ghost use Rattle.stream_base.specs.declared.limits.TheConstants.{FINAL, JOURNAL_MAX, TIME_MAX};
+ghost use Rattle.stream_base.specs.declared.what.What.TheVariants.{Tuple, Mark};
+ghost use Rattle.stream_base.specs.Model.Changes.{changes_after};
+ghost use Rattle.stream_base.specs.Model.What.{is_progress};
+ghost use Rattle.stream_base.specs.Model.Watermark.{water_of};
+ghost use Rattle.shard_core.specs.Engines.{AreCurrent, AreMovable, AreSameSlots, IsMovedSlot, IsSameElsewhere, IsSameOutside, IsSameSlot, IsTableOf, IsTableWith, StandsIn, due_places, moves_of, place_of};
+
+use crate::past::Past;
+use crate::slot::Slot;
+use agg_laws::Steps;
+use key_slicer::KeyWindows;
+use std::alloc::Global;
+use std::collections::BTreeMap;
+use stream_base::{Change, Defs, KeyText, NoMemory};
+
+// The states of the keys. A key has its place in the order in which keys came; each state stands
+// under a watermark of its own, and beside it is up to which watermark nothing is due.
+#[derive(Drop)]
+pub struct KeyTable<K> {
+    pub index: BTreeMap<KeyText, usize>,
+    pub slots: Vec<Slot<K>>,
+    pub dues: Vec<u64>,
+}
+
+impl<K: KeyWindows> KeyTable<K> {
+    pub fn new(alloc: Global) -> KeyTable<K>
+        ensures index { IsEmpty result.index }
+        ensures slots { result.slots.items ≡ [] }
+        ensures dues { result.dues.items ≡ [] }
+    {
+        KeyTable {
+            index: BTreeMap::new(alloc),
+            slots: Vec::new(alloc),
+            dues: Vec::new(alloc),
+        }
+    }
+
+    // The place of a key, with a fresh state where it has none yet.
+    pub fn place_or_add(
+        &mut self,
+        alloc: Global,
+        defs: &Defs,
+        key: &KeyText,
+        water: u64,
+    ) -> Result<usize, NoMemory>
+        requires { water ≤ FINAL }
+        ensures place { IfOk result (λ p. place_of self.new key.now ≡ Some p) }
+        ensures current { (sources : ℕ) (journal : List Entry) → water ≡ water_of sources journal
+            → AreCurrent K.key_of K.fits K.next_position defs.now sources journal self.old
+            → AreCurrent K.key_of K.fits K.next_position defs.now sources journal self.new }
+    {
+        match self.index.get(key) {
+            Some(place) => Ok(*place),
+            None => self.add(alloc, defs, key, water),
+        }
+    }
+
+    // A fresh state for a key that has none, all or nothing.
+    fn add(
+        &mut self,
+        alloc: Global,
+        defs: &Defs,
+        key: &KeyText,
+        water: u64,
+    ) -> Result<usize, NoMemory>
+        requires absent { place_of self.old key.now ≡ None }
+        requires water { water ≤ FINAL }
+        ensures place { IfOk result (λ p. place_of self.new key.now ≡ Some p) }
+        ensures current { (sources : ℕ) (journal : List Entry) → water ≡ water_of sources journal
+            → AreCurrent K.key_of K.fits K.next_position defs.now sources journal self.old
+            → AreCurrent K.key_of K.fits K.next_position defs.now sources journal self.new }
+    {
+        let place = self.slots.len();
+        self.slots.reserve(1)?;
+        self.dues.reserve(1)?;
+        let slot = Slot::fresh(alloc, defs, *key, water)?;
+        let due = slot.due(defs);
+        self.index.insert(*key, place)?;
+        self.slots.push_reserved(slot);
+        self.dues.push_reserved(due);
+        Ok(place)
+    }
+
+    // Brings the state at a place on to a watermark.
+    pub fn catch_up<L>(
+        &mut self,
+        defs: &Defs,
+        place: usize,
+        water: u64,
+        out: &mut Vec<Change>,
+        steps: &mut Steps<L>,
+    ) -> Result<(), NoMemory>
+        requires place { place < length self.old.slots.items }
+        requires due { place < length self.old.dues.items }
+        requires rises { HoldsAt (λ slot. slot.water ≤ water) self.old.slots.items place }
+        requires water { water ≤ FINAL }
+        ensures index { self.new.index ≡ self.old.index }
+        ensures water { OnOk result (HoldsAt (λ slot. slot.water
+            ≡ water) self.new.slots.items place) }
+        ensures current { (sources : ℕ) (journal : List Entry) (key : List ℕ)
+            → place_of self.old key ≡ Some place → water ≡ water_of sources journal
+            → AreCurrent K.key_of K.fits K.next_position defs.now sources journal self.old
+            → AreCurrent K.key_of K.fits K.next_position defs.now sources journal self.new }
+        ensures out { (sources : ℕ) (journal : List Entry) (key : List ℕ)
+            → place_of self.old key ≡ Some place → water ≡ water_of sources journal
+            → AreCurrent K.key_of K.fits K.next_position defs.now sources journal self.old
+            → out.new.items ≡ out.old.items }
+    {
+        self.slots[place].catch_up(defs, water, out, steps)?;
+        self.dues[place] = self.slots[place].due(defs);
+        Ok(())
+    }
+
+    // The place of a key whose state stands under the watermark of the past.
+    fn prepare<L>(
+        &mut self,
+        alloc: Global,
+        past: &Past,
+        key: &KeyText,
+        out: &mut Vec<Change>,
+        steps: &mut Steps<L>,
+    ) -> Result<usize, NoMemory>
+        requires { IsTableOf K.key_of K.fits K.next_position past.now self.old }
+        ensures current { IsTableOf K.key_of K.fits K.next_position past.now self.new }
+        ensures place { IfOk result (λ p. place_of self.new key.now ≡ Some p) }
+        ensures water { IfOk result (λ p. HoldsAt (λ slot. slot.water
+            ≡ water_of past.now.sources past.now.journal) self.new.slots.items p) }
+        ensures out { out.new.items ≡ out.old.items }
+    {
+        let water = past.water();
+        let defs = past.defs();
+        let place = self.place_or_add(alloc, defs, key, water)?;
+        self.catch_up(defs, place, water, out, steps)?;
+        Ok(place)
+    }
+
+    // Takes in a tuple that isn't late, or nothing.
+    pub fn put<L>(
+        &mut self,
+        alloc: Global,
+        past: &Past,
+        key: &KeyText,
+        time: u64,
+        value: i64,
+        out: &mut Vec<Change>,
+        steps: &mut Steps<L>,
+    ) -> Result<(), NoMemory>
+        requires current { IsTableOf K.key_of K.fits K.next_position past.now self.old }
+        requires time { time ≤ TIME_MAX }
+        requires few { length past.now.journal < JOURNAL_MAX }
+        requires accepted { water_of past.now.sources past.now.journal
+            ≤ time + (past.now.defs).lateness }
+        ensures refused { OnErr result
+            (IsTableOf K.key_of K.fits K.next_position past.now self.new) }
+        ensures nothing { OnErr result (out.new.items ≡ out.old.items) }
+        ensures taken { (e : Entry) → e.what ≡ Tuple key.now time value
+            → OnOk result (IsTableWith K.key_of K.fits K.next_position past.now e self.new) }
+        ensures changes { (e : Entry) → e.what ≡ Tuple key.now time value
+            → OnOk result (out.new.items
+            ≡ out.old.items ++ changes_after past.now.defs past.now.sources past.now.journal e) }
+    {
+        let place = self.prepare(alloc, past, key, out, steps)?;
+        let defs = past.defs();
+        let position = past.journal().len() as u64;
+        self.slots[place].put(defs, position, time, value, out, steps)?;
+        self.dues[place] = self.slots[place].due(defs);
+        Ok(())
+    }
+
+    // Takes in a mark that isn't late, or nothing.
+    pub fn mark<L>(
+        &mut self,
+        alloc: Global,
+        past: &Past,
+        key: &KeyText,
+        time: u64,
+        out: &mut Vec<Change>,
+        steps: &mut Steps<L>,
+    ) -> Result<(), NoMemory>
+        requires current { IsTableOf K.key_of K.fits K.next_position past.now self.old }
+        requires time { time ≤ TIME_MAX }
+        requires accepted { water_of past.now.sources past.now.journal
+            ≤ time + (past.now.defs).lateness }
+        ensures refused { OnErr result
+            (IsTableOf K.key_of K.fits K.next_position past.now self.new) }
+        ensures nothing { OnErr result (out.new.items ≡ out.old.items) }
+        ensures taken { (e : Entry) → e.what ≡ Mark key.now time
+            → OnOk result (IsTableWith K.key_of K.fits K.next_position past.now e self.new) }
+        ensures changes { (e : Entry) → e.what ≡ Mark key.now time → OnOk result (out.new.items
+            ≡ out.old.items ++ changes_after past.now.defs past.now.sources past.now.journal e) }
+    {
+        let place = self.prepare(alloc, past, key, out, steps)?;
+        let defs = past.defs();
+        self.slots[place].mark(defs, time, out, steps)?;
+        self.dues[place] = self.slots[place].due(defs);
+        Ok(())
+    }
+}

@@ -1,0 +1,211 @@
+ghost use Rattle.std.specs.Prelude.{◌≡◌, ◌≤◌, ◌<◌, ◌+◌, ◌++◌, ◌∷◌, [], ℕ, List, true, IfOk, OnOk, OnErr, Some, None, IfSome, length, All, EachIndex, sum_by, ◌-◌, vec_len, vec_capacity, slice_index, slice_index_or, ◌↔◌, IsTrue};
+ghost use Rattle.std.specs.List.{HoldsAt, flat_map};
+ghost use Rattle.std.specs.BTreeMap.{IsEmpty, values};
+ghost use Rattle.key_slicer.specs.Calls.{changes_by_move};
+ghost use Rattle.key_slicer.specs.Calls.Call.{Move};
+ghost use Rattle.stream_base.specs.declared.kept.Kept.{Kept};
+ghost use Rattle.stream_base.specs.declared.entry.Entry.{Entry};
+ghost use Rattle.stream_base.specs.declared.limits.TheConstants.{FINAL, JOURNAL_MAX, TIME_MAX};
+ghost use Rattle.stream_base.specs.declared.what.What.TheVariants.{Tuple, Mark};
+ghost use Rattle.stream_base.specs.Model.Changes.{changes_after};
+ghost use Rattle.stream_base.specs.Model.What.{is_progress};
+ghost use Rattle.stream_base.specs.Model.Watermark.{water_of};
+ghost use Rattle.shard_core.specs.Engines.{AreCurrent, AreMovable, AreSameSlots, CanMove, IsMovedSlot, IsSameElsewhere, IsSameOutside, IsSameSlot, IsTableOf, IsTableWith, SlotFits, StandsIn, due_places, moves_of, place_of};
+
+use crate::keys::KeyTable;
+use crate::past::Past;
+use crate::slot::Slot;
+use agg_laws::Steps;
+use key_slicer::KeyWindows;
+use std::alloc::Global;
+use stream_base::{Change, Defs, Entry, NoMemory};
+
+impl<K: KeyWindows> KeyTable<K> {
+    // Moves the states that are due on to a watermark, the one behind an entry that says a word on
+    // the progress of its source; or does nothing.
+    pub fn advance<L>(
+        &mut self,
+        alloc: Global,
+        past: &Past,
+        entry: &Entry,
+        new: u64,
+        out: &mut Vec<Change>,
+        steps: &mut Steps<L>,
+    ) -> Result<(), NoMemory>
+        requires current { IsTableOf K.key_of K.fits K.next_position past.now self.old }
+        requires progress { is_progress entry.now.what ≡ true }
+        requires new { new ≡ water_of past.now.sources (past.now.journal ++ entry.now ∷ []) }
+        requires water { new ≤ FINAL }
+        ensures refused { OnErr result
+            (IsTableOf K.key_of K.fits K.next_position past.now self.new) }
+        ensures nothing { OnErr result (out.new.items ≡ out.old.items) }
+        ensures taken { OnOk result
+            (IsTableWith K.key_of K.fits K.next_position past.now entry.now self.new) }
+        ensures changes { OnOk result (out.new.items ≡ out.old.items
+            ++ changes_after past.now.defs past.now.sources past.now.journal entry.now) }
+    {
+        let defs = past.defs();
+        let due = self.due_places(alloc, new)?;
+        let places = due.as_slice();
+        let room = self.reserve_moves(defs, places, new)?;
+        out.reserve(room as usize)?;
+        self.move_all(defs, places, new, out, steps);
+        Ok(())
+    }
+
+    // The places of the states that are due at a watermark, by the bytes of their keys.
+    fn due_places(&self, alloc: Global, water: u64) -> Result<Vec<usize>, NoMemory>
+        requires { All (λ p. p < length self.now.dues.items) (values self.now.index) }
+        ensures { IfOk result (λ places. places.items ≡ due_places self.now water) }
+    {
+        let mut places = Vec::new(alloc);
+        if none_reached(&self.dues, water) {
+            return Ok(places);
+        }
+        for place in self.index.values() {
+            if self.dues[*place] <= water {
+                places.push(*place)?;
+            }
+        }
+        Ok(places)
+    }
+
+    // Makes room for the move of the state at a place, and answers for how many changes.
+    fn reserve_at(&mut self, defs: &Defs, place: usize, new: u64) -> Result<u64, NoMemory>
+        requires place { place < length self.old.slots.items }
+        requires rises { HoldsAt (λ slot. slot.water ≤ new) self.old.slots.items place }
+        requires water { new ≤ FINAL }
+        ensures index { self.new.index ≡ self.old.index }
+        ensures dues { self.new.dues ≡ self.old.dues }
+        ensures len { length self.new.slots.items ≡ length self.old.slots.items }
+        ensures others { IsSameElsewhere self.old.slots.items self.new.slots.items place }
+        ensures same { (x : Slot K) → IsSameSlot K.key_of K.fits K.next_position defs.now
+            (slice_index_or self.old.slots.items place x)
+            (slice_index_or self.new.slots.items place x) }
+        ensures ready { OnOk result (HoldsAt (CanMove
+            (K.is_ready defs.now) new) self.new.slots.items place) }
+        ensures promised { IfOk result (λ n. HoldsAt (λ slot. K.promised slot.state
+            ≡ n) self.new.slots.items place) }
+    {
+        self.slots[place].reserve_move(defs, new)
+    }
+
+    // Moves the state at a place on to a watermark, for which room was made.
+    fn move_at<L>(
+        &mut self,
+        defs: &Defs,
+        place: usize,
+        new: u64,
+        out: &mut Vec<Change>,
+        steps: &mut Steps<L>,
+    )
+        requires place { place < length self.old.slots.items }
+        requires due { place < length self.old.dues.items }
+        requires rises { HoldsAt (λ slot. slot.water ≤ new) self.old.slots.items place }
+        requires water { new ≤ FINAL }
+        requires ready { HoldsAt (CanMove (K.is_ready defs.now) new) self.old.slots.items place }
+        requires spare { HoldsAt (λ slot. K.promised slot.state
+            ≤ vec_capacity out.old - vec_len out.old) self.old.slots.items place }
+        ensures index { self.new.index ≡ self.old.index }
+        ensures len { length self.new.slots.items ≡ length self.old.slots.items }
+        ensures dues_len { length self.new.dues.items ≡ length self.old.dues.items }
+        ensures others { IsSameElsewhere self.old.slots.items self.new.slots.items place }
+        ensures other_dues { IsSameElsewhere self.old.dues.items self.new.dues.items place }
+        ensures moved { (x : Slot K) → IsMovedSlot K.key_of K.fits K.next_position defs.now new
+            (slice_index_or self.old.slots.items place x)
+            (slice_index_or self.new.slots.items place x) (slice_index self.new.dues.items place) }
+        ensures changes { (x : Slot K) (kept : List Kept) (marks : List ℕ)
+            → SlotFits K.fits defs.now kept marks (slice_index_or self.old.slots.items place x)
+            → out.new.items ≡ out.old.items
+            ++ changes_by_move defs.now (K.key_of
+            (slice_index_or self.old.slots.items place x).state)
+            kept marks (slice_index_or self.old.slots.items place x).water new }
+        ensures room { HoldsAt (λ slot. vec_len out.new
+            ≤ vec_len out.old + K.promised slot.state) self.old.slots.items place }
+        ensures capacity { vec_capacity out.new ≡ vec_capacity out.old }
+    {
+        self.slots[place].move_to(defs, new, out, steps);
+        self.dues[place] = self.slots[place].due(defs);
+    }
+
+    // Makes room for the moves of the states at these places, and answers for how many changes.
+    fn reserve_moves(&mut self, defs: &Defs, places: &[usize], new: u64) -> Result<u64, NoMemory>
+        requires movable { AreMovable self.old.slots.items places.now new }
+        requires water { new ≤ FINAL }
+        ensures index { self.new.index ≡ self.old.index }
+        ensures dues { self.new.dues ≡ self.old.dues }
+        ensures same { AreSameSlots K.key_of K.fits K.next_position defs.now
+            self.old.slots.items self.new.slots.items }
+        ensures ready { OnOk result (EachIndex places.now
+            (λ i. HoldsAt (CanMove (K.is_ready defs.now) new) self.new.slots.items
+            (slice_index places.now i))) }
+        ensures room { (x : Slot K) → IfOk result
+            (λ n. sum_by (λ p. K.promised
+            (slice_index_or self.new.slots.items p x).state) places.now ≡ n) }
+    {
+        let mut room: u64 = 0;
+        for place in places {
+            let more = self.reserve_at(defs, *place, new)?;
+            room = sum_of(room, more)?;
+        }
+        Ok(room)
+    }
+
+    // Moves the states at these places on to a watermark, for which room was made.
+    fn move_all<L>(
+        &mut self,
+        defs: &Defs,
+        places: &[usize],
+        new: u64,
+        out: &mut Vec<Change>,
+        steps: &mut Steps<L>,
+    )
+        requires movable { AreMovable self.old.slots.items places.now new }
+        requires aligned { length self.old.dues.items ≡ length self.old.slots.items }
+        requires water { new ≤ FINAL }
+        requires ready { EachIndex places.now
+            (λ i. HoldsAt (CanMove (K.is_ready defs.now) new) self.old.slots.items
+            (slice_index places.now i)) }
+        requires spare { (x : Slot K)
+            → sum_by (λ p. K.promised (slice_index_or self.old.slots.items p x).state) places.now
+            ≤ vec_capacity out.old - vec_len out.old }
+        ensures index { self.new.index ≡ self.old.index }
+        ensures len { length self.new.slots.items ≡ length self.old.slots.items }
+        ensures aligned { length self.new.dues.items ≡ length self.old.dues.items }
+        ensures others { IsSameOutside self.old.slots.items self.new.slots.items places.now }
+        ensures other_dues { IsSameOutside self.old.dues.items self.new.dues.items places.now }
+        ensures moved { (x : Slot K)
+            → EachIndex places.now (λ i. IsMovedSlot K.key_of K.fits K.next_position defs.now new
+            (slice_index_or self.old.slots.items (slice_index places.now i) x)
+            (slice_index_or self.new.slots.items (slice_index places.now i) x)
+            (slice_index self.new.dues.items (slice_index places.now i))) }
+        ensures nowhere { places.now ≡ [] → out.new.items ≡ out.old.items }
+        ensures changes { (x : Slot K) (kept : List ℕ → List Kept) (marks : List ℕ → List ℕ)
+            → EachIndex places.now (λ i. StandsIn K.key_of K.fits defs.now kept marks
+            (slice_index_or self.old.slots.items (slice_index places.now i) x))
+            → out.new.items ≡ out.old.items
+            ++ flat_map (λ p. moves_of K.key_of defs.now kept marks new
+            (slice_index_or self.old.slots.items p x)) places.now }
+    {
+        for place in places {
+            self.move_at(defs, *place, new, out, steps);
+        }
+    }
+}
+
+// The sum of two numbers of changes. No memory holds more than 2^64 of them.
+fn sum_of(a: u64, b: u64) -> Result<u64, NoMemory>
+    ensures { IfOk result (λ sum. sum ≡ a + b) }
+{
+    match a.checked_add(b) {
+        Some(sum) => Ok(sum),
+        None => Err(NoMemory),
+    }
+}
+
+// Whether a watermark reaches none of the due numbers.
+fn none_reached(dues: &[u64], water: u64) -> bool
+    ensures { IsTrue result ↔ EachIndex dues.now (λ i. water < slice_index dues.now i) }
+{
+    dues.iter().all(|due| water < *due)
+}

@@ -1,0 +1,184 @@
+ghost use Rattle.std.specs.Prelude.{◌≡◌, ◌≤◌, ◌<◌, ◌+◌, ◌++◌, [], ◌-◌, ℕ, List, IfOk, OnOk, OnErr, vec_len, vec_capacity};
+ghost use Rattle.std.specs.BTreeSet.{insert_key};
+ghost use Rattle.std.specs.Ordering.{nat_cmp};
+ghost use Rattle.key_slicer.specs.Calls.{changes_by_mark, changes_by_move, changes_by_put, kept_at};
+ghost use Rattle.key_slicer.specs.Calls.Call.{Move};
+ghost use Rattle.stream_base.specs.declared.kept.Kept.{Kept};
+ghost use Rattle.stream_base.specs.declared.limits.TheConstants.{FINAL, JOURNAL_MAX, TIME_MAX};
+ghost use Rattle.stream_base.specs.Model.Journal.{put_in_order};
+ghost use Rattle.shard_core.specs.Engines.{CanMove, IsQuiet, IsSameSlot, SlotFits};
+
+use agg_laws::Steps;
+use key_slicer::KeyWindows;
+use std::alloc::Global;
+use stream_base::{Change, Defs, KeyText, NoMemory};
+
+// The state of a key, and the watermark under which it stands.
+#[derive(Drop)]
+pub struct Slot<K> {
+    pub state: K,
+    pub water: u64,
+}
+
+impl<K: KeyWindows> Slot<K> {
+    // No tuple and no mark yet.
+    pub fn fresh(alloc: Global, defs: &Defs, key: KeyText, water: u64) -> Result<Slot<K>, NoMemory>
+        ensures key { IfOk result (λ slot. K.key_of slot.state ≡ key) }
+        ensures first { IfOk result (λ slot. K.next_position slot.state ≡ 0) }
+        ensures empty { IfOk result (λ slot. K.fits defs.now [] [] water slot.state) }
+        ensures water { IfOk result (λ slot. slot.water ≡ water) }
+    {
+        let state = K::fresh(alloc, defs, key)?;
+        Ok(Slot { state, water })
+    }
+
+    // Brings the state on to a watermark. Where nothing is due before that, nothing changes.
+    pub fn catch_up<L>(
+        &mut self,
+        defs: &Defs,
+        water: u64,
+        out: &mut Vec<Change>,
+        steps: &mut Steps<L>,
+    ) -> Result<(), NoMemory>
+        requires rises { (self.old).water ≤ water }
+        requires water { water ≤ FINAL }
+        ensures key { K.key_of (self.new).state ≡ K.key_of (self.old).state }
+        ensures next { K.next_position (self.new).state ≡ K.next_position (self.old).state }
+        ensures fits { (kept : List Kept) (marks : List ℕ)
+            → SlotFits K.fits defs.now kept marks self.old
+            → SlotFits K.fits defs.now kept marks self.new }
+        ensures water { OnOk result ((self.new).water ≡ water) }
+        ensures refused { OnErr result ((self.new).water ≡ (self.old).water) }
+        ensures quiet { (kept : List Kept) (marks : List ℕ)
+            → SlotFits K.fits defs.now kept marks self.old
+            → ((self.old).water < water
+            → changes_by_move defs.now (K.key_of (self.old).state) kept marks
+            (self.old).water water ≡ [])
+            → out.new.items ≡ out.old.items }
+    {
+        if self.water == water {
+            return Ok(());
+        }
+        let room = self.state.reserve_water(defs, self.water, water)?;
+        out.reserve(room as usize)?;
+        self.state.water(defs, self.water, water, out, steps);
+        self.water = water;
+        Ok(())
+    }
+
+    // Takes in an accepted tuple, or nothing.
+    pub fn put<L>(
+        &mut self,
+        defs: &Defs,
+        position: u64,
+        time: u64,
+        value: i64,
+        out: &mut Vec<Change>,
+        steps: &mut Steps<L>,
+    ) -> Result<(), NoMemory>
+        requires time { time ≤ TIME_MAX }
+        requires position { K.next_position (self.old).state ≤ position }
+        requires few { position < JOURNAL_MAX }
+        requires water { (self.old).water ≤ FINAL }
+        requires accepted { (self.old).water ≤ time + (defs.now).lateness }
+        ensures refused { OnErr result
+            (IsSameSlot K.key_of K.fits K.next_position defs.now self.old self.new) }
+        ensures nothing { OnErr result (out.new.items ≡ out.old.items) }
+        ensures key { OnOk result (K.key_of (self.new).state ≡ K.key_of (self.old).state) }
+        ensures water { OnOk result ((self.new).water ≡ (self.old).water) }
+        ensures next { OnOk result (K.next_position (self.new).state ≡ position + 1) }
+        ensures fits { (kept : List Kept) (marks : List ℕ)
+            → SlotFits K.fits defs.now kept marks self.old
+            → OnOk result (K.fits defs.now (put_in_order kept (kept_at position time value)) marks
+            (self.new).water (self.new).state) }
+        ensures changes { (kept : List Kept) (marks : List ℕ)
+            → SlotFits K.fits defs.now kept marks self.old
+            → OnOk result (out.new.items ≡ out.old.items
+            ++ changes_by_put defs.now (K.key_of (self.old).state) kept marks (self.old).water
+            (kept_at position time value)) }
+    {
+        let room = self.state.reserve_put(defs, time, self.water)?;
+        out.reserve(room as usize)?;
+        self.state
+            .put(defs, position, time, value, self.water, out, steps);
+        Ok(())
+    }
+
+    // Takes in an accepted mark, or nothing.
+    pub fn mark<L>(
+        &mut self,
+        defs: &Defs,
+        time: u64,
+        out: &mut Vec<Change>,
+        steps: &mut Steps<L>,
+    ) -> Result<(), NoMemory>
+        requires time { time ≤ TIME_MAX }
+        requires water { (self.old).water ≤ FINAL }
+        requires accepted { (self.old).water ≤ time + (defs.now).lateness }
+        ensures refused { OnErr result
+            (IsSameSlot K.key_of K.fits K.next_position defs.now self.old self.new) }
+        ensures nothing { OnErr result (out.new.items ≡ out.old.items) }
+        ensures key { OnOk result (K.key_of (self.new).state ≡ K.key_of (self.old).state) }
+        ensures water { OnOk result ((self.new).water ≡ (self.old).water) }
+        ensures next { OnOk result (K.next_position (self.new).state
+            ≡ K.next_position (self.old).state) }
+        ensures fits { (kept : List Kept) (marks : List ℕ)
+            → SlotFits K.fits defs.now kept marks self.old
+            → OnOk result (K.fits defs.now kept (insert_key nat_cmp marks time) (self.new).water
+            (self.new).state) }
+        ensures changes { (kept : List Kept) (marks : List ℕ)
+            → SlotFits K.fits defs.now kept marks self.old
+            → OnOk result (out.new.items ≡ out.old.items
+            ++ changes_by_mark defs.now (K.key_of (self.old).state) kept marks
+            (self.old).water time) }
+    {
+        let room = self.state.reserve_mark(defs, time, self.water)?;
+        out.reserve(room as usize)?;
+        self.state.mark(defs, time, self.water, out, steps);
+        Ok(())
+    }
+
+    // Makes room for a move to a watermark, and answers for how many changes there is to be room.
+    pub fn reserve_move(&mut self, defs: &Defs, new: u64) -> Result<u64, NoMemory>
+        requires rises { (self.old).water ≤ new }
+        requires water { new ≤ FINAL }
+        ensures same { IsSameSlot K.key_of K.fits K.next_position defs.now self.old self.new }
+        ensures ready { OnOk result (CanMove (K.is_ready defs.now) new self.new) }
+        ensures promised { IfOk result (λ n. K.promised (self.new).state ≡ n) }
+    {
+        self.state.reserve_water(defs, self.water, new)
+    }
+
+    // Moves on to a watermark.
+    pub fn move_to<L>(&mut self, defs: &Defs, new: u64, out: &mut Vec<Change>, steps: &mut Steps<L>)
+        requires rises { (self.old).water ≤ new }
+        requires water { new ≤ FINAL }
+        requires ready { CanMove (K.is_ready defs.now) new self.old }
+        requires spare { K.promised (self.old).state ≤ vec_capacity out.old - vec_len out.old }
+        ensures key { K.key_of (self.new).state ≡ K.key_of (self.old).state }
+        ensures next { K.next_position (self.new).state ≡ K.next_position (self.old).state }
+        ensures water { (self.new).water ≡ new }
+        ensures fits { (kept : List Kept) (marks : List ℕ)
+            → SlotFits K.fits defs.now kept marks self.old
+            → K.fits defs.now kept marks new (self.new).state }
+        ensures changes { (kept : List Kept) (marks : List ℕ)
+            → SlotFits K.fits defs.now kept marks self.old
+            → out.new.items ≡ out.old.items
+            ++ changes_by_move defs.now (K.key_of (self.old).state) kept marks
+            (self.old).water new }
+        ensures room { vec_len out.new ≤ vec_len out.old + K.promised (self.old).state }
+        ensures capacity { vec_capacity out.new ≡ vec_capacity out.old }
+    {
+        self.state.water(defs, self.water, new, out, steps);
+        self.water = new;
+    }
+
+    // Up to which watermark, without it, nothing is due.
+    pub fn due(&self, defs: &Defs) -> u64
+        requires { (self.now).water ≤ FINAL }
+        ensures { (kept : List Kept) (marks : List ℕ) → SlotFits K.fits defs.now kept marks self.now
+            → IsQuiet defs.now (K.key_of (self.now).state) kept marks (self.now).water result }
+    {
+        self.state.next_due(defs, self.water)
+    }
+}

@@ -1,0 +1,4 @@
+pub mod Standings
+pub mod Tallies
+pub mod Watched
+pub mod Inside

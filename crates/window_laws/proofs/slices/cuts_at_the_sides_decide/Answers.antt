@@ -1,0 +1,14 @@
+use Rattle.window_laws.proofs.SliceFacts.{extended_slice, fronted_slice, merged_slices, slice_alone}
+use Rattle.window_laws.proofs.slices.cuts_at_the_sides_decide.Goals as goal
+
+pub returns-clause-alone : goal.returns-clause-alone
+returns-clause-alone c = slice_alone
+
+pub returns-clause-fronted : goal.returns-clause-fronted
+returns-clause-fronted c = fronted_slice
+
+pub returns-clause-extended : goal.returns-clause-extended
+returns-clause-extended c = extended_slice
+
+pub returns-clause-merged : goal.returns-clause-merged
+returns-clause-merged c = merged_slices

@@ -1,0 +1,11 @@
+pub mod Runs
+pub mod Walk
+pub mod Due
+pub mod Late
+pub mod After
+pub mod Instances
+pub mod Sessions
+pub mod Stretches
+pub mod Positions
+pub mod Counts
+pub mod Settled
