@@ -1,0 +1,6 @@
+pub mod Upper
+pub mod Standing
+pub mod Shift
+pub mod Folding
+pub mod Telling
+pub mod Puts

@@ -1,0 +1,191 @@
+//! The tuples of a key for its events windows.
+ghost use Rattle.std.specs.Prelude.{◌≡◌, ◌≤◌, ◌<◌, ◌+◌, ◌-◌, ◌*◌, ◌/◌, ◌++◌, ℕ, List, [], length, slice_get, Some, OnOk, IfOk, vec_len, vec_capacity};
+ghost use Rattle.stream_base.specs.declared.func.Func.{Func};
+ghost use Rattle.stream_base.specs.declared.kept.Kept.{Kept};
+ghost use Rattle.stream_base.specs.declared.kind.Kind.TheVariants.{Events};
+ghost use Rattle.stream_base.specs.Limits.{IsKindWithin};
+ghost use Rattle.stream_base.specs.Laws.{TimesDoNotFall, completions};
+ghost use Rattle.stream_base.specs.Model.Changes.{emissions, retractions};
+ghost use Rattle.stream_base.specs.Model.Journal.{put_in_order};
+ghost use Rattle.count_shift.specs.Counting.{IsEvents, IsNextPosition, count_of, events, kept_at, moment, move_changes, put_changes, upper};
+
+use crate::events_window::EventsWindow;
+use crate::ranks::{upper, upper_after};
+use crate::shifted::Shifted;
+use agg_laws::Steps;
+use std::alloc::Global;
+use std::marker::Model;
+use stream_base::{Change, Def, Kept, KeyText, Kind, NoMemory};
+
+/// All accepted tuples of one key, in event order, for an events window of it. Contracts see the
+/// tuples, and for how many more room is made.
+#[derive(Debug, Drop)]
+pub struct CountLane {
+    items: Vec<Kept>,
+}
+
+impl Model for CountLane {
+    ghost use Rattle.std.specs.Prelude.{◌-◌, vec_len, vec_capacity};
+    ghost use Rattle.stream_base.specs.Laws.{TimesDoNotFall};
+    ghost use Rattle.count_shift.specs.Lane.{Laned};
+
+    ghost Value = { Laned };
+
+    ghost view = { λ l. record {
+      kept = l.items.items;
+      spare = vec_capacity l.items - vec_len l.items;
+    } };
+
+    ghost invariant = { λ l. TimesDoNotFall l.items.items };
+}
+
+impl CountLane {
+    /// No tuple yet.
+    pub fn new(alloc: Global) -> CountLane
+        ensures empty { result.kept ≡ [] }
+        ensures first { (position : ℕ) → IsNextPosition result.kept position }
+    {
+        CountLane {
+            items: Vec::new(alloc),
+        }
+    }
+
+    /// Makes room for a tuple at a time under a watermark, and answers how many changes its `put`
+    /// will append.
+    pub fn reserve(&mut self, count: u64, time: u64, water: u64) -> Result<u64, NoMemory>
+        requires { IsKindWithin (Events count) }
+        ensures kept { self.new.kept ≡ self.old.kept }
+        ensures room { OnOk result (1 ≤ self.new.spare) }
+        ensures spare { self.old.spare ≤ self.new.spare }
+        ensures number { IfOk result (λ n. n ≡ put_changes count self.old.kept time water) }
+        ensures changes { (window : ℕ) (func : Func) (key marks : List ℕ) (x : Kept) → x.time ≡ time
+            → IsNextPosition self.old.kept x.position → IfOk result (λ n. n
+            ≡ length (emissions key (moment self.old.kept marks water)
+            (moment (put_in_order self.old.kept x) marks water) (window, events count func))) }
+    {
+        self.items.reserve(1)?;
+        let from = upper(&self.items, time) as u64 / count;
+        let stand = upper_after(&self.items, time, water) / count;
+        Ok(stand.saturating_sub(from))
+    }
+
+    /// Takes in an accepted tuple, behind those of its time, and appends exactly the changes of the
+    /// window: the standing instances from its rank on select other tuples and are told again, with
+    /// what they were, and at most one instance comes to stand. Its position is above all before;
+    /// `reserve` made the room, and said how many changes there will be.
+    pub fn put<L>(
+        &mut self,
+        window: u32,
+        def: &Def,
+        key: &KeyText,
+        pos: u64,
+        time: u64,
+        value: i64,
+        water: u64,
+        out: &mut Vec<Change>,
+        steps: &mut Steps<L>,
+    ) -> Shifted
+        requires events { IsEvents (def.now).kind }
+        requires room { 1 ≤ self.old.spare }
+        requires spare { put_changes (count_of (def.now).kind) self.old.kept time water
+            ≤ vec_capacity out.old - vec_len out.old }
+        ensures rank { result.from_rank ≡ upper self.old.kept time }
+        ensures stands { slice_get self.new.kept result.from_rank ≡ Some (kept_at pos time value) }
+        ensures kept { self.new.kept ≡ put_in_order self.old.kept (kept_at pos time value) }
+        ensures ordered { TimesDoNotFall self.new.kept }
+        ensures room_left { self.new.spare + 1 ≡ self.old.spare }
+        ensures next { (next : ℕ) → IsNextPosition self.old.kept pos → pos < next
+            → IsNextPosition self.new.kept next }
+        ensures none_gone { (marks : List ℕ)
+            → retractions key.now (moment self.old.kept marks water)
+            (moment self.new.kept marks water) (window, def.now) ≡ [] }
+        ensures changes { (marks : List ℕ) → IsNextPosition self.old.kept pos → out.new.items
+            ≡ out.old.items ++ emissions key.now (moment self.old.kept marks water)
+            (moment self.new.kept marks water) (window, def.now) }
+        ensures number { vec_len out.new
+            ≡ vec_len out.old + put_changes (count_of (def.now).kind) self.old.kept time water }
+        ensures capacity { vec_capacity out.new ≡ vec_capacity out.old }
+        ensures cost { steps.new
+            ≤ steps.old + 2 * count_of (def.now).kind * (vec_len out.new - vec_len out.old) }
+    {
+        let window = EventsWindow {
+            window,
+            key,
+            func: def.func,
+            count: count_of(&def.kind) as usize,
+        };
+        let rank = upper(&self.items, time);
+        let stood = upper(&self.items, water) / window.count;
+        let stand = upper_after(&self.items, time, water) as usize / window.count;
+        let x = Kept {
+            position: pos,
+            time,
+            value,
+        };
+        self.items.insert(rank, x).unwrap();
+        window.append_again(&self.items, rank, rank / window.count, stood, out, steps);
+        window.append_new(&self.items, stood, stand, out, steps);
+        Shifted {
+            from_rank: rank as u64,
+        }
+    }
+
+    /// How many instances a move of the watermark completes.
+    pub fn due(&self, count: u64, old: u64, new: u64) -> u64
+        requires { IsKindWithin (Events count) }
+        ensures number { result ≡ move_changes count self.now.kept old new }
+        ensures rows { (window : ℕ) (func : Func) (key marks : List ℕ) → result
+            ≡ length (completions key (moment self.now.kept marks old) new
+            (window, events count func)) }
+    {
+        let stood = upper(&self.items, old) as u64 / count;
+        let stand = upper(&self.items, new) as u64 / count;
+        stand.saturating_sub(stood)
+    }
+
+    /// Appends exactly the instances that a move of the watermark completes, as new. `due` says how
+    /// many.
+    pub fn rows<L>(
+        &self,
+        window: u32,
+        def: &Def,
+        key: &KeyText,
+        old: u64,
+        new: u64,
+        out: &mut Vec<Change>,
+        steps: &mut Steps<L>,
+    )
+        requires events { IsEvents (def.now).kind }
+        requires spare { move_changes (count_of (def.now).kind) self.now.kept old new
+            ≤ vec_capacity out.old - vec_len out.old }
+        ensures changes { (marks : List ℕ) → out.new.items ≡ out.old.items
+            ++ completions key.now (moment self.now.kept marks old) new (window, def.now) }
+        ensures number { vec_len out.new
+            ≡ vec_len out.old + move_changes (count_of (def.now).kind) self.now.kept old new }
+        ensures capacity { vec_capacity out.new ≡ vec_capacity out.old }
+        ensures cost { steps.new
+            ≤ steps.old + count_of (def.now).kind * (vec_len out.new - vec_len out.old) }
+    {
+        let window = EventsWindow {
+            window,
+            key,
+            func: def.func,
+            count: count_of(&def.kind) as usize,
+        };
+        let stood = upper(&self.items, old) / window.count;
+        let stand = upper(&self.items, new) / window.count;
+        window.append_new(&self.items, stood, stand, out, steps);
+    }
+}
+
+// How many tuples an instance of the window selects.
+fn count_of(kind: &Kind) -> u64
+    requires { IsEvents kind.now }
+    ensures value { result ≡ count_of kind.now }
+    ensures some { 1 ≤ result }
+{
+    match *kind {
+        Kind::Events { count } => count,
+        _ => unreachable!(),
+    }
+}
