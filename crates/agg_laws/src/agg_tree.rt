@@ -12,7 +12,8 @@ use stream_base::NoMemory;
 ///
 /// Its work is bounded by its reach: each call makes at most `64 * (reach + 2)` steps, and a fold
 /// at most one for each pair in its range. The reach grows by at most 1 at an `insert` and at no
-/// other call. `probes` counts the nodes that a call looks at.
+/// other call, and it is bounded by the number of pairs. `probes` counts the nodes that a call looks
+/// at, and doesn't fall.
 pub trait AggTree<M: Monoid> {
     // The pairs that the tree stands for, in the order of their keys.
     ghost pairs: { Self → List (ℕ × M) };
@@ -22,6 +23,9 @@ pub trait AggTree<M: Monoid> {
 
     // What the bounds on steps go by.
     ghost reach: { Self → ℕ };
+
+    // How the reach of any tree is bounded by the number of its pairs.
+    ghost bounded: { ℕ → ℕ → Type 0 };
 
     /// An empty tree.
     fn fresh(alloc: Global) -> Self
@@ -34,6 +38,7 @@ pub trait AggTree<M: Monoid> {
         ensures spare { spare self.old ≤ spare self.new }
         ensures kept { pairs self.new ≡ pairs self.old }
         ensures rising { AreRising (pairs self.new) }
+        ensures bounded { bounded (reach self.new) (length (pairs self.new)) }
         ensures reach { reach self.new ≡ reach self.old };
 
     /// Puts a value under a key that isn't there. Uses one spare.
@@ -42,8 +47,10 @@ pub trait AggTree<M: Monoid> {
         requires room { 1 ≤ spare self.old }
         ensures inserted { pairs self.new ≡ inserted key value (pairs self.old) }
         ensures rising { AreRising (pairs self.new) }
+        ensures bounded { bounded (reach self.new) (length (pairs self.new)) }
         ensures spare { spare self.new + 1 ≡ spare self.old }
         ensures reach { reach self.new ≤ reach self.old + 1 }
+        ensures probes { probes.old ≤ probes.new }
         ensures cost { steps.new ≤ steps.old + 64 * (reach self.old + 2) };
 
     /// Puts another value under a key that is there.
@@ -51,8 +58,10 @@ pub trait AggTree<M: Monoid> {
         requires { IsTrue (has_key key (pairs self.old)) }
         ensures replaced { pairs self.new ≡ replaced key value (pairs self.old) }
         ensures rising { AreRising (pairs self.new) }
+        ensures bounded { bounded (reach self.new) (length (pairs self.new)) }
         ensures spare { spare self.old ≤ spare self.new }
         ensures reach { reach self.new ≤ reach self.old }
+        ensures probes { probes.old ≤ probes.new }
         ensures cost { steps.new ≤ steps.old + 64 * (reach self.old + 2) };
 
     /// Takes out the pair with this key and gives its value, `None` exactly where there is none.
@@ -61,8 +70,10 @@ pub trait AggTree<M: Monoid> {
         ensures none { (result ≡ None) ↔ (has_key key (pairs self.old) ≡ false) }
         ensures rest { pairs self.new ≡ without key (pairs self.old) }
         ensures rising { AreRising (pairs self.new) }
+        ensures bounded { bounded (reach self.new) (length (pairs self.new)) }
         ensures spare { spare self.old ≤ spare self.new }
         ensures reach { reach self.new ≤ reach self.old }
+        ensures probes { probes.old ≤ probes.new }
         ensures cost { steps.new ≤ steps.old + 64 * (reach self.old + 2) };
 
     /// The least key, `None` exactly where the tree is empty.
@@ -76,12 +87,14 @@ pub trait AggTree<M: Monoid> {
         ensures value { result ≡ total M.empty M.op (values_of (within low high (pairs self.now))) }
         ensures rising { AreRising (pairs self.now) }
         ensures one_each { steps.new ≤ steps.old + length (within low high (pairs self.now)) }
+        ensures probes { probes.old ≤ probes.new }
         ensures cost { steps.new ≤ steps.old + 64 * (reach self.now + 2) };
 
     /// How many pairs there are.
     fn len(&self) -> u64
         ensures count { result ≡ length (pairs self.now) }
-        ensures rising { AreRising (pairs self.now) };
+        ensures rising { AreRising (pairs self.now) }
+        ensures bounded { bounded (reach self.now) (length (pairs self.now)) };
 
     /// How many levels of nodes lie below each other: 0 where the tree is empty.
     fn height(&self) -> u32

@@ -1,4 +1,4 @@
-ghost use Rattle.std.specs.Prelude.{◌≡◌, ◌≤◌, ◌<◌, ◌+◌, IfSome, IfNone, length, take, drop, false};
+ghost use Rattle.std.specs.Prelude.{◌≡◌, ◌≤◌, ◌<◌, ◌+◌, ◌^◌, [], IfSome, IfNone, length, take, drop, false};
 ghost use Rattle.agg_laws.specs.Laws.{total};
 ghost use Rattle.agg_laws.specs.Pairs.{AreRising, StandsAt, has_key, pairs_below, pairs_from, within, values_of};
 
@@ -35,6 +35,8 @@ impl<M: Monoid> AggTree<M> for FlatTree<M> {
     ghost spare = { λ t. t.spare };
 
     ghost reach = { λ t. length t.pairs };
+
+    ghost bounded = { λ reach count. reach ≡ count };
 
     fn fresh(alloc: Global) -> FlatTree<M> {
         FlatTree {
@@ -75,7 +77,12 @@ impl<M: Monoid> AggTree<M> for FlatTree<M> {
         self.pairs.len() as u64
     }
 
-    fn height(&self) -> u32 {
+    /// A vector has no nodes, and so no height.
+    fn height(&self) -> u32
+        ensures empty { self.now.pairs ≡ [] → result ≡ 0 }
+        ensures bound { 2 ^ result ≤ length self.now.pairs + 1 }
+        ensures none { result ≡ 0 }
+    {
         0
     }
 }

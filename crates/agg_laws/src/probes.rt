@@ -1,4 +1,4 @@
-ghost use Rattle.std.specs.Prelude.{◌≡◌};
+ghost use Rattle.std.specs.Prelude.{◌≡◌, ◌≤◌};
 ghost use Rattle.agg_laws.specs.Counters.{next_count};
 
 use std::marker::Model;
@@ -28,7 +28,8 @@ impl Probes {
 
     /// One node more.
     pub fn look(&mut self)
-        ensures { self.new ≡ next_count self.old }
+        ensures counted { self.new ≡ next_count self.old }
+        ensures rises { self.old ≤ self.new }
     {
         self.count = self.count.saturating_add(1);
     }

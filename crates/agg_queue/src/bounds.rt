@@ -13,7 +13,8 @@ pub(crate) struct Bounds {
 impl Bounds {
     /// All boundaries at one place.
     pub(crate) fn all_at(place: usize) -> Bounds
-        ensures { result ≡ record { left = place; right = place; accumulator = place; back = place } }
+        ensures { result
+            ≡ record { left = place; right = place; accumulator = place; back = place } }
     {
         Bounds {
             left: place,
@@ -29,7 +30,12 @@ impl Bounds {
         requires right { 1 ≤ self.right }
         requires accumulator { 1 ≤ self.accumulator }
         requires back { 1 ≤ self.back }
-        ensures { result ≡ record { left = self.left - 1; right = self.right - 1; accumulator = self.accumulator - 1; back = self.back - 1 } }
+        ensures { result ≡ record {
+          left = self.left - 1;
+          right = self.right - 1;
+          accumulator = self.accumulator - 1;
+          back = self.back - 1;
+        } }
     {
         Bounds {
             left: self.left - 1,

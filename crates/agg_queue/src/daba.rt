@@ -129,7 +129,8 @@ impl<M: Monoid> AggQueue<M> for Daba<M> {
 fn total_at_first<M: Monoid>(cells: &Cells<M>, from: usize, to: usize) -> M
     requires order { from ≤ to }
     requires within { to ≤ length cells.now.values }
-    requires first { from < to → slice_index_or cells.now.aggregates from M.empty ≡ total_within M.empty M.op cells.now.values from to }
+    requires first { from < to → slice_index_or cells.now.aggregates from M.empty
+        ≡ total_within M.empty M.op cells.now.values from to }
     ensures { result ≡ total_within M.empty M.op cells.now.values from to }
 {
     if from == to {
@@ -142,7 +143,8 @@ fn total_at_first<M: Monoid>(cells: &Cells<M>, from: usize, to: usize) -> M
 fn total_at_last<M: Monoid>(cells: &Cells<M>, from: usize, to: usize) -> M
     requires order { from ≤ to }
     requires within { to ≤ length cells.now.values }
-    requires last { from < to → slice_index_or cells.now.aggregates (to - 1) M.empty ≡ total_within M.empty M.op cells.now.values from to }
+    requires last { from < to → slice_index_or cells.now.aggregates (to - 1) M.empty
+        ≡ total_within M.empty M.op cells.now.values from to }
     ensures { result ≡ total_within M.empty M.op cells.now.values from to }
 {
     if from == to {
@@ -153,11 +155,13 @@ fn total_at_last<M: Monoid>(cells: &Cells<M>, from: usize, to: usize) -> M
 
 // The one move after a push or a pop. At most three steps.
 fn fix_up<M: Monoid, L>(cells: &mut Cells<M>, bounds: Bounds, steps: &mut Steps<L>) -> Bounds
-    requires totals { KeepsTotals M.is_value M.empty M.op cells.old.values cells.old.aggregates bounds }
+    requires totals { KeepsTotals M.is_value M.empty M.op
+        cells.old.values cells.old.aggregates bounds }
     requires behind { IsBehind bounds (length cells.old.values) }
     ensures values { cells.new.values ≡ cells.old.values }
     ensures spare { cells.new.spare ≡ cells.old.spare }
-    ensures totals { KeepsTotals M.is_value M.empty M.op cells.new.values cells.new.aggregates result }
+    ensures totals { KeepsTotals M.is_value M.empty M.op
+        cells.new.values cells.new.aggregates result }
     ensures balanced { IsBalanced result (length cells.new.values) }
     ensures cost { steps.new ≤ steps.old + 3 }
 {
@@ -180,10 +184,12 @@ fn fix_up<M: Monoid, L>(cells: &mut Cells<M>, bounds: Bounds, steps: &mut Steps<
 // Where the front has grown up to the back boundary, the front becomes the left range and the back
 // becomes the right one.
 fn flipped<M: Monoid>(cells: &Cells<M>, bounds: Bounds) -> Bounds
-    requires totals { KeepsTotals M.is_value M.empty M.op cells.now.values cells.now.aggregates bounds }
+    requires totals { KeepsTotals M.is_value M.empty M.op
+        cells.now.values cells.now.aggregates bounds }
     requires behind { IsBehind bounds (length cells.now.values) }
     requires some { 0 < bounds.back }
-    ensures totals { KeepsTotals M.is_value M.empty M.op cells.now.values cells.now.aggregates result }
+    ensures totals { KeepsTotals M.is_value M.empty M.op
+        cells.now.values cells.now.aggregates result }
     ensures behind { IsBehind result (length cells.now.values) }
     ensures room { result.left < result.back }
 {
@@ -201,11 +207,13 @@ fn flipped<M: Monoid>(cells: &Cells<M>, bounds: Bounds) -> Bounds
 // Makes the first aggregate of the left range run up to the back boundary, so that its cell joins
 // the front. Two steps.
 fn extend_left<M: Monoid, L>(cells: &mut Cells<M>, bounds: Bounds, steps: &mut Steps<L>) -> Bounds
-    requires totals { KeepsTotals M.is_value M.empty M.op cells.old.values cells.old.aggregates bounds }
+    requires totals { KeepsTotals M.is_value M.empty M.op
+        cells.old.values cells.old.aggregates bounds }
     requires some { bounds.left < bounds.right }
     ensures values { cells.new.values ≡ cells.old.values }
     ensures spare { cells.new.spare ≡ cells.old.spare }
-    ensures totals { KeepsTotals M.is_value M.empty M.op cells.new.values cells.new.aggregates result }
+    ensures totals { KeepsTotals M.is_value M.empty M.op
+        cells.new.values cells.new.aggregates result }
     ensures moved { result ≡ record bounds { left = bounds.left + 1 } }
     ensures cost { steps.new ≤ steps.old + 2 }
 {
@@ -227,11 +235,13 @@ fn extend_accumulator<M: Monoid, L>(
     bounds: Bounds,
     steps: &mut Steps<L>,
 ) -> Bounds
-    requires totals { KeepsTotals M.is_value M.empty M.op cells.old.values cells.old.aggregates bounds }
+    requires totals { KeepsTotals M.is_value M.empty M.op
+        cells.old.values cells.old.aggregates bounds }
     requires some { bounds.right < bounds.accumulator }
     ensures values { cells.new.values ≡ cells.old.values }
     ensures spare { cells.new.spare ≡ cells.old.spare }
-    ensures totals { KeepsTotals M.is_value M.empty M.op cells.new.values cells.new.aggregates result }
+    ensures totals { KeepsTotals M.is_value M.empty M.op
+        cells.new.values cells.new.aggregates result }
     ensures moved { result ≡ record bounds { accumulator = bounds.accumulator - 1 } }
     ensures cost { steps.new ≤ steps.old + 1 }
 {

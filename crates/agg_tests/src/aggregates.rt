@@ -137,7 +137,8 @@ fn push_pop_fold<M: Monoid, Q: AggQueue<M>, L>(
 ) -> Result<M, NoMemory>
     ensures value { IfOk result (λ sum. sum ≡ total M.empty M.op (Q.items queue.new)) }
     ensures items { OnOk result (length (Q.items queue.new) ≡ length (Q.items queue.old) + 1) }
-    ensures cost { OnOk result (steps.new + Q.credit queue.new ≤ steps.old + Q.credit queue.old + 15) }
+    ensures cost { OnOk result (steps.new + Q.credit queue.new
+        ≤ steps.old + Q.credit queue.old + 15) }
 {
     queue.reserve(2)?;
     queue.push(a, steps);
@@ -147,7 +148,7 @@ fn push_pop_fold<M: Monoid, Q: AggQueue<M>, L>(
 }
 
 // A caller of any tree: an insertion, a fold of a range that holds it, and its removal.
-fn insert_fold_remove<M: Monoid, T: AggTree<M>, L>(
+pub(crate) fn insert_fold_remove<M: Monoid, T: AggTree<M>, L>(
     tree: &mut T,
     key: u64,
     value: M,
@@ -155,8 +156,10 @@ fn insert_fold_remove<M: Monoid, T: AggTree<M>, L>(
     steps: &mut Steps<L>,
 ) -> Result<M, NoMemory>
     requires { has_key key (T.pairs tree.old) ≡ false }
-    ensures value { IfOk result (λ sum. sum ≡ total M.empty M.op (values_of (within 0 1000 (inserted key value (T.pairs tree.old))))) }
-    ensures rest { OnOk result (T.pairs tree.new ≡ without key (inserted key value (T.pairs tree.old))) }
+    ensures value { IfOk result (λ sum. sum ≡ total M.empty M.op
+        (values_of (within 0 1000 (inserted key value (T.pairs tree.old))))) }
+    ensures rest { OnOk result (T.pairs tree.new
+        ≡ without key (inserted key value (T.pairs tree.old))) }
     ensures cost { OnOk result (steps.new ≤ steps.old + 64 * (3 * T.reach tree.old + 8)) }
 {
     tree.reserve(1)?;

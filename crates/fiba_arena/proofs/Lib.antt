@@ -1,0 +1,13 @@
+pub mod Lists
+pub mod Frames
+pub mod Sound
+pub mod Opened
+pub mod Links
+pub mod Kids
+pub mod Nesting
+pub mod Changing
+pub mod Below
+pub mod Strings
+pub mod Planting
+pub mod Tops
+pub mod Writes

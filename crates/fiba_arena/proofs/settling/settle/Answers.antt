@@ -1,0 +1,14 @@
+-- The opened child has items now; it is closed, and what it became stands in its place.
+use Rattle.fiba_arena.specs.Rows.{listed}
+use Rattle.fiba_arena.proofs.Nesting.{settled, filled_settled}
+use Rattle.fiba_arena.proofs.settling.settle.Goals as goal
+
+pub returns-clause-settled : goal.returns-clause-settled
+returns-clause-settled g c =
+    let m = g.M.Monoid in
+    let nest = c.args.nest.now in
+    let full = c.filled-nest.result in
+    let f = c.filled-nest.ensures.filled in
+    let closed = rw (c.kid-at.ensures, c.place-inner.ensures.left, c.place-inner.ensures.right) at c.close-closed.ensures.closed in
+    let done = settled m.is_value m.empty m.op c.filled-nest.new.nodes c.close-closed.new.nodes c.args.height c.args.place.left c.args.place.right (listed full.row.slots) full.row.last full.at (listed full.child.slots) full.child.last (listed c.close-closed.result.slots) c.close-closed.result.last f.nested closed in
+    rw (c.spliced.ensures.slots, c.spliced.ensures.last) (filled_settled m.is_value m.empty m.op c.args.nodes.now c.filled-nest.new.nodes c.close-closed.new.nodes c.args.height c.args.place.left c.args.place.right (listed nest.row.slots) nest.row.last nest.at (listed nest.child.slots) nest.child.last (listed full.row.slots) full.row.last full.at (listed full.child.slots) full.child.last _ _ f done)

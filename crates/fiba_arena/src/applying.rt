@@ -1,0 +1,99 @@
+ghost use Rattle.std.specs.Prelude.{◌≡◌, ◌≤◌, ◌+◌, ◌*◌, false, true, IfSome, IfNone};
+ghost use Rattle.fiba_arena.specs.Rows.{listed};
+ghost use Rattle.fiba_arena.specs.Changes.{CanApply, IsApplied, IsItemAt, IsPassed, is_first, meets};
+
+use crate::applied::Applied;
+use crate::change::Change;
+use crate::item::Item;
+use crate::leaf::{leaf_applied, met, rank};
+use crate::nest::Nest;
+use crate::nodes::Nodes;
+use crate::open::Open;
+use crate::place::Place;
+use crate::row::Row;
+use crate::settling::settle;
+use crate::slot::Slot;
+use agg_laws::{Monoid, Probes, Steps};
+
+/// Makes a change to the tree under a node, whose children's trees are `below` high. The node
+/// stays open. At most eight steps for each level below it.
+pub fn apply<M: Monoid, L>(
+    nodes: &mut Nodes<M>,
+    at: usize,
+    below: u32,
+    place: Place,
+    change: Change<M>,
+    probes: &mut Probes,
+    steps: &mut Steps<L>,
+) -> Applied<M>
+    requires { CanApply M.is_value M.empty M.op nodes.old at below place.left place.right change }
+    ensures applied { IsApplied M.is_value M.empty M.op nodes.old nodes.new at below
+        place.left place.right change result.taken (listed result.open.slots) result.open.last }
+    ensures probes { probes.old ≤ probes.new }
+    ensures cost { steps.new ≤ steps.old + 8 * below }
+{
+    let node = nodes.get(at, probes);
+    let open = Open {
+        slots: node.slots(),
+        last: node.last(),
+    };
+    if below == 0 {
+        return leaf_applied(&open, &change);
+    }
+    let i = rank(&open.slots, &change);
+    let Some(old) = inner_met(&open.slots, i, &change) else {
+        let inner = open.place(i, place);
+        let kid = apply(nodes, open.kid(i), below - 1, inner, change, probes, steps);
+        let nest = Nest {
+            row: open,
+            at: i,
+            child: kid.open,
+        };
+        let open = settle(nodes, &nest, below - 1, place, Some(at), probes, steps);
+        return Applied {
+            open,
+            taken: kid.taken,
+        };
+    };
+    if let Some(item) = change.item() {
+        return Applied {
+            open: open.with_item(i, item),
+            taken: Some(old),
+        };
+    }
+    let inner = open.place(i + 1, place);
+    let next = Change::First;
+    let kid = apply(
+        nodes,
+        open.kid(i + 1),
+        below - 1,
+        inner,
+        next,
+        probes,
+        steps,
+    );
+    let nest = Nest {
+        row: open.with_item(i, kid.taken.unwrap()),
+        at: i + 1,
+        child: kid.open,
+    };
+    let open = settle(nodes, &nest, below - 1, place, Some(at), probes, steps);
+    Applied {
+        open,
+        taken: Some(old),
+    }
+}
+
+// The item at a place of a node that isn't a leaf, if the change is about it. The first item of
+// all is never in such a node.
+fn inner_met<M: Copy>(slots: &Row<Slot<M>>, at: usize, change: &Change<M>) -> Option<Item<M>>
+    ensures some { IfSome result (λ item. meets change.now item.key ≡ true) }
+    ensures there { IfSome result (λ item. IsItemAt (listed slots.now) at item) }
+    ensures other { IfSome result (λ _. is_first change.now ≡ false) }
+    ensures none { IfNone result (IsPassed change.now (listed slots.now) at) }
+{
+    if change.is_first() {
+        return None;
+    }
+    met(slots, at, change)
+}

@@ -1,0 +1,143 @@
+ghost use Rattle.std.specs.Prelude.{◌≡◌, ◌≤◌, ◌<◌, ◌+◌, length};
+ghost use Rattle.fiba_arena.specs.Rows.{listed};
+ghost use Rattle.fiba_arena.specs.Nested.{IsFilled, IsNested, IsSettled};
+
+use crate::nest::Nest;
+use crate::nodes::Nodes;
+use crate::open::Open;
+use crate::place::Place;
+use crate::slot::Slot;
+use crate::writing::close;
+use agg_laws::{Monoid, Probes, Steps};
+
+/// Closes the opened child of a row: it becomes one node or two, together with a neighbour where
+/// it has no item of its own. At most eight steps.
+pub fn settle<M: Monoid, L>(
+    nodes: &mut Nodes<M>,
+    nest: &Nest<M>,
+    height: u32,
+    place: Place,
+    up: Option<usize>,
+    probes: &mut Probes,
+    steps: &mut Steps<L>,
+) -> Open<M>
+    requires nested { IsNested M.is_value M.empty M.op nodes.old height place.left place.right
+        (listed nest.now.row.slots) nest.now.row.last nest.now.at
+        (listed nest.now.child.slots) nest.now.child.last }
+    requires some { 1 ≤ length (listed nest.now.row.slots) }
+    requires few { length (listed nest.now.row.slots) ≤ 3 }
+    requires room { 4 ≤ length (listed nest.now.child.slots) → 1 ≤ nodes.old.spare }
+    ensures settled { IsSettled M.is_value M.empty M.op nodes.old nodes.new height
+        place.left place.right (listed nest.now.row.slots) nest.now.row.last nest.now.at
+        (listed nest.now.child.slots) nest.now.child.last (listed result.slots) result.last }
+    ensures probes { probes.old ≤ probes.new }
+    ensures cost { steps.new ≤ steps.old + 8 }
+{
+    let nest = filled(nodes, nest, height, place, probes);
+    let at = nest.row.kid(nest.at);
+    let inner = nest.row.place(nest.at, place);
+    let closed = close(nodes, at, &nest.child, height, inner, up, probes, steps);
+    nest.row.spliced(nest.at, closed)
+}
+
+// Gives the opened child an item: where it has none, it takes the item beside it and all that the
+// neighbour behind that item has.
+fn filled<M: Monoid>(
+    nodes: &mut Nodes<M>,
+    nest: &Nest<M>,
+    height: u32,
+    place: Place,
+    probes: &mut Probes,
+) -> Nest<M>
+    requires nested { IsNested M.is_value M.empty M.op nodes.old height place.left place.right
+        (listed nest.now.row.slots) nest.now.row.last nest.now.at
+        (listed nest.now.child.slots) nest.now.child.last }
+    requires some { 1 ≤ length (listed nest.now.row.slots) }
+    requires room { 4 ≤ length (listed nest.now.child.slots) → 1 ≤ nodes.old.spare }
+    ensures filled { IsFilled M.is_value M.empty M.op nodes.old nodes.new height
+        place.left place.right (listed nest.now.row.slots) nest.now.row.last nest.now.at
+        (listed nest.now.child.slots) nest.now.child.last
+        (listed result.row.slots) result.row.last result.at
+        (listed result.child.slots) result.child.last }
+    ensures probes { probes.old ≤ probes.new }
+{
+    if nest.child.slots.len() != 0 {
+        return *nest;
+    }
+    if nest.at < nest.row.slots.len() {
+        return with_next(nodes, nest, height, place, probes);
+    }
+    with_previous(nodes, nest, height, place, probes)
+}
+
+// The opened child together with the next one, which is freed.
+fn with_next<M: Monoid>(
+    nodes: &mut Nodes<M>,
+    nest: &Nest<M>,
+    height: u32,
+    place: Place,
+    probes: &mut Probes,
+) -> Nest<M>
+    requires nested { IsNested M.is_value M.empty M.op nodes.old height place.left place.right
+        (listed nest.now.row.slots) nest.now.row.last nest.now.at
+        (listed nest.now.child.slots) nest.now.child.last }
+    requires inner { nest.now.at < length (listed nest.now.row.slots) }
+    requires empty { length (listed nest.now.child.slots) ≡ 0 }
+    ensures filled { IsFilled M.is_value M.empty M.op nodes.old nodes.new height
+        place.left place.right (listed nest.now.row.slots) nest.now.row.last nest.now.at
+        (listed nest.now.child.slots) nest.now.child.last
+        (listed result.row.slots) result.row.last result.at
+        (listed result.child.slots) result.child.last }
+    ensures probes { probes.old ≤ probes.new }
+{
+    let item = nest.row.slots.get(nest.at).item;
+    let next = nest.row.kid(nest.at + 1);
+    let node = nodes.get(next, probes);
+    nodes.free(next);
+    let kid = nest.child.last;
+    let front = nest.child.slots.pushed(Slot { kid, item });
+    Nest {
+        row: nest.row.thinned(nest.at),
+        at: nest.at,
+        child: Open {
+            slots: front.joined(node.slots()),
+            last: node.last(),
+        },
+    }
+}
+
+// The opened child together with the previous one, under whose number they go on.
+fn with_previous<M: Monoid>(
+    nodes: &mut Nodes<M>,
+    nest: &Nest<M>,
+    height: u32,
+    place: Place,
+    probes: &mut Probes,
+) -> Nest<M>
+    requires nested { IsNested M.is_value M.empty M.op nodes.old height place.left place.right
+        (listed nest.now.row.slots) nest.now.row.last nest.now.at
+        (listed nest.now.child.slots) nest.now.child.last }
+    requires inner { 1 ≤ nest.now.at }
+    requires empty { length (listed nest.now.child.slots) ≡ 0 }
+    ensures filled { IsFilled M.is_value M.empty M.op nodes.old nodes.new height
+        place.left place.right (listed nest.now.row.slots) nest.now.row.last nest.now.at
+        (listed nest.now.child.slots) nest.now.child.last
+        (listed result.row.slots) result.row.last result.at
+        (listed result.child.slots) result.child.last }
+    ensures probes { probes.old ≤ probes.new }
+{
+    let at = nest.at - 1;
+    let item = nest.row.slots.get(at).item;
+    let node = nodes.get(nest.row.kid(at), probes);
+    nodes.free(nest.row.kid(nest.at));
+    let kid = node.last();
+    let front = node.slots().pushed(Slot { kid, item });
+    Nest {
+        row: nest.row.thinned(at),
+        at,
+        child: Open {
+            slots: front.joined(nest.child.slots),
+            last: nest.child.last,
+        },
+    }
+}

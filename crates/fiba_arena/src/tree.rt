@@ -1,0 +1,202 @@
+ghost use Rattle.std.specs.Prelude.{◌≡◌, ◌≤◌, ◌<◌, ◌+◌, ◌-◌, ◌*◌, ◌^◌, ◌↔◌, [], length, None, Some, IsTrue, false, suc, slice_get};
+ghost use Rattle.agg_laws.specs.Laws.{total};
+ghost use Rattle.agg_laws.specs.Pairs.{AreRising, has_key, inserted, replaced, within, values_of, value_at, without};
+ghost use Rattle.fiba_arena.specs.Trees.{IsAt, pair_of, pairs_at, plain};
+ghost use Rattle.fiba_arena.specs.Changes.{pairs_of};
+
+use crate::bound::Bound;
+use crate::change::Change;
+use crate::item::Item;
+use crate::nodes::Nodes;
+use crate::place::Place;
+use crate::root::Root;
+use crate::rooting::change_root;
+use crate::spans::fold_span;
+use agg_laws::{AggTree, Monoid, Probes, Steps};
+use std::alloc::Global;
+use std::marker::Model;
+use stream_base::NoMemory;
+
+/// A tree of partial aggregates in an arena of nodes.
+///
+/// Its reach is its height, so each call makes a number of steps that grows with the logarithm of
+/// the number of pairs: `insert` and `set` at most `8 * height + 11`, `remove` too, and
+/// `fold_range` at most `12 * height + 1`. Contracts see its pairs, for how many more there is
+/// room, and its height.
+#[derive(Drop)]
+pub struct ArenaTree<M: Monoid> {
+    nodes: Nodes<M>,
+    root: Root,
+    count: u64,
+    limit: u64,
+}
+
+impl<M: Monoid> Model for ArenaTree<M> {
+    ghost use Rattle.std.specs.Prelude.{◌-◌};
+    ghost use Rattle.fiba_arena.specs.Arena.{Arena, IsArena, pairs_in};
+
+    ghost Value = { Arena M };
+
+    ghost view = { λ t. record {
+      pairs = pairs_in t.nodes t.root;
+      spare = t.limit - t.count;
+      height = t.root.height;
+    } };
+
+    ghost invariant = { λ t. IsArena M.is_value M.empty M.op t.nodes t.root t.count t.limit };
+}
+
+impl<M: Monoid> AggTree<M> for ArenaTree<M> {
+    ghost pairs = { λ t. t.pairs };
+
+    ghost spare = { λ t. t.spare };
+
+    ghost reach = { λ t. t.height };
+
+    ghost bounded = { λ reach count. 2 ^ reach ≤ count + 1 };
+
+    fn fresh(alloc: Global) -> ArenaTree<M> {
+        ArenaTree {
+            nodes: Nodes::new(alloc),
+            root: Root { at: 0, height: 0 },
+            count: 0,
+            limit: 0,
+        }
+    }
+
+    fn reserve(&mut self, room: u64) -> Result<(), NoMemory> {
+        let Some(limit) = self.count.checked_add(room) else {
+            return Err(NoMemory);
+        };
+        self.nodes.reserve(limit)?;
+        if self.limit < limit {
+            self.limit = limit;
+        }
+        Ok(())
+    }
+
+    /// Puts a value under a key that isn't there. Uses one spare. At most `16 * (height + 2)`
+    /// steps.
+    fn insert<L>(&mut self, key: u64, value: M, probes: &mut Probes, steps: &mut Steps<L>)
+        requires absent { has_key key self.old.pairs ≡ false }
+        requires room { 1 ≤ self.old.spare }
+        ensures inserted { self.new.pairs ≡ inserted key value self.old.pairs }
+        ensures rising { AreRising self.new.pairs }
+        ensures bounded { 2 ^ self.new.height ≤ length self.new.pairs + 1 }
+        ensures spare { self.new.spare + 1 ≡ self.old.spare }
+        ensures reach { self.new.height ≤ self.old.height + 1 }
+        ensures probes { probes.old ≤ probes.new }
+        ensures cost { steps.new ≤ steps.old + 16 * (self.old.height + 2) }
+    {
+        value.vouch();
+        let change = Change::Insert(Item { key, value });
+        let place = Place::inner();
+        let changed = change_root(&mut self.nodes, self.root, place, change, probes, steps);
+        self.root = changed.root;
+        self.count += 1;
+    }
+
+    /// Puts another value under a key that is there. At most `16 * (height + 2)` steps.
+    fn set<L>(&mut self, key: u64, value: M, probes: &mut Probes, steps: &mut Steps<L>)
+        requires { IsTrue (has_key key self.old.pairs) }
+        ensures replaced { self.new.pairs ≡ replaced key value self.old.pairs }
+        ensures rising { AreRising self.new.pairs }
+        ensures bounded { 2 ^ self.new.height ≤ length self.new.pairs + 1 }
+        ensures spare { self.old.spare ≤ self.new.spare }
+        ensures reach { self.new.height ≤ self.old.height }
+        ensures probes { probes.old ≤ probes.new }
+        ensures cost { steps.new ≤ steps.old + 16 * (self.old.height + 2) }
+    {
+        value.vouch();
+        let change = Change::Set(Item { key, value });
+        let place = Place::inner();
+        let changed = change_root(&mut self.nodes, self.root, place, change, probes, steps);
+        self.root = changed.root;
+    }
+
+    /// Takes out the pair with this key and gives its value, `None` exactly where there is none. At
+    /// most `32 * (height + 2)` steps.
+    fn remove<L>(&mut self, key: u64, probes: &mut Probes, steps: &mut Steps<L>) -> Option<M>
+        ensures value { result ≡ value_at key self.old.pairs }
+        ensures none { (result ≡ None) ↔ (has_key key self.old.pairs ≡ false) }
+        ensures rest { self.new.pairs ≡ without key self.old.pairs }
+        ensures rising { AreRising self.new.pairs }
+        ensures bounded { 2 ^ self.new.height ≤ length self.new.pairs + 1 }
+        ensures spare { self.old.spare ≤ self.new.spare }
+        ensures reach { self.new.height ≤ self.old.height }
+        ensures probes { probes.old ≤ probes.new }
+        ensures cost { steps.new ≤ steps.old + 32 * (self.old.height + 2) }
+    {
+        let change = Change::Remove(key);
+        let place = Place::inner();
+        let changed = change_root(&mut self.nodes, self.root, place, change, probes, steps);
+        self.root = changed.root;
+        let item = changed.taken?;
+        self.count -= 1;
+        Some(item.value)
+    }
+
+    fn first_key(&self) -> Option<u64> {
+        if self.root.height == 0 {
+            return None;
+        }
+        Some(least(&self.nodes, self.root.at, self.root.height - 1).key)
+    }
+
+    /// The values with `low <= key < high` combined in the order of keys, from the unit. At most
+    /// one step for each, and at most `16 * (height + 2)`.
+    fn fold_range<L>(&self, low: u64, high: u64, probes: &mut Probes, steps: &mut Steps<L>) -> M
+        ensures value { result ≡ total M.empty M.op (values_of (within low high self.now.pairs)) }
+        ensures rising { AreRising self.now.pairs }
+        ensures one_each { steps.new ≤ steps.old + length (within low high self.now.pairs) }
+        ensures probes { probes.old ≤ probes.new }
+        ensures cost { steps.new ≤ steps.old + 16 * (self.now.height + 2) }
+    {
+        let root = self.root;
+        if high <= low {
+            return M::unit();
+        }
+        let place = Place::inner();
+        let (from, to) = (Bound::Key(low), Bound::Key(high));
+        let sum = M::unit();
+        fold_span(
+            &self.nodes,
+            root.at,
+            root.height,
+            place,
+            from,
+            to,
+            sum,
+            probes,
+            steps,
+        )
+    }
+
+    fn len(&self) -> u64 {
+        self.count
+    }
+
+    /// How many levels of nodes lie below each other: 0 exactly where the tree is empty. It is what
+    /// the bounds on steps go by.
+    fn height(&self) -> u32
+        ensures empty { self.now.pairs ≡ [] → result ≡ 0 }
+        ensures bound { 2 ^ result ≤ length self.now.pairs + 1 }
+        ensures reach { result ≡ self.now.height }
+        ensures levels { result + 1 < 2 ^ 32 }
+    {
+        self.root.height
+    }
+}
+
+// The first item of a tree.
+fn least<M: Monoid>(nodes: &Nodes<M>, at: usize, below: u32) -> Item<M>
+    requires { IsAt M.is_value M.empty M.op (plain nodes.now) (suc below) false false at }
+    ensures { slice_get (pairs_at (plain nodes.now) (suc below) at) 0 ≡ Some (pair_of result) }
+{
+    let mut probes = Probes::new();
+    let slot = nodes.get(at, &mut probes).slots().get(0);
+    if below == 0 {
+        return slot.item;
+    }
+    least(nodes, slot.kid, below - 1)
+}
