@@ -121,7 +121,8 @@ fn collect_all<M: Drop>(queue: &Queue<M>, receiver: Receiver<M>, senders: Vec<Se
     requires receiver { receiver.lane ≡ queue.now }
     requires senders { AreNumbered queue.now senders.items }
     ensures pass { IsSegPassOf queue.now result }
-    ensures role { result.me.view.client ≡ Receiving receiver.senders receiver.taken (map (λ sender. sender.sent) senders.items) }
+    ensures role { result.me.view.client ≡ Receiving receiver.senders receiver.taken
+        (map (λ sender. sender.sent) senders.items) }
 {
     let Receiver { mut pass } = receiver;
     for sender in senders {

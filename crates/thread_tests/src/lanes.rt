@@ -108,7 +108,8 @@ fn run_all<R: Threads + Wait + Sync>(
     Vec<Sender<Numbered>>,
     Result<(Receiver<Numbered>, Vec<Numbered>), AllocError>,
 )
-    requires senders { AreSendersOf mail.now senders.items × All (λ sender. sender.sent ≡ []) senders.items }
+    requires senders { AreSendersOf mail.now senders.items
+        × All (λ sender. sender.sent ≡ []) senders.items }
     requires receiver { IsReceiverOf mail.now receiver }
     ensures senders { AreSendersOf mail.now result.0.items }
     ensures receiver { IfOk result.1 (λ got. IsReceiverOf mail.now got.0) }
@@ -116,7 +117,8 @@ fn run_all<R: Threads + Wait + Sync>(
     thread::join(
         rt,
         move || -> Vec<Sender<Numbered>>
-            requires { AreSendersOf mail.now senders.items × All (λ sender. sender.sent ≡ []) senders.items }
+            requires { AreSendersOf mail.now senders.items
+                × All (λ sender. sender.sent ≡ []) senders.items }
             ensures { AreSendersOf mail.entry.now result.items }
         {
             let senders = send_all(rt, mail, senders);
@@ -136,7 +138,8 @@ fn send_all<R: Threads + Wait + Sync>(
     mail: &Mail<Numbered>,
     mut senders: Vec<Sender<Numbered>>,
 ) -> Vec<Sender<Numbered>>
-    requires { AreSendersOf mail.now senders.items × All (λ sender. sender.sent ≡ []) senders.items }
+    requires { AreSendersOf mail.now senders.items
+        × All (λ sender. sender.sent ≡ []) senders.items }
     ensures { AreSendersOf mail.now result.items }
 {
     thread::for_each_mut(

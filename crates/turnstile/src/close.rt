@@ -30,9 +30,12 @@ impl<T: Keeps> Turnstile<T> {
         ensures ends { IfOk result (λ r. map (λ e. e.number) r.1.items ≡ numbers passes.items) }
         ensures apart { IfOk result (λ r. AllPairs (λ p q. number p ≢ number q) passes.items) }
         ensures fixed { IfOk result (λ r. All (λ p. fixed p ≡ Some (T.fixed r.0)) passes.items) }
-        ensures begins { IfOk result (λ r. All (λ p. BeginsWith (T.items r.0) (seen p)) passes.items) }
-        ensures made { IfOk result (λ r. All (λ p. of_number (number p) (T.items r.0) ≡ made p) passes.items) }
-        ensures complete { IfOk result (λ r. AreAll passes.items → All (λ e. Contains (numbers passes.items) e.0) (T.items r.0)) }
+        ensures begins { IfOk result (λ r. All
+            (λ p. BeginsWith (T.items r.0) (seen p)) passes.items) }
+        ensures made { IfOk result (λ r. All (λ p. of_number (number p) (T.items r.0)
+            ≡ made p) passes.items) }
+        ensures complete { IfOk result (λ r. AreAll passes.items
+            → All (λ e. Contains (numbers passes.items) e.0) (T.items r.0)) }
         ensures refused { IfErr result (λ u. (u.turnstile ≡ self) × (u.passes ≡ passes)) }
     {
         match ends_of(alloc, &passes) {
@@ -52,7 +55,8 @@ impl<T: Keeps> Turnstile<T> {
     fn gather(&self, mut passes: Vec<Pass<T>>) -> Place<T>
         requires { All (λ p. IsPassOf self.now p) passes.items }
         ensures own { result.table_id ≡ self.now.table.shared.table_id }
-        ensures rests { result.me ≡ (record spent { others = map known passes.items; room = result.me.0.room }, []) }
+        ensures rests { result.me
+            ≡ (record spent { others = map known passes.items; room = result.me.0.room }, []) }
     {
         let mut place = self.table.shared.load_new_seat::<Enter>(TICKET).1;
         while let Some(pass) = passes.pop() {
@@ -67,9 +71,11 @@ impl<T: Keeps> Turnstile<T> {
     // Draws a ticket, and waits until it is served.
     fn reach<R: Wait>(&self, rt: &R, place: &mut Place<T>)
         requires own { place.old.table_id ≡ self.now.table.shared.table_id }
-        requires rests { (place.old.me.0.stage ≡ Idle) × (place.old.me.1 ≡ []) × (0 < rights place.old.me.0) }
+        requires rests { (place.old.me.0.stage ≡ Idle) × (place.old.me.1 ≡ [])
+            × (0 < rights place.old.me.0) }
         ensures own { place.new.table_id ≡ place.old.table_id }
-        ensures reached { (ticket : ℕ) × (place.new.me ≡ (at_stage (Reached ticket) place.old.me.0, [])) }
+        ensures reached { (ticket : ℕ) × (place.new.me
+            ≡ (at_stage (Reached ticket) place.old.me.0, [])) }
     {
         let ticket = self.table.shared.fetch_add::<Draw<T>>(place, TICKET, 1);
         let backoff = Backoff::new();

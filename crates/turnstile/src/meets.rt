@@ -17,9 +17,12 @@ impl<T: Keeps> Turnstile<T> {
         ensures same { IsSamePass one.old one.new × IsSamePass other.old other.new }
         ensures made { (made one.new ≡ made one.old) × (made other.new ≡ made other.old) }
         ensures one_list { OnOk result (seen one.new ≡ seen other.new) }
-        ensures one_of_two { OnOk result ((seen one.new ≡ seen one.old) ⊎ (seen one.new ≡ seen other.old)) }
-        ensures begins { OnOk result (BeginsWith (seen one.new) (seen one.old) × BeginsWith (seen one.new) (seen other.old)) }
-        ensures refused { OnErr result ((seen one.new ≡ seen one.old) × (seen other.new ≡ seen other.old)) }
+        ensures one_of_two { OnOk result ((seen one.new ≡ seen one.old)
+            ⊎ (seen one.new ≡ seen other.old)) }
+        ensures begins { OnOk result (BeginsWith (seen one.new) (seen one.old)
+            × BeginsWith (seen one.new) (seen other.old)) }
+        ensures refused { OnErr result ((seen one.new ≡ seen one.old)
+            × (seen other.new ≡ seen other.old)) }
     {
         self.tell(one, other);
         self.tell(other, one);
@@ -33,7 +36,8 @@ impl<T: Keeps> Turnstile<T> {
         ensures made { (made from.new ≡ made from.old) × (made to.new ≡ made to.old) }
         ensures kept { seen from.new ≡ seen from.old }
         ensures longer { seen to.new ≡ longer (seen to.old) (seen from.old) }
-        ensures begins { BeginsWith (seen to.new) (seen to.old) × BeginsWith (seen to.new) (seen from.old) }
+        ensures begins { BeginsWith (seen to.new) (seen to.old)
+            × BeginsWith (seen to.new) (seen from.old) }
     {
         let copy = self.table.shared.split_seat::<Copied>(&mut from.seat);
         self.table.shared.join_seat::<Joined>(&mut to.seat, copy);

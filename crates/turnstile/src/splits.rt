@@ -17,13 +17,16 @@ impl<T: Keeps> Turnstile<T> {
         requires room { 0 < room pass.old }
         ensures own { IsPassOf self.now pass.new × IfOk result (λ p. IsPassOf self.now p) }
         ensures number { IfOk result (λ p. number p + room pass.old ≡ 2 ^ 62) }
-        ensures fresh { IfOk result (λ p. (number p ≢ number pass.old) × (Contains (born pass.old) (number p) → ⊥)) }
+        ensures fresh { IfOk result (λ p. (number p ≢ number pass.old)
+            × (Contains (born pass.old) (number p) → ⊥)) }
         ensures knows { IfOk result (λ p. (fixed p ≡ fixed pass.old) × (seen p ≡ seen pass.old)) }
         ensures nothing_yet { IfOk result (λ p. (made p ≡ []) × (born p ≡ []) × (room p ≡ 0)) }
         ensures born { IfOk result (λ p. born pass.new ≡ born pass.old ++ number p ∷ []) }
         ensures one_less { OnOk result (room pass.new + 1 ≡ room pass.old) }
-        ensures same { (number pass.new ≡ number pass.old) × (fixed pass.new ≡ fixed pass.old) × (seen pass.new ≡ seen pass.old) × (made pass.new ≡ made pass.old) }
-        ensures refused { OnErr result ((born pass.new ≡ born pass.old) × ((room pass.new ≡ room pass.old) ⊎ (room pass.new + 1 ≡ room pass.old))) }
+        ensures same { (number pass.new ≡ number pass.old) × (fixed pass.new ≡ fixed pass.old)
+            × (seen pass.new ≡ seen pass.old) × (made pass.new ≡ made pass.old) }
+        ensures refused { OnErr result ((born pass.new ≡ born pass.old)
+            × ((room pass.new ≡ room pass.old) ⊎ (room pass.new + 1 ≡ room pass.old))) }
     {
         let number = self
             .table

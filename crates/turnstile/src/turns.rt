@@ -33,7 +33,9 @@ impl<T: Keeps> Turnstile<T> {
         requires own { place.old.table_id ≡ self.now.table.shared.table_id }
         requires rests { (number room : ℕ) × (place.old.me ≡ as_pass number room place.old.me.0) }
         ensures own { place.new.table_id ≡ place.old.table_id }
-        ensures taken { (ticket : ℕ) × (x : T) × (place.new.me ≡ (at_stage (Serving ticket (T.items x)) place.old.me.0, (0, x) ∷ [])) × Fits T.items T.fixed place.old.me.0.main x }
+        ensures taken { (ticket : ℕ) × (x : T)
+            × (place.new.me ≡ (at_stage (Serving ticket (T.items x)) place.old.me.0, (0, x) ∷ []))
+            × Fits T.items T.fixed place.old.me.0.main x }
     {
         let ticket = self.table.shared.fetch_add::<Draw<T>>(place, TICKET, 1);
         let backoff = Backoff::new();
@@ -51,7 +53,9 @@ impl<T: Keeps> Turnstile<T> {
         requires own { place.old.table_id ≡ self.now.table.shared.table_id }
         requires taken { (x : T) × (place.old.me.1 ≡ (0, x) ∷ []) × C.may_run call (T.fixed x) }
         ensures own { place.new.table_id ≡ place.old.table_id }
-        ensures ran { (x y : T) × (place.old.me.1 ≡ (0, x) ∷ []) × (place.new.me ≡ (place.old.me.0, (0, y) ∷ [])) × (T.fixed y ≡ T.fixed x) × AddsAtMostOne number (T.items x) (T.items y) × C.does call x y number result }
+        ensures ran { (x y : T) × (place.old.me.1 ≡ (0, x) ∷ [])
+            × (place.new.me ≡ (place.old.me.0, (0, y) ∷ [])) × (T.fixed y ≡ T.fixed x)
+            × AddsAtMostOne number (T.items x) (T.items y) × C.does call x y number result }
     {
         let value = place.slot_mut(&self.table.shared, 0);
         call.run(value, number)
@@ -62,7 +66,15 @@ impl<T: Keeps> Turnstile<T> {
         requires own { place.old.table_id ≡ self.now.table.shared.table_id }
         requires ready { IsReady T.items T.fixed place.old.me }
         ensures own { place.new.table_id ≡ place.old.table_id }
-        ensures gave { (y : T) → place.old.me.1 ≡ (0, y) ∷ [] → (place.new.me ≡ (record place.old.me.0 { main = turned_to (T.items y) place.old.me.0.main; stage = Idle }, [])) }
+        ensures gave { (y : T) → place.old.me.1 ≡ (0, y) ∷ []
+            → (place.new.me ≡ (
+              record place.old.me.0 {
+                main = turned_to
+                    (T.items y) place.old.me.0.main;
+                stage = Idle;
+              },
+              [],
+            )) }
     {
         self.table.shared.fetch_add::<PassOn<T>>(place, SERVING, 1);
     }

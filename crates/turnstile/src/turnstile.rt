@@ -38,7 +38,8 @@ impl<T: Keeps> Turnstile<T> {
         ensures pass { IfOk result (λ r. IsPassOf r.0 r.1) }
         ensures zero { IfOk result (λ r. (number r.1 ≡ 0) × (room r.1 ≡ 2 ^ 62 - 1)) }
         ensures fixed { IfOk result (λ r. fixed r.1 ≡ Some (T.fixed value)) }
-        ensures nothing_yet { IfOk result (λ r. (seen r.1 ≡ []) × (made r.1 ≡ []) × (born r.1 ≡ [])) }
+        ensures nothing_yet { IfOk result (λ r. (seen r.1 ≡ []) × (made r.1 ≡ [])
+            × (born r.1 ≡ [])) }
     {
         let origin = Snapshot::of(&value);
         let mut slots = Vec::with_capacity(alloc, 1)?;

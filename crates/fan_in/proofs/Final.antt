@@ -1,0 +1,100 @@
+-- From the desks that were opened and the feeds that were read to what is handed back.
+use Rattle.std.proofs.Common.{◌≡◌, ◌<◌, arith, ℕ, List, [], ◌++◌, length, get_or, sym, refl, ap, subst, ◌∙◌, inr, ◌⊎◌, ⊎_elim, Option, Some, None}
+use Rattle.std.specs.Prelude.{All, IfSome, Vec}
+use Rattle.std.specs.declared.alloc.Global.{Global}
+use Rattle.stream_base.specs.declared.entry.Entry.{Entry}
+use Rattle.stream_base.specs.Model.Routes.{routed}
+use Rattle.shard_core.specs.Shard.{Sharded}
+use Rattle.source_feed.specs.FeedState.{FeedState}
+use Rattle.source_feed.specs.Stream.{Stream}
+use Rattle.source_feed.specs.declared.feed_fault.FeedFault.{FeedFault}
+use Rattle.source_feed.specs.declared.feed_fault.FeedFault.TheVariants.{Read, NoMemory}
+use Rattle.turnstile.specs.declared.keeps.Keeps.{Ghosts}
+use Rattle.turnstile.specs.declared.pass.Pass.{Pass}
+use Rattle.turnstile.specs.declared.turnstile.Turnstile.{Turnstile}
+use Rattle.turnstile.specs.Passes.{made}
+use Rattle.fan_in.specs.Closings.{AreStanding, IsClosed, IsSettled}
+use Rattle.fan_in.specs.Desks.{BookedState}
+use Rattle.fan_in.specs.Floors.{AreSeats, IsFloor}
+use Rattle.fan_in.specs.Gathering.{Bears, HoldsPart, IsBack, IsFault, IsFresh, NamesOneOf}
+use Rattle.fan_in.specs.Reading.{AreSame, HasMade, HaveMade, IsReady, MadeOwn}
+use Rattle.fan_in.specs.Works.{without_shards}
+use Rattle.fan_in.specs.declared.fixed_part.FixedPart.{FixedPart}
+use Rattle.fan_in.specs.declared.outcome.Outcome.{Outcome}
+use Rattle.fan_in.specs.declared.outcome.Outcome.TheVariants.{Done, Fault, Full}
+use Rattle.fan_in.proofs.Lists.{some_of}
+
+bears_memory : (o : Option Stream) → IfSome o (λ stream. Bears stream (Fault NoMemory))
+bears_memory None = tt
+bears_memory (Some stream) = tt
+
+-- a feed is handed back as before where no shard can be handed out
+pub back_without : (start back : FeedState FeedFault) (o : Outcome) (old new : ℕ) → IsBack start back o old new → IsBack start back (without_shards o) old new
+back_without start back Done old new b = record { of_source = b.of_source; shows = inr refl; told = bears_memory start.rest; read = λ e. absurd (let f : NoMemory ≡ Read = cc in cc); quiet = λ _. b.quiet (λ e. cc) }
+back_without start back (Full shard) old new b = record { of_source = b.of_source; shows = inr refl; told = bears_memory start.rest; read = λ e. absurd (let f : NoMemory ≡ Read = cc in cc); quiet = λ _. b.quiet (λ e. cc) }
+back_without start back (Fault fault) old new b = b
+
+pub fault_without : (o : Outcome) → IsFault (without_shards o)
+fault_without Done = tt
+fault_without (Full shard) = tt
+fault_without (Fault fault) = tt
+
+pub named_without : (shards : ℕ) (o : Outcome) → NamesOneOf shards (without_shards o)
+named_without shards Done = tt
+named_without shards (Full shard) = tt
+named_without shards (Fault fault) = tt
+
+-- the outcome stays where shards are handed out
+pub back_of : {X : Type 0} (state : X → FeedState FeedFault) (faults : X → ℕ) (a x y : X) (o p : Outcome) → y ≡ x → (p ≡ without_shards o) ⊎ (p ≡ o) → IsBack (state a) (state x) o (faults a) (faults x) → IsBack (state a) (state y) p (faults a) (faults y)
+back_of state faults a x y o p e choice b =
+    subst (λ z. IsBack (state a) (state z) p (faults a) (faults z)) (sym e)
+    (⊎_elim (λ w. subst (λ q. IsBack (state a) (state x) q (faults a) (faults x)) (sym w) (back_without (state a) (state x) o (faults a) (faults x) b)) (λ w. subst (λ q. IsBack (state a) (state x) q (faults a) (faults x)) (sym w) b) choice)
+
+module _ {g : Ghosts BookedState Entry FixedPart} where
+  pub ready : (start : FeedState FeedFault) (i : ℕ) (desks : List (Turnstile BookedState Entry FixedPart)) (f : FixedPart) (row : List (Pass BookedState Entry FixedPart g)) → IsFresh i start → AreSeats (Some f) i desks row → All (λ p. made p ≡ []) row → i < f.sources
+      → IsReady start Done row
+  ready start i desks f row fresh seats blank l = record {
+    running = fresh.running;
+    unanswered = fresh.unanswered;
+    whole = fresh.whole;
+    done = refl;
+    known = λ k p lk.
+        let ld : k < length desks = let m = seats.many in omega arith in
+        let seat = seats.each k (some_of desks k ld) p ld in
+        subst (λ (o : Option FixedPart). IfSome o (λ f. start.source < f.sources)) (sym seat.fixed_is) (subst (λ s. s < f.sources) (sym fresh.of_source) l);
+    blank = blank;
+  }
+
+  pub standing : (f : Option FixedPart) (sources : ℕ) (desks : List (Turnstile BookedState Entry FixedPart)) (zeros : List (Pass BookedState Entry FixedPart g)) (rows rows' : List (Vec (Pass BookedState Entry FixedPart g) Global))
+      → IsFloor f sources desks zeros rows → length rows' ≡ sources → ((i : ℕ) (row : Vec (Pass BookedState Entry FixedPart g) Global) → i < sources → AreSame (get_or rows i row).items (get_or rows' i row).items)
+      → ((i : ℕ) (row : Vec (Pass BookedState Entry FixedPart g) Global) → i < sources → MadeOwn i (get_or rows' i row).items) → AreStanding f sources desks zeros rows'
+  standing f sources desks zeros rows rows' floor many same own = record {
+    zeros_are = floor.zeros_are;
+    many = many;
+    rows_are = λ i row l. let seats = floor.rows_are i row l in let s = same i row l in record {
+      many = s.many ∙ seats.many;
+      each = λ k d p lk. let a = s.same k p (let m = seats.many in omega arith) in let b = seats.each k d p lk in record {
+        own = a.turnstile ∙ b.own;
+        number_is = a.number_same ∙ b.number_is;
+        fixed_is = a.fixed_same ∙ b.fixed_is;
+        born_none = a.born_same ∙ b.born_none;
+      };
+    };
+    own = own;
+  }
+
+  part : (shards k i : ℕ) (stream : Stream) (o : Outcome) (f : Option FixedPart) (shard : Sharded) (p : Pass BookedState Entry FixedPart g) → IsClosed f shard → IsSettled shard i p → HasMade (routed shards k stream.entries) k o p
+      → HoldsPart shards k i stream o shard.journal
+  part shards k i stream o f shard p closed settled has = record {
+    prefix = (has.begins.0, has.begins.1 ∙ ap (λ l. l ++ has.begins.0) (sym settled.journal));
+    whole = λ e. settled.journal ∙ has.whole e;
+    full = λ e. let a = has.full e in let b = settled.seen_of in let c = closed.short in omega arith;
+    lacks = λ e. subst (λ (l : List Entry). length l < length (routed shards k stream.entries)) (sym settled.journal) (has.lacks e);
+  }
+
+  -- of the entries that a feed told, a shard holds its part
+  pub parts_of : (rest : Option Stream) (shards k i : ℕ) (o : Outcome) (f : Option FixedPart) (shard : Sharded) (row : List (Pass BookedState Entry FixedPart g)) → IsClosed f shard → k < length row
+      → ((p : Pass BookedState Entry FixedPart g) → IsSettled shard i (get_or row k p)) → IfSome rest (λ stream. HaveMade shards stream.entries o row) → IfSome rest (λ stream. HoldsPart shards k i stream o shard.journal)
+  parts_of None shards k i o f shard row closed l settled h = tt
+  parts_of (Some stream) shards k i o f shard row closed l settled h =
+      let p = some_of row k l in part shards k i stream o f shard (get_or row k p) closed (settled p) (h k p l)

@@ -1,0 +1,9 @@
+mod Desks
+mod Taking
+mod Midway
+mod Opening
+mod Lists
+mod Columns
+mod Journals
+mod Ending
+mod Final

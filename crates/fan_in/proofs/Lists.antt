@@ -1,0 +1,35 @@
+-- Facts on lists that are read and written place by place.
+use Rattle.std.proofs.Common.{◌≡◌, ◌<◌, ◌+◌, arith, ℕ, List, [], ◌∷◌, ◌++◌, length, get_or, take, drop, sym, ap, subst, ◌∙◌, ⊎_elim}
+use Rattle.std.proofs.lemmas.Bool.{cases_lt}
+use Rattle.std.proofs.lemmas.List.{get_or_append_left, get_or_default, get_or-drop, get_or_push}
+use Rattle.std.proofs.lemmas.Grind.{common_steps}
+
+-- a fact of two lists at each place, with one element more in both
+pub push_at : {A B : Type 0} (R : A → B → Type 0) (xs : List A) (ys : List B) (x : A) (y : B) → length ys ≡ length xs → ((k : ℕ) (d : A) (e : B) → k < length xs → R (get_or xs k d) (get_or ys k e)) → R x y
+    → (k : ℕ) (d : A) (e : B) → k < length xs + 1 → R (get_or (xs ++ x ∷ []) k d) (get_or (ys ++ y ∷ []) k e)
+push_at R xs ys x y n h r k d e l =
+    ⊎_elim (λ lt. subst (λ a. R a (get_or (ys ++ y ∷ []) k e)) (sym (get_or_append_left xs (x ∷ []) d k lt)) (subst (λ b. R (get_or xs k d) b) (sym (get_or_append_left ys (y ∷ []) e k (omega arith))) (h k d e lt)))
+    (λ ge. let is : length xs ≡ k = omega arith in subst (λ a. R a (get_or (ys ++ y ∷ []) k e)) (sym (get_or_push xs x d k is)) (subst (λ b. R x b) (sym (get_or_push ys y e k (n ∙ is))) r))
+    (cases_lt k (length xs))
+
+-- what a slice of a whole list leaves there
+pub written : {A : Type 0} (n : ℕ) (xs ys : List A) → n ≡ length xs → length ys ≡ length xs → take n (ys ++ drop (length ys) xs) ≡ ys
+written n xs ys e l = grind (arith, common_steps)
+
+-- a list is made of another, element by element: one more
+pub made_more : {X Y : Type 0} (P : Y → X → Type 0) (ys : List Y) (xs : List X) (n : ℕ) (y : Y) (x : X) → length ys ≡ n → n < length xs → x ≡ get_or xs n x → P y x
+    → ((i : ℕ) (e : Y) (d : X) → i < n → P (get_or ys i e) (get_or xs i d)) → (i : ℕ) (e : Y) (d : X) → i < n + 1 → P (get_or (ys ++ y ∷ []) i e) (get_or xs i d)
+made_more P ys xs n y x len lt is p h i e d l =
+    ⊎_elim (λ (less : i < n). subst (λ a. P a (get_or xs i d)) (sym (get_or_append_left ys (y ∷ []) e i (omega arith))) (h i e d less))
+    (λ ge. let same : n ≡ i = omega arith in
+    subst (λ a. P a (get_or xs i d)) (sym (get_or_push ys y e i (len ∙ same))) (subst (λ b. P y b) (is ∙ get_or_default xs n x d lt ∙ ap (λ k. get_or xs k d) same) p))
+    (cases_lt i n)
+
+-- the first element of what is left is the next one
+pub next_is : {X : Type 0} (xs left : List X) (n : ℕ) (x : X) → left ≡ drop n xs → x ≡ get_or left 0 x → x ≡ get_or xs n x
+next_is xs left n x e r = r ∙ ap (λ l. get_or l 0 x) e ∙ get_or-drop n xs 0 x ∙ ap (λ k. get_or xs k x) (let w : n + 0 ≡ n = omega arith in w)
+
+-- an element of a list that has a place
+pub some_of : {X : Type 0} (xs : List X) (k : ℕ) → k < length xs → X
+some_of [] k l = let no : ⊥ = omega arith in absurd no
+some_of (x ∷ xs) k l = x

@@ -1,0 +1,11 @@
+-- A shard with its numbers by its fields.
+use Rattle.std.specs.Prelude.{◌≡◌, length}
+use Rattle.fan_in.specs.Desks.{BookedState}
+use Rattle.fan_in.specs.declared.booked.Booked.TheInside.{Inside}
+
+abbrev pub booked_state : Inside → BookedState
+booked_state a = record { shard = a.shard; numbers = a.numbers.items }
+
+-- each entry has a number
+pub record IsBooked (a : Inside) : Type 0 where
+  pub numbered : length a.numbers.items ≡ length (a.shard).journal

@@ -1,0 +1,100 @@
+ghost use Rattle.std.specs.Prelude.{◌≡◌, ◌<◌, [], length, true, IfOk, IfErr, OnOk, OnErr};
+ghost use Rattle.stream_base.specs.Model.Changes.{changes_after};
+ghost use Rattle.stream_base.specs.Model.Journals.{is_entry_within};
+ghost use Rattle.fan_in.specs.Desks.{booked_with, fixed_of, items_of};
+ghost use Rattle.fan_in.specs.Offers.{HoldsCause, IsOpen};
+
+use crate::fixed_part::FixedPart;
+use agg_laws::Steps;
+use shard_core::{Applied, ApplyFault, Shard};
+use std::alloc::Global;
+use std::marker::Model;
+use stream_base::Entry;
+use turnstile::Keeps;
+
+/// A shard, and for each entry of its journal the number of the pass that made it. Contracts see
+/// the shard and the numbers, as many as the journal has entries.
+#[derive(Drop)]
+pub struct Booked {
+    shard: Shard,
+    numbers: Vec<u64>,
+}
+
+impl Model for Booked {
+    ghost use Rattle.fan_in.specs.Desks.{BookedState};
+
+    ghost Value = { BookedState };
+
+    ghost use Rattle.fan_in.specs.BookedView.{booked_state, IsBooked};
+
+    ghost view = { booked_state };
+
+    ghost invariant = { IsBooked };
+}
+
+impl Booked {
+    /// A shard with no entry yet.
+    pub fn new(alloc: Global, shard: Shard) -> Booked
+        requires { shard.journal ≡ [] }
+        ensures { result ≡ record { shard = shard; numbers = [] } }
+    {
+        Booked {
+            shard,
+            numbers: Vec::new(alloc),
+        }
+    }
+
+    /// The shard.
+    pub fn shard(&self) -> &Shard
+        ensures value { result.now ≡ (self.now).shard }
+        ensures numbered { length (self.now).numbers ≡ length ((self.now).shard).journal }
+    {
+        &self.shard
+    }
+
+    /// The shard, handed out.
+    pub fn into_shard(self) -> Shard
+        ensures { result ≡ self.shard }
+    {
+        let Booked { shard, numbers: _ } = self;
+        shard
+    }
+
+    // Applies an entry, under the number of a pass.
+    pub(crate) fn book<L>(
+        &mut self,
+        entry: &Entry,
+        number: u64,
+        steps: &mut Steps<L>,
+    ) -> Result<Applied, ApplyFault>
+        requires source { (entry.now).source < ((self.old).shard).sources }
+        requires within { is_entry_within entry.now ≡ true }
+        ensures booked { OnOk result (self.new ≡ booked_with self.old number entry.now) }
+        ensures numbered { length (self.old).numbers ≡ length ((self.old).shard).journal }
+        ensures position { IfOk result (λ applied. applied.position
+            ≡ length ((self.old).shard).journal) }
+        ensures changes { IfOk result (λ applied. applied.changes
+            ≡ length (changes_after ((self.old).shard).defs ((self.old).shard).sources
+            ((self.old).shard).journal entry.now)) }
+        ensures takes { OnOk result (IsOpen (entry.now).source ((self.old).shard).journal) }
+        ensures cause { IfErr result (HoldsCause (entry.now).source ((self.old).shard).journal) }
+        ensures refused { OnErr result (self.new ≡ self.old) }
+    {
+        if self.numbers.reserve(1).is_err() {
+            return Err(ApplyFault::NoMemory);
+        }
+        let applied = self.shard.apply(entry, steps)?;
+        self.numbers.push_reserved(number);
+        Ok(applied)
+    }
+}
+
+impl Keeps for Booked {
+    type Item = Entry;
+
+    type Fixed = FixedPart;
+
+    ghost items = { items_of };
+
+    ghost fixed = { fixed_of };
+}

@@ -1,0 +1,94 @@
+ghost use Rattle.std.specs.Prelude.{◌≡◌, ◌<◌, ℕ, Some, All, length, IfOk, OnOk, slice_index_or};
+ghost use Rattle.turnstile.specs.Passes.{fixed};
+ghost use Rattle.fan_in.specs.Floors.{IsZero};
+ghost use Rattle.fan_in.specs.Closings.{AreClosed, AreStanding, EndAt, IsClosed};
+ghost use Rattle.fan_in.specs.Closings.{IsColumn, LoseLast, SettlesLast};
+
+use crate::booked::Booked;
+use crate::desk::Desk;
+use crate::floor::Floor;
+use crate::plan::Plan;
+use shard_core::Shard;
+use std::alloc::Global;
+use std::sync::Wait;
+use stream_base::NoMemory;
+use turnstile::Pass;
+
+// Closes all desks, each with all its passes, and hands their shards out in the order of the desks.
+// Where one can't be closed, none is handed out.
+pub(crate) fn close_all<R: Wait>(
+    rt: &R,
+    alloc: Global,
+    plan: &Plan,
+    floor: Floor,
+) -> Result<Vec<Shard>, NoMemory>
+    requires standing { AreStanding
+        (Some (record { defs = plan.now.defs; sources = plan.now.sources })) plan.now.sources
+        floor.desks.items floor.zeros.items floor.rows.items }
+    ensures many { IfOk result (λ shards. length shards.items ≡ length floor.desks.items) }
+    ensures closed { IfOk result (λ shards. AreClosed
+        (Some (record { defs = plan.now.defs; sources = plan.now.sources }))
+        floor.rows.items shards.items) }
+{
+    let Floor {
+        mut desks,
+        mut zeros,
+        mut rows,
+    } = floor;
+    let mut shards = Vec::with_capacity(alloc, usize::from(plan.shards))?;
+    while let Some(desk) = desks.pop() {
+        match zeros.pop() {
+            Some(zero) => {
+                let shard = close_desk(rt, alloc, desk, zero, rows.as_mut_slice())?;
+                shards.insert(0, shard)?;
+            }
+            None => unreachable!(),
+        }
+    }
+    Ok(shards)
+}
+
+// Closes a desk with pass 0 and the last pass of each row, which are all its passes.
+fn close_desk<R: Wait>(
+    rt: &R,
+    alloc: Global,
+    desk: Desk,
+    zero: Pass<Booked>,
+    rows: &mut [Vec<Pass<Booked>>],
+) -> Result<Shard, NoMemory>
+    requires zero { IsZero desk (fixed zero) (length rows.old) zero }
+    requires rows { EndAt desk (fixed zero) rows.old }
+    ensures closed { IfOk result (λ shard. IsClosed (fixed zero) shard) }
+    ensures settled { IfOk result (λ shard. SettlesLast shard rows.old) }
+    ensures rows { OnOk result (LoseLast rows.old rows.new) }
+{
+    let column = column_of(alloc, zero, rows)?;
+    match desk.close(rt, alloc, column) {
+        Ok((booked, _)) => {
+            let _known = booked.shard().journal_len();
+            Ok(booked.into_shard())
+        }
+        Err(_) => Err(NoMemory),
+    }
+}
+
+// Pass 0, and the last pass of each row.
+fn column_of(
+    alloc: Global,
+    zero: Pass<Booked>,
+    rows: &mut [Vec<Pass<Booked>>],
+) -> Result<Vec<Pass<Booked>>, NoMemory>
+    requires some { All (λ row. 0 < length row.items) rows.old }
+    ensures column { IfOk result (λ column. IsColumn zero rows.old column.items) }
+    ensures rows { OnOk result (LoseLast rows.old rows.new) }
+{
+    let mut column = Vec::with_capacity(alloc, rows.len())?;
+    column.push(zero)?;
+    for i in 0..rows.len() {
+        match rows[i].pop() {
+            Some(pass) => column.push(pass)?,
+            None => unreachable!(),
+        }
+    }
+    Ok(column)
+}

@@ -1,0 +1,94 @@
+ghost use Rattle.std.specs.Prelude.{◌≡◌, ◌≤◌, ◌<◌, ◌+◌, ◌-◌, ◌^◌, ℕ, [], All, length};
+ghost use Rattle.std.specs.Prelude.{Some, IfOk, OnOk};
+ghost use Rattle.turnstile.specs.Passes.{number, room, fixed, made, born, IsPassOf};
+ghost use Rattle.fan_in.specs.Floors.{GainSeats, IsFloor, IsZero};
+
+use crate::booked::Booked;
+use crate::desk::Desk;
+use crate::plan::Plan;
+use shard_core::Shard;
+use std::alloc::Global;
+use stream_base::NoMemory;
+use turnstile::{Pass, Turnstile};
+
+// The desks of all shards, pass 0 of each, and for each source a row of passes, one of each desk.
+#[derive(Drop)]
+pub(crate) struct Floor {
+    pub(crate) desks: Vec<Desk>,
+    pub(crate) zeros: Vec<Pass<Booked>>,
+    pub(crate) rows: Vec<Vec<Pass<Booked>>>,
+}
+
+// Opens a desk for each shard, with a pass for each source.
+pub(crate) fn open_floor(alloc: Global, plan: &Plan) -> Result<Floor, NoMemory>
+    requires some_sources { 1 ≤ plan.now.sources }
+    requires few_sources { plan.now.sources ≤ 16 }
+    ensures shards { IfOk result (λ floor. length floor.desks.items ≡ plan.now.shards) }
+    ensures open { IfOk result (λ floor. IsFloor
+        (Some (record { defs = plan.now.defs; sources = plan.now.sources })) plan.now.sources
+        floor.desks.items floor.zeros.items floor.rows.items) }
+{
+    let mut floor = Floor {
+        desks: Vec::new(alloc),
+        zeros: Vec::new(alloc),
+        rows: empty_rows(alloc, plan.sources)?,
+    };
+    for _k in 0..plan.shards {
+        open_desk(alloc, plan, &mut floor)?;
+    }
+    Ok(floor)
+}
+
+// A row for each source, with no pass yet.
+fn empty_rows(alloc: Global, sources: u16) -> Result<Vec<Vec<Pass<Booked>>>, NoMemory>
+    ensures many { IfOk result (λ rows. length rows.items ≡ sources) }
+    ensures none { IfOk result (λ rows. All (λ row. row.items ≡ []) rows.items) }
+{
+    let mut rows = Vec::new(alloc);
+    for _i in 0..sources {
+        rows.push(Vec::new(alloc))?;
+    }
+    Ok(rows)
+}
+
+// Opens one desk more.
+fn open_desk(alloc: Global, plan: &Plan, floor: &mut Floor) -> Result<(), NoMemory>
+    requires some_sources { 1 ≤ plan.now.sources }
+    requires few_sources { plan.now.sources ≤ 16 }
+    requires open { IsFloor
+        (Some (record { defs = plan.now.defs; sources = plan.now.sources })) plan.now.sources
+        floor.old.desks.items floor.old.zeros.items floor.old.rows.items }
+    ensures one_more { OnOk result
+        (length floor.new.desks.items ≡ length floor.old.desks.items + 1) }
+    ensures open { OnOk result (IsFloor
+        (Some (record { defs = plan.now.defs; sources = plan.now.sources })) plan.now.sources
+        floor.new.desks.items floor.new.zeros.items floor.new.rows.items) }
+{
+    let shard = Shard::new(alloc, plan.defs.copy(alloc)?, plan.sources)?;
+    let (desk, mut zero) = Turnstile::new(alloc, Booked::new(alloc, shard))?;
+    hand_passes(&desk, &mut zero, floor.rows.as_mut_slice())?;
+    floor.desks.push(desk)?;
+    floor.zeros.push(zero)?;
+    Ok(())
+}
+
+// Makes a pass for each source, with the number one above the source's.
+fn hand_passes(
+    desk: &Desk,
+    zero: &mut Pass<Booked>,
+    rows: &mut [Vec<Pass<Booked>>],
+) -> Result<(), NoMemory>
+    requires own { IsPassOf desk.now zero.old }
+    requires first { (number zero.old ≡ 0) × (made zero.old ≡ []) × (born zero.old ≡ []) }
+    requires room { room zero.old ≡ 2 ^ 62 - 1 }
+    requires few { length rows.old ≤ 16 }
+    ensures zero { OnOk result (IsZero desk.now (fixed zero.old) (length rows.old) zero.new) }
+    ensures many { length rows.new ≡ length rows.old }
+    ensures rows { OnOk result (GainSeats desk.now (fixed zero.old) rows.old rows.new) }
+{
+    for i in 0..rows.len() {
+        let pass = desk.split(zero)?;
+        rows[i].push(pass)?;
+    }
+    Ok(())
+}

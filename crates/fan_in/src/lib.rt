@@ -1,0 +1,38 @@
+//! Shards that many callers share: each stands under a ticket lock, a desk, whose callers hold
+//! passes.
+//!
+//! *From* the entries of several feeds *to* the journals of several shards. *Stands on*
+//! `shard_core`, `turnstile` and `source_feed`. *Promise*: an offer is one turn that applies one
+//! entry. The entry then stands last in the list that the caller's pass has seen, under its
+//! number, and its changes are those of the definitions behind that list. A refused offer leaves
+//! the journal as it was, and its cause holds of it. To gather is to read all feeds side by side
+//! and to offer each entry at the desks of its shards. Each shard's journal then holds, of each
+//! source, the first of its entries that are routed there, in order, and no other; all of them
+//! where the feed's outcome is `Done`. Each feed comes back with its outcome.
+#![tactic(auto)]
+
+mod booked;
+mod closing;
+mod desk;
+mod fixed_part;
+mod floor;
+mod gated;
+mod gather;
+mod gathered;
+mod hand_back;
+mod hand_out;
+mod job;
+mod outcome;
+mod plan;
+mod read_out;
+mod reading;
+mod side_by_side;
+mod work;
+
+pub use booked::Booked;
+pub use desk::{Desk, offer};
+pub use fixed_part::FixedPart;
+pub use gather::TurnFeeds;
+pub use gathered::{FeedEnd, Gathered, Unstarted};
+pub use outcome::Outcome;
+pub use plan::Plan;

@@ -1,0 +1,12 @@
+use source_feed::FeedFault;
+
+/// What became of one feed.
+#[derive(Clone, Copy, Debug, PartialEq, Eq)]
+pub enum Outcome {
+    /// It gave its end, and each of its entries was applied.
+    Done,
+    /// It answered this fault; or memory ran out for one of its entries, or to hand shards back.
+    Fault(FeedFault),
+    /// It gave its end, and an entry of it was refused by a full shard, this one or a later one.
+    Full { shard: u16 },
+}

@@ -1,0 +1,47 @@
+ghost use Rattle.std.specs.Prelude.{◌≡◌, ◌≤◌, ◌<◌, ℕ, All, length, slice_index_or};
+ghost use Rattle.fan_in.specs.Reading.{AreSame, IsReady, IsReadyAt, IsRead, StandAt, WasRead};
+
+use crate::desk::Desk;
+use crate::job::Job;
+use crate::reading::read_feed;
+use source_feed::Feed;
+use std::sync::Wait;
+use std::thread;
+use std::thread::Threads;
+use stream_base::Gate;
+
+// Reads all feeds, each in a thread of its own where one can be started.
+pub(crate) fn read_all<F: Feed + Send, G: Gate, R: Threads + Wait + Sync>(
+    rt: &R,
+    gate: &G,
+    desks: &[Desk],
+    jobs: &mut [Job<F>],
+)
+    requires some { 1 ≤ length jobs.old }
+    requires few { length desks.now ≤ 16 }
+    requires many { All (λ job. length job.passes.items ≡ length desks.now) jobs.old }
+    requires own { All (λ job. StandAt desks.now job.passes.items) jobs.old }
+    requires ready { All (λ job. IsReady (F.state job.feed) job.outcome job.passes.items) jobs.old }
+    ensures many { length jobs.new ≡ length jobs.old }
+    ensures same { (i : ℕ) (d : _) → i < length jobs.old → AreSame
+        (slice_index_or jobs.old i d).passes.items (slice_index_or jobs.new i d).passes.items }
+    ensures read { (i : ℕ) (d : _) → i < length jobs.old
+        → let old = slice_index_or jobs.old i d in let new = slice_index_or jobs.new i d in
+        IsRead (length desks.now) (F.state old.feed) (F.state new.feed)
+        (F.faults old.feed) (F.faults new.feed) new.outcome new.passes.items }
+{
+    let threads = jobs.len();
+    thread::for_each_mut(
+        rt,
+        jobs,
+        threads,
+        &|_, job: &mut Job<F>|
+            requires { IsReadyAt desks.now (F.state job.now.feed) job.now.outcome
+                job.now.passes.items }
+            ensures { WasRead (length desks.entry.now)
+                (F.state job.entry.now.feed) (F.state job.exit.now.feed)
+                (F.faults job.entry.now.feed) (F.faults job.exit.now.feed)
+                job.exit.now.outcome job.entry.now.passes.items job.exit.now.passes.items }
+        { read_feed(rt, gate, desks, job) },
+    );
+}
