@@ -22,7 +22,6 @@ fn end_all<R: Abort + AllocGlobal + Threads>(
 #[test]
 fn words_of_no_run_are_refused(rt: HostRuntime) -> Result<(), Fail> {
     let lists = [
-        [].as_slice(),
         ["run"].as_slice(),
         ["Run", "d", "1", "turns", "s"].as_slice(),
         ["run3", "d", "1", "turns", "s"].as_slice(),
@@ -54,6 +53,12 @@ fn words_of_no_made_run_are_refused(rt: HostRuntime) -> Result<(), Fail> {
         ["made", "0", "1", "1", "1", "turns", "s"].as_slice(),
     ];
     end_all(&rt, &lists, Status::Usage, "fault usage\n")
+}
+
+#[test]
+fn no_words_at_all_are_refused(rt: HostRuntime) -> Result<(), Fail> {
+    let none: [&str; 0] = [];
+    ends(&rt, rt.alloc(), &none, &[], Status::Usage, "fault usage\n")
 }
 
 // Words alone decide, before any file is opened.
