@@ -10,7 +10,7 @@ use Rattle.fan_in.specs.Desks.{BookedState}
 use Rattle.fan_in.specs.declared.fixed_part.FixedPart.{FixedPart}
 
 module _ {g : Ghosts BookedState Entry FixedPart} where
-  -- the first rows lost their last passes, which stand behind pass 0
+  -- the first rows lost their last passes, which stand behind pass zero
   pub record IsTaking (first_pass : Pass BookedState Entry FixedPart g) (i : ℕ) (old now : List (Vec (Pass BookedState Entry FixedPart g) Global)) (column : List (Pass BookedState Entry FixedPart g)) : Type 0 where
     pub many : length column ≡ i + 1
     pub first : (p : Pass BookedState Entry FixedPart g) → get_or column 0 p ≡ first_pass

@@ -67,7 +67,7 @@ module _ {g : Ghosts BookedState Entry FixedPart} (passes : List (Pass BookedSta
 
 module _ {g : Ghosts BookedState Entry FixedPart} (desk : Turnstile BookedState Entry FixedPart) (f : Option FixedPart) (first : Pass BookedState Entry FixedPart g) (rows : List (Vec (Pass BookedState Entry FixedPart g) Global)) (column : List (Pass BookedState Entry FixedPart g))
     (is_zero : IsZero desk f (length rows) first) (ends : EndAt desk f rows) (is : IsColumn first rows column) where
-  -- what holds of pass 0 and of each row's last pass holds of the whole column
+  -- what holds of pass zero and of each row's last pass holds of the whole column
   of_all : (Q : Pass BookedState Entry FixedPart g → Type 0) → Q first → ((i : ℕ) (row : Vec (Pass BookedState Entry FixedPart g) Global) (p : Pass BookedState Entry FixedPart g) → i < length rows → Q (last_of (get_or rows i row).items p))
       → All Q column
   of_all Q a b zero d l = subst Q (sym (is.first d)) a

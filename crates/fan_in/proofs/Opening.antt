@@ -25,7 +25,7 @@ pub part_of : (d e : Definitions) (sources : ℕ) (shard : Sharded) {booked : Bo
 part_of d e sources shard b s c = cc
 
 module _ {g : Ghosts BookedState Entry FixedPart} where
-  -- the first rows got their passes of a desk, which pass 0 gave their numbers
+  -- the first rows got their passes of a desk, which pass zero gave their numbers
   pub record IsHanding (desk : Turnstile BookedState Entry FixedPart) (first : Pass BookedState Entry FixedPart g) (i : ℕ) (zero : Pass BookedState Entry FixedPart g) (old now : List (Vec (Pass BookedState Entry FixedPart g) Global)) : Type 0 where
     pub own : IsPassOf desk zero
     pub number_is : number zero ≡ 0
@@ -37,7 +37,7 @@ module _ {g : Ghosts BookedState Entry FixedPart} where
     pub rest : (k : ℕ) (row : Vec (Pass BookedState Entry FixedPart g) Global) → i ≤ k → get_or now k row ≡ get_or old k row
     pub gained : (k : ℕ) (row : Vec (Pass BookedState Entry FixedPart g) Global) → k < i → GainsSeat desk (fixed first) k (get_or old k row).items (get_or now k row).items
 
-  -- one desk more, with its pass 0 and a pass in each row
+  -- one desk more, with its pass zero and a pass in each row
   pub one_desk_more : (f : Option FixedPart) (sources : ℕ) (desks : List (Turnstile BookedState Entry FixedPart)) (zeros : List (Pass BookedState Entry FixedPart g)) (old new : List (Vec (Pass BookedState Entry FixedPart g) Global))
       (desk : Turnstile BookedState Entry FixedPart) (zero : Pass BookedState Entry FixedPart g)
       → IsFloor f sources desks zeros old → IsZero desk f sources zero → length new ≡ length old → GainSeats desk f old new → IsFloor f sources (desks ++ desk ∷ []) (zeros ++ zero ∷ []) new

@@ -46,7 +46,7 @@ module _ {g : Ghosts BookedState Entry FixedPart} where
     pub each : (i : ℕ) (row : Vec (Pass BookedState Entry FixedPart g) Global) → i < length old
         → (slice_index_or new i row).items ≡ take (length (slice_index_or old i row).items - 1) (slice_index_or old i row).items
 
-  -- pass 0, and behind it the last pass of each row
+  -- pass zero, and behind it the last pass of each row
   pub record IsColumn (zero : Pass BookedState Entry FixedPart g) (rows : List (Vec (Pass BookedState Entry FixedPart g) Global)) (column : List (Pass BookedState Entry FixedPart g)) : Type 0 where
     pub many : length column ≡ length rows + 1
     pub first : (p : Pass BookedState Entry FixedPart g) → slice_index_or column 0 p ≡ zero
@@ -63,7 +63,7 @@ module _ {g : Ghosts BookedState Entry FixedPart} where
     pub settled : (k i : ℕ) (s : Sharded) (row : Vec (Pass BookedState Entry FixedPart g) Global) (p : Pass BookedState Entry FixedPart g) → k < length shards → i < length rows
         → IsSettled (slice_index_or shards k s) i (slice_index_or (slice_index_or rows i row).items k p)
 
-  -- desks with pass 0 of each, and rows of their passes, one a source, which made entries of their source alone
+  -- desks with pass zero of each, and rows of their passes, one a source, which made entries of their source alone
   pub record AreStanding (f : Option FixedPart) (sources : ℕ) (desks : List (Turnstile BookedState Entry FixedPart)) (zeros : List (Pass BookedState Entry FixedPart g)) (rows : List (Vec (Pass BookedState Entry FixedPart g) Global)) : Type 0 where
     pub zeros_are : AreZeros f sources desks zeros
     pub many : length rows ≡ sources

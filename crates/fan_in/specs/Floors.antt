@@ -1,4 +1,4 @@
--- The desks of all shards, pass 0 of each, and for each source a row of passes, one of each desk.
+-- The desks of all shards, pass zero of each, and for each source a row of passes, one of each desk.
 use Rattle.std.specs.Prelude.{◌≡◌, ◌≤◌, ◌<◌, ◌+◌, ◌++◌, ℕ, List, [], ◌∷◌, length, All, Option, slice_index_or, Vec}
 use Rattle.std.specs.declared.alloc.Global.{Global}
 use Rattle.stream_base.specs.declared.entry.Entry.{Entry}
@@ -10,7 +10,7 @@ use Rattle.fan_in.specs.Desks.{BookedState}
 use Rattle.fan_in.specs.declared.fixed_part.FixedPart.{FixedPart}
 
 module _ {g : Ghosts BookedState Entry FixedPart} where
-  -- pass 0 of a desk, which made nothing and gave its numbers to the passes of so many sources
+  -- pass zero of a desk, which made nothing and gave its numbers to the passes of so many sources
   pub record IsZero (desk : Turnstile BookedState Entry FixedPart) (f : Option FixedPart) (sources : ℕ) (pass : Pass BookedState Entry FixedPart g) : Type 0 where
     pub own : IsPassOf desk pass
     pub number_is : number pass ≡ 0
@@ -25,7 +25,7 @@ module _ {g : Ghosts BookedState Entry FixedPart} where
     pub fixed_is : fixed pass ≡ f
     pub born_none : born pass ≡ []
 
-  -- pass 0 of each desk
+  -- pass zero of each desk
   pub record AreZeros (f : Option FixedPart) (sources : ℕ) (desks : List (Turnstile BookedState Entry FixedPart)) (zeros : List (Pass BookedState Entry FixedPart g)) : Type 0 where
     pub many : length zeros ≡ length desks
     pub each : (k : ℕ) (d : Turnstile BookedState Entry FixedPart) (p : Pass BookedState Entry FixedPart g) → k < length desks

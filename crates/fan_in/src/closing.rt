@@ -48,7 +48,7 @@ pub(crate) fn close_all<R: Wait>(
     Ok(shards)
 }
 
-// Closes a desk with pass 0 and the last pass of each row, which are all its passes.
+// Closes a desk with pass zero and the last pass of each row, which are all its passes.
 fn close_desk<R: Wait>(
     rt: &R,
     alloc: Global,
@@ -72,7 +72,7 @@ fn close_desk<R: Wait>(
     }
 }
 
-// Pass 0, and the last pass of each row.
+// Pass zero, and the last pass of each row.
 fn column_of(
     alloc: Global,
     zero: Pass<Booked>,

@@ -11,7 +11,7 @@ use std::alloc::Global;
 use stream_base::NoMemory;
 use turnstile::{Pass, Turnstile};
 
-// The desks of all shards, pass 0 of each, and for each source a row of passes, one of each desk.
+// The desks of all shards, pass zero of each, and for each source a row of passes, one of each desk.
 #[derive(Drop)]
 pub(crate) struct Floor {
     pub(crate) desks: Vec<Desk>,
