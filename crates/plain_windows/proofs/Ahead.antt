@@ -1,5 +1,7 @@
 -- The least bound above the watermark is that of the first instance there.
 use Rattle.std.proofs.Common.{◌≡◌, ◌∙◌, ◌≤◌, ◌<◌, ◌+◌, ◌++◌, ℕ, Bool, true, false, cond, List, [], ◌∷◌, length, get_or, drop, map, ap, sym, refl, ⊎_elim, arith, None, Some}
+use Rattle.std.specs.Prelude.{Option}
+use Rattle.std.specs.Option.{option_map}
 use Rattle.std.specs.Prelude.{◌&&◌, min, nat_le, nat_lt}
 use Rattle.std.specs.List.{Contains, enumerate_from, filter, find, flat_map, fold}
 use Rattle.std.proofs.lemmas.Bool.{lt-ltb, ltb-true}
@@ -54,6 +56,21 @@ none_ahead (x ∷ is) water a e = by (nat_lt water x.bound) e (λ f. none_ahead 
     by : (b : Bool) → cond b (Some x) (find (λ j. nat_lt water j.bound) is) ≡ None → (find (λ j. nat_lt water j.bound) is ≡ None → fold min a (ahead water is) ≡ a) → fold min a (cond b (x.bound ∷ ahead water is) (ahead water is)) ≡ a
     by true f later = cc
     by false f later = later f
+
+module _ (is : List Instance) (water a : ℕ) where
+  pub first_bound_ahead : (bound : ℕ) → RunOn is → Some bound ≡ option_map (λ i. i.bound) (find (λ j. nat_lt water j.bound) is) → fold min a (ahead water is) ≡ min a bound
+  first_bound_ahead bound r e = by (find (λ j. nat_lt water j.bound) is) refl e
+    where
+      by : (found : Option Instance) → find (λ j. nat_lt water j.bound) is ≡ found → Some bound ≡ option_map (λ i. i.bound) found → fold min a (ahead water is) ≡ min a bound
+      by None is_found f = cc
+      by (Some i) is_found f = first_ahead is water a i r is_found ∙ ap (min a) (let same : i.bound ≡ bound = cc in same)
+
+  pub no_bound_ahead : None ≡ option_map (λ i. i.bound) (find (λ j. nat_lt water j.bound) is) → fold min a (ahead water is) ≡ a
+  no_bound_ahead e = by (find (λ j. nat_lt water j.bound) is) refl e
+    where
+      by : (found : Option Instance) → find (λ j. nat_lt water j.bound) is ≡ found → None ≡ option_map (λ i. i.bound) found → fold min a (ahead water is) ≡ a
+      by None is_found f = none_ahead is water a is_found
+      by (Some i) is_found f = cc
 
 -- the least of a window's numbers and of those that are left
 pub least_more : {X : Type 0} (f : X → List ℕ) (a b : ℕ) (xs : List X) (i : ℕ) (d : X) → i < length xs → b ≡ fold min a (f (get_or xs i d)) → fold min b (flat_map f (drop (i + 1) xs)) ≡ fold min a (flat_map f (drop i xs))

@@ -1,7 +1,7 @@
 -- What stands on the two sides of a place in a list that is sorted by time.
 use Rattle.std.proofs.Common.{◌≡◌, ◌∙◌, ℕ, ◌+◌, ◌-◌, ◌<◌, ◌≤◌, Bool, true, false, cond, List, [], ◌∷◌, ◌++◌, length, get_or, take, drop, ap, sym, refl, subst, pos, arith, length-take, length-drop, get_or-take, get_or-drop}
 use Rattle.std.specs.Prelude.{nat_le, nat_lt}
-use Rattle.std.specs.List.{All, Contains, filter}
+use Rattle.std.specs.List.{All, AllWithin, Contains, filter}
 use Rattle.std.specs.List.Sorted.{IsNonDecreasing, IsPartitionPoint, IsStrictlyIncreasing}
 use Rattle.std.proofs.lemmas.Bool.{ltb-true, ltb-false, le-leb, lt-ltb, le-ltb, lt-leb, and_from, and_left, and_right}
 use Rattle.std.proofs.lemmas.List.{take-append-drop, drop-drop, append-nil, get_or_default}
@@ -51,6 +51,28 @@ module _ {X : Type 0} (time_of : X → ℕ) (xs : List X) (time place : ℕ) whe
       by : (t : Bool) → nat_lt k place ≡ t → place ≤ k
       by true e = let early : time_of (get_or xs k d) < time = h.before k d (omega arith) (ltb-true k place e) in absurd (omega arith)
       by false e = ltb-false k place e
+
+module _ {X : Type 0} (time_of : X → ℕ) (xs : List X) (time start at : ℕ) (le : start ≤ length xs) (front : AllWithin (λ x. time_of x < time) xs 0 start) (h : IsPlaceOf time_of (drop start xs) time at) where
+  early_behind : (k : ℕ) (d : X) → k < start + at → (t : Bool) → nat_lt k start ≡ t → time_of (get_or xs k d) < time
+  early_behind k d high true e = front k d (omega arith) (ltb-true k start e)
+  early_behind k d high false e =
+      let far : start ≤ k = ltb-false k start e in
+      let same : start + (k - start) ≡ k = omega arith in
+      subst (λ n. time_of (get_or xs n d) < time) same (rw (sym (get_or-drop start xs (k - start) d)) (h.before (k - start) d (omega arith) (omega arith)))
+
+  late_behind : (k : ℕ) (d : X) → start + at ≤ k → k < length xs → time ≤ time_of (get_or xs k d)
+  late_behind k d low high =
+      let near : k - start < length (drop start xs) = omega (arith, length-drop start xs) in
+      let same : start + (k - start) ≡ k = omega arith in
+      subst (λ n. time ≤ time_of (get_or xs n d)) same (rw (sym (get_or-drop start xs (k - start) d)) (h.behind (k - start) d (omega arith) near))
+
+  -- a place behind a start before which all elements lie before the time
+  pub place_behind : IsPlaceOf time_of xs time (start + at)
+  place_behind = record {
+    within = omega (arith, h.within, length-drop start xs);
+    before = λ k d low high. early_behind k d high (nat_lt k start) refl;
+    behind = late_behind;
+  }
 
 -- the tuple at a place is the first at or after the time
 pub first_behind : (kept : List Kept) (time place : ℕ) (d x : Kept) → TimesDoNotFall kept → IsPlaceOf (λ (x : Kept). x.time) kept time place → Contains kept x → time ≤ x.time → (place < length kept) × ((get_or kept place d).time ≤ x.time)

@@ -7,7 +7,7 @@ ghost use Rattle.stream_base.specs.Limits.{IsKindWithin};
 ghost use Rattle.plain_windows.specs.Changing.{all_completions, bounds_ahead, room, window_of};
 ghost use Rattle.plain_windows.specs.Views.{AreWindows, IsMoment, seen};
 
-use crate::find::first_above;
+use crate::find::bound_above;
 use crate::fold::{Owner, row_of};
 use crate::view::View;
 use crate::walk::{due_from, first_left};
@@ -123,8 +123,8 @@ fn next_of_window(def: &Def, view: &View, least: u64) -> u64
     requires lists { IsMoment (seen view.now) }
     ensures { result ≡ fold min least (bounds_ahead (seen view.now) def.now) }
 {
-    match first_above(&def.kind, view.kept, view.marks, view.water) {
-        Some(extent) => least_of(least, extent.bound),
+    match bound_above(&def.kind, view.kept, view.marks, view.water) {
+        Some(bound) => least_of(least, bound),
         None => least,
     }
 }

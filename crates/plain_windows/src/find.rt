@@ -48,3 +48,21 @@ pub fn first_above(kind: &Kind, kept: &[Kept], marks: &[u64], water: u64) -> Opt
         Kind::Events { count } => ranks::first_above(count, kept, water),
     }
 }
+
+/// The bound of that instance.
+#[tactic(auto, unfolding(stream_base::specs::Model::Windows::instances_of))]
+pub fn bound_above(kind: &Kind, kept: &[Kept], marks: &[u64], water: u64) -> Option<u64>
+    requires kind { IsKindWithin kind.now }
+    requires lists { AreKeyLists kept.now marks.now }
+    ensures { result ≡ option_map (λ i. i.bound)
+        (find (λ i. nat_lt water i.bound) (instances_of kind.now kept.now marks.now)) }
+{
+    let extent = match *kind {
+        Kind::Tumbling { length } => return spans::bound_above(length, length, kept, water),
+        Kind::Sliding { length, slide } => return spans::bound_above(length, slide, kept, water),
+        Kind::Session { gap } => sessions::first_above(gap, kept, water),
+        Kind::Marks => stretches::first_above(kept, marks, water),
+        Kind::Events { count } => ranks::first_above(count, kept, water),
+    };
+    Some(extent?.bound)
+}

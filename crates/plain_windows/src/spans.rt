@@ -1,10 +1,11 @@
 //! The instances of a tumbling or sliding window: intervals that start at multiples of the slide.
-ghost use Rattle.std.specs.Prelude.{◌≡◌, [], IfSome, nat_le, nat_lt};
+ghost use Rattle.std.specs.Prelude.{◌≡◌, ◌≤◌, ◌+◌, [], IfSome, nat_le, nat_lt};
 ghost use Rattle.std.specs.List.{find};
 ghost use Rattle.std.specs.Option.{option_map};
 ghost use Rattle.stream_base.specs.declared.kind.Kind.TheVariants.{Sliding};
 ghost use Rattle.stream_base.specs.Limits.{IsKindWithin};
-ghost use Rattle.stream_base.specs.Model.Windows.{spans};
+ghost use Rattle.stream_base.specs.declared.limits.TheConstants.{TIME_MAX};
+ghost use Rattle.stream_base.specs.Model.Windows.{interval, spans};
 ghost use Rattle.plain_windows.specs.Extents.{AreKeyLists, IsExtentIn, instance_in};
 
 use crate::extent::Extent;
@@ -21,6 +22,18 @@ pub fn first_from(length: u64, slide: u64, kept: &[Kept], from: u64) -> Option<E
         ≡ find (λ i. nat_le from i.low) (spans length slide kept.now) }
     ensures inside { IfSome result (IsExtentIn kept.now) }
 {
+    let low = start_from(length, slide, kept, from)?;
+    Some(interval_over(kept, low, low + length))
+}
+
+// The start of that interval.
+fn start_from(length: u64, slide: u64, kept: &[Kept], from: u64) -> Option<u64>
+    requires kind { IsKindWithin (Sliding length slide) }
+    requires lists { AreKeyLists kept.now [] }
+    ensures found { option_map (λ low. interval low (low + length) kept.now) result
+        ≡ find (λ i. nat_le from i.low) (spans length slide kept.now) }
+    ensures early { IfSome result (λ low. low ≤ TIME_MAX) }
+{
     if from > TIME_MAX {
         return None;
     }
@@ -30,8 +43,7 @@ pub fn first_from(length: u64, slide: u64, kept: &[Kept], from: u64) -> Option<E
         return None;
     }
     let holding = (kept[place].time + slide).saturating_sub(length) / slide;
-    let low = start.max(holding) * slide;
-    Some(interval_over(kept, low, low + length))
+    Some(start.max(holding) * slide)
 }
 
 /// The first interval with a tuple that ends after a watermark, if there is one.
@@ -43,4 +55,15 @@ pub fn first_above(length: u64, slide: u64, kept: &[Kept], water: u64) -> Option
     ensures inside { IfSome result (IsExtentIn kept.now) }
 {
     first_from(length, slide, kept, water.saturating_sub(length - 1))
+}
+
+/// The bound of that interval, without a search for what it selects.
+pub fn bound_above(length: u64, slide: u64, kept: &[Kept], water: u64) -> Option<u64>
+    requires kind { IsKindWithin (Sliding length slide) }
+    requires lists { AreKeyLists kept.now [] }
+    ensures { result ≡ option_map (λ i. i.bound)
+        (find (λ i. nat_lt water i.bound) (spans length slide kept.now)) }
+{
+    let low = start_from(length, slide, kept, water.saturating_sub(length - 1))?;
+    Some(low + length)
 }

@@ -1,28 +1,7 @@
--- The first interval that holds the first tuple behind the start, or the start's own.
-use Rattle.std.proofs.Common.{◌∙◌, ◌/◌, max, ap, sym, arith, Some}
-use Rattle.stream_base.specs.declared.limits.TheConstants.{TIME_MAX}
+-- The interval at the start that was found.
+use Rattle.std.proofs.Common.{◌∙◌, ap, Some}
 use Rattle.stream_base.proofs.EventOrder.{times_do_not_fall}
-use Rattle.plain_windows.proofs.PlaceFacts.{some_tuple}
-use Rattle.plain_windows.proofs.SpanFacts.{first_multiple, spans_rise, first_span_from, no_span_from, no_span_beyond}
 use Rattle.plain_windows.proofs.spans.first_from.Goals as goal
-
-pub returns-then-from-gt-TIME_MAX-clause-found : goal.returns-then-from-gt-TIME_MAX-clause-found
-returns-then-from-gt-TIME_MAX-clause-found c =
-    sym (no_span_beyond c.args.length c.args.slide c.requires.kind.2 c.requires.kind.3 c.args.kept.now c.args.from TIME_MAX c.requires.lists.times (omega arith))
-
-pub tuples_before-place-requires : goal.tuples_before-place-requires
-tuples_before-place-requires c = times_do_not_fall c.args.kept.now c.requires.lists.in_order
-
-pub returns-then-place-kept-clause-found : goal.returns-then-place-kept-clause-found
-returns-then-place-kept-clause-found c =
-    sym (no_span_from c.args.length c.args.slide c.requires.kind.2 c.requires.kind.3 c.args.kept.now c.args.from c.tuples_before-place.result (times_do_not_fall c.args.kept.now c.requires.lists.in_order) c.tuples_before-place.ensures (omega arith))
 
 pub interval_over-requires-clause-times : goal.interval_over-requires-clause-times
 interval_over-requires-clause-times c = times_do_not_fall c.args.kept.now c.requires.lists.in_order
-
-pub returns-clause-found : goal.returns-clause-found
-returns-clause-found c =
-    let times = times_do_not_fall c.args.kept.now c.requires.lists.in_order in
-    let number = c.max.ensures ∙ ap (λ n. max (first_multiple c.args.slide c.args.from) (n / c.args.slide)) c.saturating_sub.ensures in
-    ap Some c.interval_over.ensures.is
-    ∙ sym (first_span_from c.args.length c.args.slide c.requires.kind.2 c.requires.kind.3 c.args.kept.now c.args.from c.tuples_before-place.result times c.tuples_before-place.ensures some_tuple (omega arith) c.max.result number (spans_rise c.args.length c.args.slide c.args.kept.now c.requires.kind times))
