@@ -1,5 +1,5 @@
 -- The table of keys where a key is added.
-use Rattle.std.proofs.Common.{◌≡◌, ◌∙◌, ◌≤◌, ◌<◌, ◌+◌, ℕ, Bool, true, false, cond, List, [], ◌∷◌, ◌++◌, length, map, get_or, get_or-set_other, get_or-set_same, set, ap, sym, refl, subst, arith, None, Some, inl, ⊎_elim, length-append, Result, Ok, Err}
+use Rattle.std.proofs.Common.{◌≡◌, ◌≢◌, ◌∙◌, ◌≤◌, ◌<◌, ◌+◌, ℕ, Bool, true, false, cond, List, [], ◌∷◌, ◌++◌, length, map, get_or, get_or-set_other, get_or-set_same, set, ap, sym, refl, subst, arith, None, Some, inl, ⊎_elim, length-append, Result, Ok, Err}
 use Rattle.std.specs.Result.{OnErr}
 use Rattle.std.specs.BTreeMap.{IsOrdered, is_at}
 use Rattle.std.specs.List.Sorted.{IsStrictlySortedBy}
@@ -8,7 +8,7 @@ use Rattle.std.specs.Cmp.Lexicographic.{slice_cmp}
 use Rattle.std.specs.Ordering.{nat_cmp}
 use Rattle.std.proofs.Math.ListN.{length-set}
 use Rattle.std.proofs.lemmas.Bool.Decides.{eqb_tells}
-use Rattle.std.proofs.lemmas.List.{get_or_append_left, get_or_push}
+use Rattle.std.proofs.lemmas.List.{get_or_append_left, get_or_default, get_or_push}
 use Rattle.std.proofs.lemmas.Map.Text.{is_eq-slice_cmp}
 use Rattle.key_slicer.specs.Calls.{changes_by_move}
 use Rattle.stream_base.specs.Limits.{Definitions}
@@ -32,6 +32,14 @@ on_err (Err e) h = h
 
 some_is : {X : Type 0} (x y : X) → Some x ≡ Some y → x ≡ y
 some_is x y h = cc
+
+-- a slot that stands under another watermark than this later one stands under an earlier one
+pub is_behind : {K : Type 0} (slots : List (Slot K)) (place : ℕ) (here there : Slot K) (water now : ℕ) → place < length slots → (get_or slots place here).water ≤ water → here ≡ get_or slots place here → there ≡ get_or slots place there → there.water ≢ water → water ≡ now → here.water < now
+is_behind {K} slots place here there water now inside rises is_here is_there other same =
+    let one : here ≡ there = is_here ∙ get_or_default slots place here there inside ∙ sym is_there in
+    let as_here : here.water ≡ (get_or slots place here).water = ap (λ (s : Slot K). s.water) is_here in
+    let as_there : here.water ≡ there.water = ap (λ (s : Slot K). s.water) one in
+    omega arith
 
 module _ {K : Type 0} (key_of : K → List ℕ) (fits : Definitions → List Kept → List ℕ → ℕ → K → Type 0) (next_position : K → ℕ) (d : Definitions) (sources : ℕ) (journal : List Entry) where
   -- the same slots under the same keys

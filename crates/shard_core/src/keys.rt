@@ -113,6 +113,10 @@ impl<K: KeyWindows> KeyTable<K> {
             → AreCurrent K.key_of K.fits K.next_position defs.now sources journal self.old
             → out.new.items ≡ out.old.items }
     {
+        let old = self.slots[place].water;
+        if old == water {
+            return Ok(());
+        }
         self.slots[place].catch_up(defs, water, out, steps)?;
         self.dues[place] = self.slots[place].due(defs);
         Ok(())

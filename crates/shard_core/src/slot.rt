@@ -32,7 +32,7 @@ impl<K: KeyWindows> Slot<K> {
         Ok(Slot { state, water })
     }
 
-    // Brings the state on to a watermark. Where nothing is due before that, nothing changes.
+    // Brings the state on to a later watermark. Where nothing is due before that, nothing changes.
     pub fn catch_up<L>(
         &mut self,
         defs: &Defs,
@@ -40,7 +40,7 @@ impl<K: KeyWindows> Slot<K> {
         out: &mut Vec<Change>,
         steps: &mut Steps<L>,
     ) -> Result<(), NoMemory>
-        requires rises { (self.old).water ≤ water }
+        requires rises { (self.old).water < water }
         requires water { water ≤ FINAL }
         ensures key { K.key_of (self.new).state ≡ K.key_of (self.old).state }
         ensures next { K.next_position (self.new).state ≡ K.next_position (self.old).state }
@@ -51,14 +51,10 @@ impl<K: KeyWindows> Slot<K> {
         ensures refused { OnErr result ((self.new).water ≡ (self.old).water) }
         ensures quiet { (kept : List Kept) (marks : List ℕ)
             → SlotFits K.fits defs.now kept marks self.old
-            → ((self.old).water < water
             → changes_by_move defs.now (K.key_of (self.old).state) kept marks
-            (self.old).water water ≡ [])
+            (self.old).water water ≡ []
             → out.new.items ≡ out.old.items }
     {
-        if self.water == water {
-            return Ok(());
-        }
         let room = self.state.reserve_water(defs, self.water, water)?;
         out.reserve(room as usize)?;
         self.state.water(defs, self.water, water, out, steps);
