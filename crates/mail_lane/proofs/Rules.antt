@@ -10,7 +10,7 @@ use Rattle.mail_lane.specs.declared.letter.Letter.{Letter}
 use Rattle.mail_lane.specs.declared.role.Role.{Role}
 use Rattle.mail_lane.specs.declared.role.Role.TheVariants.{Sending, Receiving, Spent}
 use Rattle.mail_lane.specs.Lane.{messages_of, sent_by}
-use Rattle.mail_lane.specs.Rule.{History, FitsSender, FitsReceiver, Fits, FitsAll, Delivers, MayHold, IsAccounted, IsTaken, unopened, with_collected, spent_role}
+use Rattle.mail_lane.specs.Rule.{History, FitsSender, FitsReceiver, Fits, FitsAll, Delivers, IsLeft, IsAccounted, IsTaken, unopened, with_collected, spent_role}
 use Rattle.mail_lane.proofs.Letters.{changed, changed-same, changed-other, changed-kept, messages_of-pushed, messages_of-among, never_empty, sent_by-front, sent_by-last, sent_by-past}
 
 module _ {M : Type 0} where
@@ -246,9 +246,12 @@ module _ {M : Type 0} where
             (at_set views pass j both u e)),
       )
 
-  -- an empty queue shows that the lane may be empty
-  pub learns_empty : (pass : ℕ) (v : Role M) → Learns Delivers pass v (MayHold v)
-  learns_empty pass v items views delivers at = (views, pass, delivers, at)
+  -- the receiver knows what is left of the senders that are back
+  pub learns_back : (pass senders : ℕ) (taken : List (Letter M)) (collected : List (List M)) → Learns Delivers pass (Receiving senders taken collected) (IsLeft (Receiving senders taken collected))
+  learns_back pass senders taken collected items views delivers at p below =
+      let h = delivers.0 in
+      let mine : FitsReceiver h pass senders taken collected = delivers.2 pass (Receiving senders taken collected) at in
+      ap (λ l. messages_of p (l ++ items)) mine.known ∙ delivers.1 p ∙ sym (mine.back p below).1
 
   -- once all senders are back, the receiver knows what is left
   pub learns_left : (pass senders : ℕ) (taken : List (Letter M)) (collected : List (List M)) → Learns Delivers pass (Receiving senders taken collected) (IsAccounted (Receiving senders taken collected))

@@ -1,5 +1,6 @@
 -- The senders of a lane in a row.
-use Rattle.std.proofs.Common.{◌≡◌, ◌⊎◌, ℕ, zero, suc, List, [], ◌∷◌, ◌++◌, length, slice_get, Some, sym, refl, ap, inl, inr, ⊎_elim, ◌∙◌}
+use Rattle.std.proofs.Common.{◌≡◌, ◌⊎◌, ℕ, zero, suc, List, [], ◌∷◌, ◌++◌, length, map, slice_get, Some, sym, refl, ap, inl, inr, ⊎_elim, ◌∙◌, ◌+◌, length-append, arith}
+use Rattle.std.proofs.lemmas.List.{length-map}
 use Rattle.mail_lane.specs.Lane.{LaneId, SenderState, AreNumbered}
 
 -- the item that comes after those that came
@@ -21,3 +22,7 @@ placed_push {M} xs y lane placed is numbered k sender e =
     ⊎_elim (λ (old : slice_get xs k ≡ Some sender). placed k sender old)
     (λ (last : (k ≡ length xs) × (y ≡ sender)). (ap (λ (s : SenderState M). s.lane) (sym last.1) ∙ is, ap (λ (s : SenderState M). s.number) (sym last.1) ∙ numbered ∙ sym last.0))
     (item_of-push xs y k sender e)
+
+-- how many are back, once these came back too
+pub length_back : {A B : Type 0} (back : List B) (came : List A) (f : A → B) → length back + length came ≡ length (back ++ map f came)
+length_back back came f = omega (arith, length-append back (map f came), length-map came f)

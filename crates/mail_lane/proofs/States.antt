@@ -14,13 +14,13 @@ module _ {M : Type 0} where
 
   -- a receiver that took one letter more
   pub receiver_after : (lane : LaneId) (before : ReceiverState M) (v w : Role M) (x : Letter M)
-      → v ≡ Receiving before.senders before.taken [] → IsTaken v x w → lane ≡ before.lane
-      → let after : ReceiverState M = record { lane = lane; senders = senders_of w; taken = taken_of w } in
-      let wanted : ReceiverState M = record { lane = before.lane; senders = before.senders; taken = before.taken ++ x ∷ [] } in
+      → v ≡ Receiving before.senders before.taken before.back → IsTaken v x w → lane ≡ before.lane
+      → let after : ReceiverState M = record { lane = lane; senders = senders_of w; taken = taken_of w; back = collected_of w } in
+      let wanted : ReceiverState M = record { lane = before.lane; senders = before.senders; taken = before.taken ++ x ∷ []; back = before.back } in
       after ≡ wanted
   receiver_after lane before v w x is step same =
-      let after = after_taking before.senders before.taken [] v w x is step in
-      λ i. record { lane = same i; senders = senders_of (after i); taken = taken_of (after i) }
+      let after = after_taking before.senders before.taken before.back v w x is step in
+      λ i. record { lane = same i; senders = senders_of (after i); taken = taken_of (after i); back = collected_of (after i) }
 
   -- the letter is of one of the receiver's senders
   pub receiver_numbered : (senders : ℕ) (taken : List (Letter M)) (collected : List (List M)) (v w : Role M) (x : Letter M)

@@ -1,5 +1,5 @@
 -- What a lane, its senders, its receiver and a settled lane are in contracts.
-use Rattle.std.specs.Prelude.{◌≡◌, ◌==◌, ◌<◌, ℕ, List, [], ◌∷◌, ◌++◌, length, map, filter, slice_get, slice_index_or, Some}
+use Rattle.std.specs.Prelude.{◌≡◌, ◌==◌, ◌<◌, ◌+◌, ℕ, List, [], ◌∷◌, ◌++◌, length, map, filter, slice_get, slice_index_or, Some}
 use Rattle.std.specs.declared.alloc.Global.{Global}
 use Rattle.crossbeam_queue.specs.SegTies.{SegId}
 use Rattle.mail_lane.specs.declared.letter.Letter.{Letter}
@@ -19,11 +19,12 @@ pub record SenderState (M : Type 0) : Type 0 where
   pub number : ℕ
   pub sent : List M
 
--- a receiver: its lane, how many senders that has, and what it took, oldest first, each message with its sender's number
+-- a receiver: its lane, how many senders that has, what it took, oldest first, each message with its sender's number, and what the senders sent that it took back, the sender of number 0 first
 pub record ReceiverState (M : Type 0) : Type 0 where
   pub lane : LaneId
   pub senders : ℕ
   pub taken : List (Letter M)
+  pub back : List (List M)
 
 -- a settled lane: what its receiver took in all, and what each sender sent
 pub record SettledState (M : Type 0) : Type 0 where
@@ -53,7 +54,15 @@ module _ {M : Type 0} where
   -- a receiver has taken one message more, of one of its lane's senders
   abbrev pub ReceivesOne : ReceiverState M → M → ReceiverState M → Type 0
   ReceivesOne old message new = (from : ℕ) × (from < old.senders)
-      × (new ≡ record { lane = old.lane; senders = old.senders; taken = old.taken ++ letter from message ∷ [] })
+      × (new ≡ record { lane = old.lane; senders = old.senders; taken = old.taken ++ letter from message ∷ []; back = old.back })
+
+  -- a receiver has taken one sender back, with what that sent
+  abbrev pub with_back : ReceiverState M → List M → ReceiverState M
+  with_back receiver sent = record { lane = receiver.lane; senders = receiver.senders; taken = receiver.taken; back = receiver.back ++ sent ∷ [] }
+
+  -- all was taken that the senders sent that are back
+  abbrev pub HasWhole : ReceiverState M → Type 0
+  HasWhole receiver = (number : ℕ) → number < length receiver.back → messages_of number receiver.taken ≡ sent_by number receiver.back
 
   -- a settled lane has given one message more, of one of its senders
   abbrev pub GivesOne : SettledState M → M → SettledState M → Type 0
@@ -67,6 +76,14 @@ module _ {M : Type 0} where
   -- these are senders of this lane, and the number of each is its place
   abbrev pub AreNumbered : LaneId → List (SenderState M) → Type 0
   AreNumbered lane senders = (k : ℕ) (sender : SenderState M) → slice_get senders k ≡ Some sender → (sender.lane ≡ lane) × (sender.number ≡ k)
+
+  -- these are senders of this lane, and their numbers are those from this one on
+  abbrev pub AreNumberedFrom : ℕ → LaneId → List (SenderState M) → Type 0
+  AreNumberedFrom first lane senders = (k : ℕ) (sender : SenderState M) → slice_get senders k ≡ Some sender → (sender.lane ≡ lane) × (sender.number ≡ first + k)
+
+  -- these are the lane's senders that its receiver hasn't taken back, in the order of their numbers
+  abbrev pub AreRestOf : Lane → ReceiverState M → List (SenderState M) → Type 0
+  AreRestOf lane receiver senders = (length receiver.back + length senders ≡ lane.senders) × AreNumberedFrom (length receiver.back) lane.id senders
 
   -- these are the lane's senders 0, 1 and so on up to the last, in this order
   abbrev pub AreSendersOf : Lane → List (SenderState M) → Type 0

@@ -5,7 +5,7 @@ use lib.ListN.{get_elem?}
 use Rattle.mail_lane.specs.declared.letter.Letter.{Letter}
 use Rattle.mail_lane.specs.declared.role.Role.{Role}
 use Rattle.mail_lane.specs.declared.role.Role.TheVariants.{Sending, Receiving, Spent}
-use Rattle.mail_lane.specs.Lane.{ReceiverState, messages_of, sent_by}
+use Rattle.mail_lane.specs.Lane.{messages_of, sent_by}
 
 -- the receiver's pass, the pass of each sender that is out, what each sender has sent, and what was taken
 pub record History (M : Type 0) : Type 0 where
@@ -95,9 +95,9 @@ module _ {M : Type 0} where
       × ((number : ℕ) → messages_of number (h.taken ++ items) ≡ h.sent number)
       × FitsAll h views
 
-  -- while the queue holds these letters, a pass may know this
-  abbrev pub MayHold : Role M → List (Letter M) → Type 0
-  MayHold v items = (views : List (Role M)) × (pass : ℕ) × Delivers items views × (get_elem? views pass ≡ some v)
+  -- of each sender that is back: what it sent is what was taken of it, and then what is left of it
+  abbrev pub IsLeft : Role M → List (Letter M) → Type 0
+  IsLeft v left = (number : ℕ) → number < length (collected_of v) → messages_of number (taken_of v ++ left) ≡ sent_by number (collected_of v)
 
   -- once all senders' passes are back: what each sent is what was taken of it, and then what is left of it
   abbrev pub IsAccounted : Role M → List (Letter M) → Type 0
@@ -114,7 +114,3 @@ module _ {M : Type 0} where
   pub record IsSettled (v : Role M) : Type 0 where
     pub whole : v ≡ Receiving (length (collected_of v)) (taken_of v) (collected_of v)
     pub left : (items : List (Letter M)) × IsAccounted v items
-
-  -- the lane may be empty while its receiver has taken this
-  abbrev pub MayBeEmpty : ReceiverState M → Type 0
-  MayBeEmpty receiver = MayHold (Receiving receiver.senders receiver.taken []) []

@@ -72,9 +72,9 @@ impl<M> Outcome<Letter<M>, Role<M>> for Takes {
 }
 
 impl<M> Lesson<Letter<M>, Role<M>> for Takes {
-    ghost use Rattle.mail_lane.specs.Rule.{MayHold};
+    ghost use Rattle.mail_lane.specs.Rule.{IsLeft};
 
-    ghost fact = { MayHold };
+    ghost fact = { IsLeft };
 }
 
 // The receiver takes, once all senders' passes are back.

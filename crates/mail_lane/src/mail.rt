@@ -1,8 +1,8 @@
 ghost use Rattle.std.specs.Prelude.{◌≡◌, ◌<◌, ◌+◌, ◌^◌, ◌∷◌, [], ◌++◌, ℕ, slice_get, All, length, map, OnOk, OnErr, IfOk, IfErr, IfNone, IfSome};
 ghost use Rattle.crossbeam_queue.specs.SegTies.{IsSegPassOf};
 ghost use Rattle.mail_lane.specs.declared.role.Role.TheVariants.{Receiving};
-ghost use Rattle.mail_lane.specs.Lane.{with_message, ReceivesOne, IsSenderOf, AreNumbered, AreSendersOf, IsReceiverOf, TakenInOrder};
-ghost use Rattle.mail_lane.specs.Rule.{MayBeEmpty};
+ghost use Rattle.mail_lane.specs.Lane.{with_message, with_back, ReceivesOne, HasWhole, IsSenderOf};
+ghost use Rattle.mail_lane.specs.Lane.{AreNumberedFrom, AreRestOf, AreSendersOf, IsReceiverOf, TakenInOrder};
 
 use crate::back::Back;
 use crate::letter::Letter;
@@ -39,7 +39,7 @@ impl<M: Drop> Mail<M> {
         requires { 0 < senders }
         ensures count { IfOk result (λ made. made.0.senders ≡ senders) }
         ensures receiver { IfOk result (λ made. IsReceiverOf made.0 made.1) }
-        ensures untaken { IfOk result (λ made. made.1.taken ≡ []) }
+        ensures untaken { IfOk result (λ made. (made.1.taken ≡ []) × (made.1.back ≡ [])) }
         ensures senders { IfOk result (λ made. AreSendersOf made.0 made.2.items) }
         ensures unsent { IfOk result (λ made. All (λ sender. sender.sent ≡ []) made.2.items) }
     {
@@ -68,20 +68,37 @@ impl<M: Drop> Mail<M> {
         }
     }
 
-    /// The oldest message of the lane, or none where the lane was empty at a step of this call.
+    /// The oldest message of the lane, or none where the lane was empty at a step of this call. So of
+    /// the senders that were taken back it has all that they sent.
     pub fn take<R: Wait>(&self, rt: &R, receiver: &mut Receiver<M>) -> Option<M>
         requires { IsReceiverOf self.now receiver.old }
         ensures some { IfSome result (λ message. ReceivesOne receiver.old message receiver.new) }
         ensures none { IfNone result (receiver.new ≡ receiver.old) }
-
-        // The step that found the queue empty shows it.
-        ensures empty { IfNone result (MayBeEmpty receiver.old) }
+        ensures empty { IfNone result (HasWhole receiver.old) }
     {
         let letter = self.line.queue.pop_as::<Takes, R>(rt, &mut receiver.pass)?;
         Some(letter.message)
     }
 
-    /// Ends the lane, once its receiver and all its senders are back, and keeps what is left in it.
+    /// Takes back the sender of the next number, the first of them that isn't back. Its messages
+    /// stay in the lane.
+    pub fn take_back(&self, receiver: &mut Receiver<M>, sender: Sender<M>)
+        requires receiver { IsReceiverOf self.now receiver.old }
+        requires sender { IsSenderOf self.now sender }
+        requires next { sender.number ≡ length receiver.old.back }
+        ensures back { receiver.new ≡ with_back receiver.old sender.sent }
+    {
+        let Sender {
+            pass: theirs,
+            number: _,
+        } = sender;
+        self.line
+            .queue
+            .absorb::<Collects>(&mut receiver.pass, theirs);
+    }
+
+    /// Ends the lane, and keeps what is left in it. The receiver is handed in, with all senders that
+    /// it hasn't taken back.
     pub fn settle<R: Wait>(
         self,
         rt: &R,
@@ -89,9 +106,9 @@ impl<M: Drop> Mail<M> {
         senders: Vec<Sender<M>>,
     ) -> Settled<M>
         requires receiver { IsReceiverOf self receiver }
-        requires senders { AreSendersOf self senders.items }
+        requires senders { AreRestOf self receiver senders.items }
         ensures taken { result.taken ≡ receiver.taken }
-        ensures sent { result.sent ≡ map (λ sender. sender.sent) senders.items }
+        ensures sent { result.sent ≡ receiver.back ++ map (λ sender. sender.sent) senders.items }
         ensures in_order { TakenInOrder result }
     {
         let Mail { line, senders: _ } = self;
@@ -119,10 +136,10 @@ fn open_sender<M: Drop>(queue: &Queue<M>, pass: &mut Pass<M>, number: u16) -> Se
 // The receiver's pass, which has taken in all senders' passes.
 fn collect_all<M: Drop>(queue: &Queue<M>, receiver: Receiver<M>, senders: Vec<Sender<M>>) -> Pass<M>
     requires receiver { receiver.lane ≡ queue.now }
-    requires senders { AreNumbered queue.now senders.items }
+    requires senders { AreNumberedFrom (length receiver.back) queue.now senders.items }
     ensures pass { IsSegPassOf queue.now result }
     ensures role { result.me.view.client ≡ Receiving receiver.senders receiver.taken
-        (map (λ sender. sender.sent) senders.items) }
+        (receiver.back ++ map (λ sender. sender.sent) senders.items) }
 {
     let Receiver { mut pass } = receiver;
     for sender in senders {

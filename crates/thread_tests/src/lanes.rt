@@ -55,6 +55,22 @@ fn gives_after_settling_what_was_left(rt: HostRuntime) -> Result<(), Fail> {
     Ok(())
 }
 
+#[test]
+fn finds_nothing_once_it_has_all_of_the_senders_that_are_back(rt: HostRuntime) -> Result<(), Fail> {
+    let (mail, mut receiver, mut senders) = Mail::new(rt.alloc(), 1)?;
+    send_each(&rt, &mail, senders.as_mut_slice(), &[(0, 4), (0, 5)])?;
+    mail.take_back(&mut receiver, senders.remove(0));
+    let taken = [
+        mail.take(&rt, &mut receiver),
+        mail.take(&rt, &mut receiver),
+        mail.take(&rt, &mut receiver),
+    ];
+    assert_eq!(rt; taken, [Some(4), Some(5), None]);
+    let mut settled = mail.settle(&rt, receiver, senders);
+    assert_eq!(rt; settled.next(&rt), None);
+    Ok(())
+}
+
 // Sends each message by the sender at its place.
 fn send_each<R: Wait>(
     rt: &R,
@@ -110,9 +126,9 @@ fn run_all<R: Threads + Wait + Sync>(
 )
     requires senders { AreSendersOf mail.now senders.items
         × All (λ sender. sender.sent ≡ []) senders.items }
-    requires receiver { IsReceiverOf mail.now receiver }
+    requires receiver { IsReceiverOf mail.now receiver × (receiver.back ≡ []) }
     ensures senders { AreSendersOf mail.now result.0.items }
-    ensures receiver { IfOk result.1 (λ got. IsReceiverOf mail.now got.0) }
+    ensures receiver { IfOk result.1 (λ got. IsReceiverOf mail.now got.0 × (got.0.back ≡ [])) }
 {
     thread::join(
         rt,
@@ -126,8 +142,9 @@ fn run_all<R: Threads + Wait + Sync>(
             senders
         },
         move || -> Result<(Receiver<Numbered>, Vec<Numbered>), AllocError>
-            requires { IsReceiverOf mail.now receiver }
-            ensures { IfOk result (λ got. IsReceiverOf mail.entry.now got.0) }
+            requires { IsReceiverOf mail.now receiver × (receiver.back ≡ []) }
+            ensures { IfOk result (λ got. IsReceiverOf mail.entry.now got.0
+                × (got.0.back ≡ [])) }
         { take_all(rt, mail, receiver, got, ended) },
     )
 }
@@ -175,8 +192,8 @@ fn take_all<R: Wait>(
     mut got: Vec<Numbered>,
     ended: &AtomicBool,
 ) -> Result<(Receiver<Numbered>, Vec<Numbered>), AllocError>
-    requires { IsReceiverOf mail.now receiver }
-    ensures { IfOk result (λ got. IsReceiverOf mail.now got.0) }
+    requires { IsReceiverOf mail.now receiver × (receiver.back ≡ []) }
+    ensures { IfOk result (λ got. IsReceiverOf mail.now got.0 × (got.0.back ≡ [])) }
 {
     for _ in rt.forever() {
         let is_last = ended.load(Ordering::SeqCst);

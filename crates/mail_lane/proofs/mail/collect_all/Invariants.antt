@@ -10,5 +10,5 @@ invariant-loop-sender g l = record {
   finite : (goal.iterator-loop-sender g).is_finite l.sender-iterator;
   left : l.yielded ++ into_iter_items l.sender-iterator ≡ l.fn.senders.items;
   pass : IsSegPassOf l.queue l.pass;
-  role : l.pass.me.view.client ≡ Receiving l.fn.receiver.senders l.fn.receiver.taken (map (λ sender. sender.sent) l.yielded);
+  role : l.pass.me.view.client ≡ Receiving l.fn.receiver.senders l.fn.receiver.taken (l.fn.receiver.back ++ map (λ sender. sender.sent) l.yielded);
 }

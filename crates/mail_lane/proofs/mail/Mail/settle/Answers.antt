@@ -1,7 +1,7 @@
 use Rattle.std.proofs.Common.{sym, ◌∙◌}
-use Rattle.std.proofs.lemmas.List.{length-map}
 use Rattle.mail_lane.specs.Rule.{IsSettled}
 use Rattle.mail_lane.proofs.Rules.{learns_left}
+use Rattle.mail_lane.proofs.Senders.{length_back}
 use Rattle.mail_lane.proofs.States.{settles, settled_in_order}
 use Rattle.mail_lane.proofs.mail.Mail.settle.Goals as goal
 
@@ -11,7 +11,7 @@ len_as-requires-clause-rule g c = rw c.collect_all-pass.ensures.role (learns_lef
 -- what the length's moment showed of the rest holds of the settled lane
 is_settled : (g : _) (c : goal.After-len_as g) → IsSettled c.len_as.new.pass.me.view.client
 is_settled g c =
-    let all = length-map c.args.senders.items _ ∙ c.requires.senders.0 ∙ sym c.requires.receiver.1 in
+    let all = sym (length_back c.args.receiver.back c.args.senders.items _) ∙ c.requires.senders.0 ∙ sym c.requires.receiver.1 in
     let same = c.len_as.ensures.queue.2 in
     settles _ _ _ _ (same ∙ c.collect_all-pass.ensures.role) all c.len_as.ensures.rule.0 (rw same c.len_as.ensures.rule.2)
 
