@@ -1,10 +1,12 @@
 //! The clauses of a feed tell which entries it gives in all.
 
-ghost use Rattle.std.specs.Prelude.{◌≡◌, Some, None, IfOk, IfErr, IfSome};
+ghost use Rattle.std.specs.Prelude.{◌≡◌, ◌≤◌, ◌<◌, Some, None, IfOk, IfErr, IfSome};
 ghost use Rattle.source_feed.specs.FeedFault.{refusal_of};
 ghost use Rattle.source_feed.specs.FileFeedState.{source_stream};
+ghost use Rattle.source_feed.specs.Generated.{made_entries};
+ghost use Rattle.source_feed.specs.declared.made_feed.TheConstants.{MADE_ROWS_MAX};
 
-use source_feed::{Feed, FeedFault, FileFeed};
+use source_feed::{Feed, FeedFault, FileFeed, MadeFeed};
 use std::alloc::Global;
 use stream_base::{Defs, Entry, MemSource};
 
@@ -42,4 +44,23 @@ pub fn entries_of(alloc: Global, bytes: &[u8], defs: &Defs) -> Result<Vec<Entry>
     let entries = all_of(alloc, &mut feed);
     let _faults = feed.into_source().into_faults();
     entries
+}
+
+// The entries that the feed of a generated source gives are exactly those of the definition.
+pub fn made_entries_of(
+    alloc: Global,
+    seed: u64,
+    rows: u64,
+    sources: u16,
+    index: u16,
+) -> Result<Vec<Entry>, FeedFault>
+    requires some_row { 1 ≤ rows }
+    requires few_rows { rows ≤ MADE_ROWS_MAX }
+    requires some_source { 1 ≤ sources }
+    requires few_sources { sources ≤ 16 }
+    requires own { index < sources }
+    ensures { IfOk result (λ entries. entries.items ≡ made_entries seed rows sources index) }
+{
+    let mut feed = MadeFeed::new(seed, rows, sources, index);
+    all_of(alloc, &mut feed)
 }

@@ -9,6 +9,8 @@ mod cuts;
 #[cfg(test)]
 mod drained;
 #[cfg(test)]
+mod made;
+#[cfg(test)]
 mod refused;
 #[cfg(test)]
 mod shards;

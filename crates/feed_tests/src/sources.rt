@@ -11,7 +11,7 @@ fn key_shown(key: &KeyText) -> &str {
     str::from_utf8(key.bytes()).unwrap_or("?")
 }
 
-fn entry_shown(alloc: Global, entry: &Entry) -> Result<String, AllocError> {
+pub fn entry_shown(alloc: Global, entry: &Entry) -> Result<String, AllocError> {
     match entry.what {
         What::Tuple { key, time, value } => {
             format!(in alloc; "t {time} {value} {}; ", key_shown(&key))

@@ -32,7 +32,7 @@ use Rattle.source_feed.specs.declared.rows.Stage.TheVariants.{Open, Ended, Stopp
 use Rattle.source_feed.proofs.Made.{stream_alike}
 
 -- an event that isn't the end
-abbrev is_inner_what : What → Bool
+abbrev pub is_inner_what : What → Bool
 is_inner_what what = not (is_end what)
 
 -- the same, as a fact
@@ -104,7 +104,7 @@ water_made_inner : (made : Option ℕ) → list_all is_inner_what (as_waters mad
 water_made_inner None = refl
 water_made_inner (Some time) = refl
 
-both_inner : (a b : List What) → list_all is_inner_what a ≡ true → list_all is_inner_what b ≡ true → list_all is_inner_what (a ++ b) ≡ true
+pub both_inner : (a b : List What) → list_all is_inner_what a ≡ true → list_all is_inner_what b ≡ true → list_all is_inner_what (a ++ b) ≡ true
 both_inner a b h k = rw (list_all-append is_inner_what a b, h, k) refl
 
 told_inner : (pace : Pace) (what : What) → is_inner_what what ≡ true → list_all is_inner_what (told_by pace what) ≡ true
@@ -124,7 +124,7 @@ made_inner pace (what ∷ later) h =
 entries_inner : (source : ℕ) (events : List What) → list_all is_inner_what events ≡ true → list_all is_inner (map (entry_of source) events) ≡ true
 entries_inner source events h = list_all-map is_inner (entry_of source) events ∙ h
 
-whole_from : (source : ℕ) (a b : List What) (refusal : Option Refusal) → list_all is_inner_what a ≡ true → list_all is_inner_what b ≡ true
+pub whole_from : (source : ℕ) (a b : List What) (refusal : Option Refusal) → list_all is_inner_what a ≡ true → list_all is_inner_what b ≡ true
     → IsWhole source false (record { entries = map (entry_of source) a ++ map (entry_of source) (b ++ ending refusal); refusal = refusal })
 whole_from source a b None h k = record {
   before = map (entry_of source) (a ++ b);
@@ -139,7 +139,7 @@ whole_stream : (pace : Pace) (waiting : List What) (s : Events) → list_all is_
     → IsWhole pace.source false (with_waiting pace.source waiting (stream_from pace s))
 whole_stream pace waiting s w h = whole_from pace.source waiting (told_from pace s.events) s.refusal w (made_inner pace s.events h)
 
-inner_waiting : (waiting : List What) → AreInner waiting → list_all is_inner_what waiting ≡ true
+pub inner_waiting : (waiting : List What) → AreInner waiting → list_all is_inner_what waiting ≡ true
 inner_waiting [] h = refl
 inner_waiting (what ∷ waiting) h = rw (h.0.inner, inner_waiting waiting h.1) refl
 

@@ -43,7 +43,7 @@ same_source_over pace [] = refl
 same_source_over pace (what ∷ told) = same_source_over (paced pace what) told ∙ same_source pace what
 
 -- an entry is within the limits where its source and its event are
-entry_within : (source : ℕ) (what : What) → source < 2 ^ 16 → is_what_within what ≡ true → is_entry_within (entry_of source what) ≡ true
+pub entry_within : (source : ℕ) (what : What) → source < 2 ^ 16 → is_what_within what ≡ true → is_entry_within (entry_of source what) ≡ true
 entry_within source what small within =
     let below : nat_lt source (2 ^ 16) ≡ true = grind (arith, nat_tests) in
     rw (below, within) refl
@@ -73,7 +73,7 @@ bounded_over : (pace : Pace) (told : List What) → IsBounded pace → AreInner 
 bounded_over pace [] h w = h
 bounded_over pace (what ∷ told) h w = bounded_over (paced pace what) told (bounded_on pace what h w.0.within) w.1
 
-inner_water : (made : Option ℕ) → IfSome made (λ time. time ≤ TIME_MAX) → AreInner (as_waters made)
+pub inner_water : (made : Option ℕ) → IfSome made (λ time. time ≤ TIME_MAX) → AreInner (as_waters made)
 inner_water None h = tt
 inner_water (Some time) h = (water_within time h, tt)
 

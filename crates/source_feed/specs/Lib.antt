@@ -11,3 +11,6 @@ pub mod RowsView
 pub mod FileFeedState
 pub mod FileFeedView
 pub mod Whole
+pub mod Generated
+pub mod Generating
+pub mod MadeFeedView

@@ -1,8 +1,6 @@
 -- Each answer is the one that the fields say.
-use Rattle.std.proofs.Common.{◌≡◌, ◌<◌, ◌≤◌, ◌+◌, ◌^◌, [], ◌∷◌, Some, subst, sym, ◌∙◌, arith}
-use Rattle.stream_base.specs.declared.limits.TheConstants.{TIME_MAX}
-use Rattle.source_feed.specs.EventsLeft.{TookEventOf}
-use Rattle.source_feed.specs.Pace.{told_by, waiting_of}
+use Rattle.std.proofs.Common.{◌<◌, ◌≤◌, ◌^◌, ◌∷◌, subst, sym, arith}
+use Rattle.source_feed.specs.Pace.{waiting_of}
 use Rattle.source_feed.specs.RecordsLeft.{records_left, text_left}
 use Rattle.source_feed.specs.RowsView.{AreInner}
 use Rattle.source_feed.proofs.Giving.{IsBounded, bounded_told, gives_end, gives_event, gives_fault, gives_waiting, inner_told, tuples_told}

@@ -1,0 +1,75 @@
+//! The feeds of the generated input, through their public calls.
+ghost use Rattle.std.specs.Prelude.{◌≤◌, ◌<◌};
+ghost use Rattle.source_feed.specs.declared.made_feed.TheConstants.{MADE_ROWS_MAX};
+
+use crate::drained;
+use crate::sources::entry_shown;
+use source_feed::{MADE_DISORDER, MADE_EVERY, MADE_LATENESS, made_defs};
+use std::alloc::Global;
+use std::test::Fail;
+use stream_base::{Func, Kind};
+
+// All entries of a generated source.
+fn shown(alloc: Global, seed: u64, rows: u64, sources: u16, index: u16) -> Result<String, Fail>
+    requires some_row { 1 ≤ rows }
+    requires few_rows { rows ≤ MADE_ROWS_MAX }
+    requires few_sources { sources ≤ 16 }
+    requires own { index < sources }
+{
+    let mut text = String::new(alloc);
+    match drained::made_entries_of(alloc, seed, rows, sources, index) {
+        Ok(entries) => {
+            for entry in &entries {
+                text.push_str(entry_shown(alloc, entry)?.as_str())?;
+            }
+        }
+        Err(fault) => text.push_str(format!(in alloc; "{fault:?}")?.as_str())?,
+    }
+    Ok(text)
+}
+
+#[test]
+fn gives_each_source_its_part_of_the_generated_input(rt: HostRuntime) -> Result<(), Fail> {
+    let alloc = rt.alloc();
+    assert_eq!(rt; shown(alloc, 0, 1, 1, 0)?.as_str(), "t 15 742 k25; e; ");
+    assert_eq!(rt;
+        shown(alloc, 0, 4, 2, 0)?.as_str(),
+        "t 15 742 k25; t 33 -481 k70; e; "
+    );
+    assert_eq!(rt;
+        shown(alloc, 0, 4, 2, 1)?.as_str(),
+        "t 24 -45 k64; t 52 416 k94; e; "
+    );
+    assert_eq!(rt; shown(alloc, 0, 1, 2, 1)?.as_str(), "e; ");
+    assert_eq!(rt;
+        shown(alloc, 7, 4, 1, 0)?.as_str(),
+        "t 14 -253 k23; t 31 -650 k30; t 33 739 k13; t 49 123 k74; e; ",
+    );
+    Ok(())
+}
+
+#[test]
+fn has_one_window_of_each_kind(rt: HostRuntime) -> Result<(), Fail> {
+    let defs = made_defs(rt.alloc())?;
+    let numbers = (defs.lateness(), defs.every(), defs.disorder());
+    assert_eq!(rt; numbers, (128, 50, 32));
+    assert_eq!(rt; numbers, (MADE_LATENESS, MADE_EVERY, MADE_DISORDER));
+    let mut kinds = defs.windows().iter().map(|window| window.kind);
+    assert_eq!(rt; kinds.next(), Some(Kind::Tumbling { length: 64 }));
+    assert_eq!(rt;
+        kinds.next(),
+        Some(Kind::Sliding {
+            length: 128,
+            slide: 32
+        })
+    );
+    assert_eq!(rt; kinds.next(), Some(Kind::Session { gap: 40 }));
+    assert_eq!(rt; kinds.next(), Some(Kind::Marks));
+    assert_eq!(rt; kinds.next(), Some(Kind::Events { count: 10 }));
+    assert_eq!(rt; kinds.next(), None);
+    let funcs = [Func::Sum, Func::Trace, Func::Count, Func::First, Func::Last];
+    for (window, func) in defs.windows().iter().zip(funcs.iter()) {
+        assert_eq!(rt; window.func, *func);
+    }
+    Ok(())
+}
