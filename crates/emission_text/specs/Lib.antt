@@ -3,3 +3,4 @@ pub mod Rows
 pub mod Report
 pub mod DefsFaults
 pub mod Faults
+pub mod Summary

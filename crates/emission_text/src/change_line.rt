@@ -133,8 +133,8 @@ fn put_value<K: Sink>(shown: &Shown, out: &mut Pending, sink: &mut K) -> Result<
     }
 }
 
-// Puts the line of a row, behind the sign of its change.
-fn put_row<K: Sink>(
+/// Puts the line of a row, behind the sign of its change.
+pub fn put_row<K: Sink>(
     sign: &[u8],
     row: &Row,
     out: &mut Pending,

@@ -1,4 +1,4 @@
-//! The text of reports and of fault lines, written to a sink.
+//! The text of reports, of summaries and of fault lines, written to a sink.
 //!
 //! *From* shards and faults *to* bytes. *Stands on* the base crate, and on the sinks of its
 //! outside. *Promise*: exactly the text of the definitions is appended to the sink. A failure is
@@ -15,6 +15,8 @@ mod pieces;
 mod report;
 mod report_form;
 mod sink_fault;
+mod summary;
+mod tally;
 #[cfg(test)]
 mod tests;
 mod writing;
@@ -26,3 +28,4 @@ pub use report::{
 };
 pub use report_form::ReportForm;
 pub use sink_fault::SinkFault;
+pub use summary::write_summary;

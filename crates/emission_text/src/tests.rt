@@ -1,4 +1,5 @@
 mod faults;
 mod lines;
 mod reports;
+mod summaries;
 mod writes;

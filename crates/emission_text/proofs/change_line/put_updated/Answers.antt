@@ -1,5 +1,5 @@
 -- The front of the line, and then its value and what stood.
-use Rattle.std.proofs.Common.{◌++◌, [], ◌∷◌, codes}
+use Rattle.std.proofs.Common.{◌++◌, codes}
 use Rattle.stream_base.specs.Model.Text.{shown_text}
 use Rattle.emission_text.specs.Rows.{former_end, row_front}
 use Rattle.emission_text.proofs.RowLines.{updated-line}

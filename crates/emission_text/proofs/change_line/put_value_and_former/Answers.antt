@@ -1,5 +1,5 @@
 -- The value, and then what stood.
-use Rattle.std.proofs.Common.{◌++◌, [], ◌∷◌}
+use Rattle.std.proofs.Common.{◌++◌}
 use Rattle.stream_base.specs.Model.Text.{shown_text}
 use Rattle.emission_text.specs.Rows.{former_end}
 use Rattle.emission_text.proofs.Sent.{both_put, first_failed, put_failed}
