@@ -1,0 +1,5 @@
+pub mod EachShard
+pub mod Moments
+pub mod Pairs
+pub mod SameTuples
+pub mod Shards
