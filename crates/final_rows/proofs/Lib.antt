@@ -1,5 +1,9 @@
+pub mod AllShards
 pub mod EachShard
+pub mod InOrder
 pub mod Moments
 pub mod Pairs
+pub mod Parts
 pub mod SameTuples
 pub mod Shards
+pub mod Sorting

@@ -7,5 +7,7 @@
 #![tactic(auto)]
 
 mod at_end;
+mod sorted;
 
 pub use at_end::rows_at_the_end_are_the_final_rows;
+pub use sorted::sort_rows;
