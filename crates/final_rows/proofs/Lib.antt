@@ -1,5 +1,8 @@
 pub mod AllShards
 pub mod EachShard
+pub mod GeneratedEvents
+pub mod GeneratedSources
+pub mod GeneratedTimes
 pub mod InOrder
 pub mod Moments
 pub mod Pairs

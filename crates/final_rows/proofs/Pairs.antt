@@ -1,10 +1,10 @@
 -- Pairs of a list's elements, of lists put together, and of entries by their sources.
-use Rattle.std.proofs.Common.{◌≡◌, ◌∙◌, ℕ, zero, suc, ◌+◌, ◌<◌, Bool, true, false, cond, List, [], ◌∷◌, ◌++◌, length, get_or, sym, refl, subst, subst₂, inl, inr, arith}
+use Rattle.std.proofs.Common.{◌≡◌, ◌∙◌, ℕ, zero, suc, ◌+◌, ◌<◌, Bool, true, false, cond, List, [], ◌∷◌, ◌++◌, length, get_or, map, sym, refl, subst, subst₂, inl, inr, arith}
 use Rattle.std.specs.Prelude.{◌==◌, ◌≢◌}
 use Rattle.std.specs.List.{AllPairs, Contains}
 use Rattle.std.proofs.lemmas.Bool.{cases_eq, eq-eqb}
-use Rattle.std.proofs.lemmas.List.{get_or-append-add, get_or_append_left, get_or_default, length-append}
-use Rattle.std.proofs.lemmas.List.Elements.{Contains-get_or}
+use Rattle.std.proofs.lemmas.List.{get_or-append-add, get_or-map, length-map, get_or_append_left, get_or_default, length-append}
+use Rattle.std.proofs.lemmas.List.Elements.{Contains-append_cases, Contains-get_or}
 use Rattle.std.proofs.lemmas.List.Kept.{AllPairs-cons}
 use Rattle.stream_base.specs.declared.entry.Entry.{Entry}
 use Rattle.stream_base.specs.Model.Final.{all_entries}
@@ -63,3 +63,20 @@ module _ (R : Entry → Entry → Type 0) where
             )
         | inr ne ↦ other x y (Contains-head x xs) (Contains-tail x xs y c) ne
       ]
+
+-- two lists, and what holds of each pair from both
+pub pairs_append : {X : Type 0} (R : X → X → Type 0) (xs ys : List X) → AllPairs R xs → AllPairs R ys → ((x y : X) → Contains xs x → Contains ys y → R x y) → AllPairs R (xs ++ ys)
+pairs_append R [] ys h g cross = g
+pairs_append R (x ∷ xs) ys h g cross =
+    AllPairs-cons R x (xs ++ ys)
+    (All_from_members (R x) (xs ++ ys) (λ y c. elim (Contains-append_cases xs ys y c) [
+      | inl d ↦ pairs_cross R (x ∷ []) xs h x y (Contains-head x []) d
+      | inr d ↦ cross x y (Contains-head x xs) d
+    ]))
+    (pairs_append R xs ys (pairs_back R (x ∷ []) xs h) g (λ z y c d. cross z y (Contains-tail x xs z c) d))
+
+-- pairs of what a function gives
+pub pairs_map : {X Y : Type 0} (R : Y → Y → Type 0) (f : X → Y) (d : X) (xs : List X) → AllPairs (λ x y. R (f x) (f y)) xs → AllPairs R (map f xs)
+pairs_map R f d xs h = λ i j e lt l.
+    let m : j < length xs = omega (arith, length-map xs f) in
+    subst₂ R (sym (get_or-map f xs i d e (omega arith))) (sym (get_or-map f xs j d e m)) (h i j d lt m)

@@ -78,7 +78,7 @@ module _ (shards : ℕ) (sources journals : List (List Entry)) (lawful : IsLawfu
   there = omega (arith, lawful.count)
 
   -- an entry of the journal is one of its source's that go there
-  from_source : (e : Entry) → Contains (get_or journals k []) e → (e.source < length sources) × Contains (routed shards k (get_or sources e.source [])) e
+  pub from_source : (e : Entry) → Contains (get_or journals k []) e → (e.source < length sources) × Contains (routed shards k (get_or sources e.source [])) e
   from_source e c =
       let known : e.source < length sources = subst (λ (x : Entry). x.source < length sources) c.2 (lawful.known k c.0 e there c.1) in
       let own : Contains (entries_from e.source (get_or journals k [])) e = filter_has (λ (x : Entry). x.source == e.source) (get_or journals k []) e c (eq-eqb e.source e.source refl) in

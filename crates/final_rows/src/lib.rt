@@ -7,7 +7,9 @@
 #![tactic(auto)]
 
 mod at_end;
+mod generated;
 mod sorted;
 
 pub use at_end::rows_at_the_end_are_the_final_rows;
+pub use generated::generated_sources_have_one_result;
 pub use sorted::sort_rows;
