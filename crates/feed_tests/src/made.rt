@@ -3,11 +3,12 @@ ghost use Rattle.std.specs.Prelude.{◌≤◌, ◌<◌};
 ghost use Rattle.source_feed.specs.declared.made_feed.TheConstants.{MADE_ROWS_MAX};
 
 use crate::drained;
-use crate::sources::entry_shown;
-use source_feed::{MADE_DISORDER, MADE_EVERY, MADE_LATENESS, made_defs};
+use crate::sources::{entry_shown, is_sent};
+use final_rows::sort_rows;
+use source_feed::{MADE_DISORDER, MADE_EVERY, MADE_LATENESS, MadeFeed, made_defs};
 use std::alloc::Global;
 use std::test::Fail;
-use stream_base::{Func, Kind};
+use stream_base::{FINAL, Func, KeyText, Kind, Row, Shown};
 
 // All entries of a generated source.
 fn shown(alloc: Global, seed: u64, rows: u64, sources: u16, index: u16) -> Result<String, Fail>
@@ -71,5 +72,49 @@ fn has_one_window_of_each_kind(rt: HostRuntime) -> Result<(), Fail> {
     for (window, func) in defs.windows().iter().zip(funcs.iter()) {
         assert_eq!(rt; window.func, *func);
     }
+    Ok(())
+}
+
+#[test]
+fn feeds_of_generated_sources_go_to_other_threads() {
+    is_sent(&MadeFeed::new(7, 1_000_000, 16, 15));
+}
+
+fn row(window: u32, key: KeyText, low: u64, high: u64) -> Row {
+    Row {
+        window,
+        key,
+        low,
+        high,
+        number: 1,
+        shown: Shown::Whole(0),
+    }
+}
+
+#[test]
+fn final_rows_go_by_key_window_start_and_end(rt: HostRuntime) -> Result<(), Fail> {
+    let first = KeyText::from_bytes(b"k1")?;
+    let second = KeyText::from_bytes(b"k10")?;
+    let third = KeyText::from_bytes(b"k2")?;
+    let mut rows = [
+        row(0, third, 0, 64),
+        row(3, second, 0, FINAL),
+        row(1, first, 32, 160),
+        row(3, second, 0, 901),
+        row(1, first, 0, 128),
+        row(0, second, 640, 704),
+        row(4, first, 0, 10),
+    ];
+    sort_rows(&mut rows);
+    let want = [
+        row(1, first, 0, 128),
+        row(1, first, 32, 160),
+        row(4, first, 0, 10),
+        row(0, second, 640, 704),
+        row(3, second, 0, 901),
+        row(3, second, 0, FINAL),
+        row(0, third, 0, 64),
+    ];
+    assert_eq!(rt; rows, want);
     Ok(())
 }

@@ -390,7 +390,7 @@ fn routes_keys_by_their_bytes(rt: HostRuntime) -> Result<(), Fail> {
     Ok(())
 }
 
-fn is_sent<T: Send>(_value: &T) {}
+pub fn is_sent<T: Send>(_value: &T) {}
 
 #[test]
 fn goes_to_another_thread(rt: HostRuntime) -> Result<(), Fail> {

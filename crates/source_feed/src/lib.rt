@@ -1,10 +1,11 @@
 //! The way from a source's bytes to its entries, and from an entry's key to its shard.
 //!
-//! *From* the bytes of a source of the outside, *to* the entries that the machine works on.
+//! *From* the bytes of a source of the outside, or from a seed, *to* the entries that the machine works
+//! on.
 //! *Stands on* `stream_base` for keys, entries and sources, and on `csv` for records. *Promise*: a
 //! source's entries are those that the definition reads from its bytes, with the watermarks that wake
 //! it or are made and the last end, or those before the first refusal, with its record number and
-//! reason.
+//! reason. A generated source's entries are those that the definition deals it, and never refused.
 #![tactic(auto)]
 
 mod event;
