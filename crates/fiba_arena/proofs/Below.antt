@@ -9,13 +9,14 @@ use Rattle.fiba_arena.specs.declared.change.Change.{Change}
 use Rattle.fiba_arena.specs.declared.change.Change.TheVariants.{Insert, Set, Remove, First}
 use Rattle.fiba_arena.specs.Rows.{last_of, plain_node, slots_of}
 use Rattle.fiba_arena.specs.Stores.{Store, look}
-use Rattle.fiba_arena.specs.Trees.{AreValues, IsAt, IsNode, Look, TreesAt, only, pair_of, pairs_at, plain, row_times, size, tally, times, vacancy, weigh, woven}
+use Rattle.fiba_arena.specs.Trees.{AreLinked, AreValues, IsAt, IsLinked, IsNode, Look, TreesAt, only, pair_of, pairs_at, plain, row_times, size, tally, times, vacancy, weigh, woven}
 use Rattle.fiba_arena.specs.Kids.{OthersAt, before, behind, kid_of, left_of, others, right_of, with_item}
 use Rattle.fiba_arena.specs.Nested.{IsNested, IsSettled, nested_times}
 use Rattle.fiba_arena.specs.Changes.{Applies, CanApply, CarriesValue, GoesFirst, IsApplied, IsItemAt, IsPassed, IsRank, growth, incoming, is_first, item_of, leaf_pairs, meets, pairs_of, stands_before, stands_behind}
 use Rattle.std.proofs.lemmas.List.{map-append, length-map}
 use Rattle.agg_laws.specs.Pairs.{values_of}
 use Rattle.fiba_arena.proofs.Lists.{all_middle}
+use Rattle.fiba_arena.proofs.Linked.{linked_kids, links_low, others_linked}
 use Rattle.fiba_arena.proofs.Links.{slot_below}
 use Rattle.fiba_arena.proofs.Sound.{all_values, few, few_kids, node_of, weight_of}
 use Rattle.fiba_arena.proofs.Sound as sound
@@ -88,11 +89,14 @@ module _ {M : Type 0} (IsValue : M → Type 0) (empty : M) (op : M → M → M) 
     pairs : pairs_at (plain old) (suc b) at ≡ woven (pairs_at (plain old) b) slots last
     pairs = sound.pairs_of IsValue empty op (plain old) b l r at (record { slots = slots; last = last; agg = agg; leaf = leaf }) is
 
+    links : AreLinked old b slots last
+    links = linked_kids old b at (record { slots = slots; last = last; agg = agg; leaf = leaf }) is can.linked
+
     -- no node changes, only the items of the root
-    applied_here : (taken : Option (Item M)) (row : List (Slot M)) (rest : ℕ) → length row ≤ 3 + growth change → AreValues IsValue row → TreesAt IsValue empty op (plain old) b l r row rest → ((w : ℕ → ℕ) → tally (weigh w (plain old) b) row rest ≡ tally (weigh w (plain old) b) slots last) → Applies change taken (woven (pairs_at (plain old) b) slots last) (woven (pairs_at (plain old) b) row rest) → IsApplied IsValue empty op old old at b l r change taken row rest
-    applied_here taken row rest fits items kids same applies = record {
+    applied_here : (taken : Option (Item M)) (row : List (Slot M)) (rest : ℕ) → length row ≤ 3 + growth change → AreValues IsValue row → TreesAt IsValue empty op (plain old) b l r row rest → AreLinked old b row rest → ((w : ℕ → ℕ) → tally (weigh w (plain old) b) row rest ≡ tally (weigh w (plain old) b) slots last) → Applies change taken (woven (pairs_at (plain old) b) slots last) (woven (pairs_at (plain old) b) row rest) → IsApplied IsValue empty op old old at b l r change taken row rest
+    applied_here taken row rest fits items kids linked same applies = record {
       few = fits;
-      opened = record { items = items; kids = kids; owned = λ k. let o = can.owned k in let w = weighs (only k) in let s = same (only k) in omega arith };
+      opened = record { items = items; kids = kids; owned = λ k. let o = can.owned k in let w = weighs (only k) in let s = same (only k) in omega arith; linked = linked };
       applies = rw pairs applies;
       moves = record { counts = λ k. let w = weighs (only k) in let s = same (only k) in omega arith; kept = λ k z. refl };
       room = let w = weighs (λ _. 1) in let s = same (λ _. 1) in omega arith;
@@ -100,7 +104,7 @@ module _ {M : Type 0} (IsValue : M → Type 0) (empty : M) (op : M → M → M) 
 
     pub applied_leaf : (taken : Option (Item M)) (row : List (Slot M)) (rest : ℕ) → b ≡ 0 → length slots ≤ 3 → AreValues IsValue row → Applies change taken (leaf_pairs slots) (leaf_pairs row) → IsApplied IsValue empty op old old at b l r change taken row rest
     applied_leaf taken row rest low fits items applies =
-        applied_here taken row rest (let e = grown change taken (leaf_pairs slots) (leaf_pairs row) applies in let a = length-map slots (λ s. pair_of s.item) in let b = length-map row (λ s. pair_of s.item) in omega arith) items (trees_low (plain old) b l r row rest low) (λ w. tally_low (plain old) w b row rest low ∙ sym (tally_low (plain old) w b slots last low)) (rw (woven_low (plain old) b slots last low, woven_low (plain old) b row rest low) applies)
+        applied_here taken row rest (let e = grown change taken (leaf_pairs slots) (leaf_pairs row) applies in let a = length-map slots (λ s. pair_of s.item) in let b = length-map row (λ s. pair_of s.item) in omega arith) items (trees_low (plain old) b l r row rest low) (links_low old b row rest low) (λ w. tally_low (plain old) w b row rest low ∙ sym (tally_low (plain old) w b slots last low)) (rw (woven_low (plain old) b slots last low, woven_low (plain old) b row rest low) applies)
 
     goes_with_item : (change : Change M) (item : Item M) (taken : Option (Item M)) (front : List (ℕ × M)) → item_of change ≡ Some item → GoesFirst change taken front
     goes_with_item (Insert x) item taken front e = tt
@@ -123,6 +127,7 @@ module _ {M : Type 0} (IsValue : M → Type 0) (empty : M) (op : M → M → M) 
         (let e = length-with_item slots i item in omega arith)
         (all-with_item (λ item. IsValue item.value) slots i item (value_of change item brings can.value) node.items)
         (kids-with_item (λ l r k. IsAt IsValue empty op (plain old) b l r k) l r slots last i item node.kids)
+        (kids-with_item (λ _ _ k. IsLinked old b k) false false slots last i item links)
         (λ w. tally-with_item (weigh w (plain old) b) slots last i item)
         (record {
           front = parts.0;
@@ -141,6 +146,9 @@ module _ {M : Type 0} (IsValue : M → Type 0) (empty : M) (op : M → M → M) 
     around : OthersAt (λ l r k. IsAt IsValue empty op (plain old) (suc c) l r k) l r slots last i × IsAt IsValue empty op (plain old) (suc c) (left_of l slots i) (right_of r slots i) (kid_of slots last i)
     around = kids-around (λ l r k. IsAt IsValue empty op (plain old) (suc c) l r k) l r slots last i node.kids
 
+    around_linked : OthersAt (λ _ _ k. IsLinked old (suc c) k) false false slots last i × IsLinked old (suc c) (kid_of slots last i)
+    around_linked = kids-around (λ _ _ k. IsLinked old (suc c) k) false false slots last i (links old at (suc c) l r change slots last agg leaf can is)
+
     weight : (w : ℕ → ℕ) → weigh w (plain old) (suc (suc c)) at ≡ w at + (others (weigh w (plain old) (suc c)) slots last i + weigh w (plain old) (suc c) (kid_of slots last i))
     weight w = let a = weighs old at (suc c) l r change slots last agg leaf can is w in let t = tally-around (weigh w (plain old) (suc c)) slots last i in omega arith
 
@@ -152,6 +160,7 @@ module _ {M : Type 0} (IsValue : M → Type 0) (empty : M) (op : M → M → M) 
     kid_can inside g v = record {
       sound = around.1;
       owned = λ k. let o = can.owned k in let w = weight (only k) in omega arith;
+      linked = around_linked.1;
       room =
           let w = weight (λ _. 1) in
           let f = few_others (plain old) (suc c) l r slots last i around.0 in
@@ -178,6 +187,8 @@ module _ {M : Type 0} (IsValue : M → Type 0) (empty : M) (op : M → M → M) 
             child_items = done.opened.items;
             child_kids = done.opened.kids;
             owned = λ k. let o = can.owned k in let w = weight (only k) in let t = s.tallies (only k) in let m = done.moves.counts k in omega arith;
+            linked = others_linked old mid (suc c) slots last i (λ k. times k (plain old) (suc c) (kid_of slots last i)) (λ k. only k (kid_of slots last i) + row_times k (plain mid) c child end) done.moves (λ k. let o = can.owned k in let w = weight (only k) in omega arith) around_linked.0;
+            child_linked = done.opened.linked;
           }
 
       -- there is room where it has to be split
@@ -198,7 +209,7 @@ module _ {M : Type 0} (IsValue : M → Type 0) (empty : M) (op : M → M → M) 
           let count : (k : ℕ) → only k at + row_times k (plain new) (suc c) row rest + vacancy (look new k) ≤ times k (plain old) (suc (suc c)) at + vacancy (look old k) = λ k. let a = s.moves.counts k in let b = nested k in let d = done.moves.counts k in let w = weight (only k) in omega arith in
           record {
             few = let a = s.fits in let b = done.few in omega arith;
-            opened = record { items = s.items; kids = s.kids; owned = λ k. let o = can.owned k in let n = count k in omega arith };
+            opened = record { items = s.items; kids = s.kids; owned = λ k. let o = can.owned k in let n = count k in omega arith; linked = s.linked };
             applies = applies;
             moves = record {
               counts = count;
@@ -234,6 +245,8 @@ module _ {M : Type 0} (IsValue : M → Type 0) (empty : M) (op : M → M → M) 
       child_items = n.child_items;
       child_kids = rw (left-with_item l slots i next (suc i), right-with_item r slots i next (suc i)) n.child_kids;
       owned = λ k. let o = n.owned k in let a = others-with_item (times k (plain mid) (suc c)) slots last i next (suc i) in let e : only k (kid_of (with_item slots i next) last (suc i)) ≡ only k (kid_of slots last (suc i)) = ap (only k) (kid-with_item slots last i next (suc i)) in omega arith;
+      linked = beside-with_item (λ _ _ k. IsLinked mid (suc c) k) false false slots last i next (suc i) n.linked;
+      child_linked = n.child_linked;
     }
 
     pub removed : (mid new : Store M) (x next : Item M) (child : List (Slot M)) (end : ℕ) (row : List (Slot M)) (rest : ℕ) → length slots ≤ 3 → IsItemAt slots i x → meets change x.key ≡ true → is_first change ≡ false → item_of change ≡ None → IsApplied IsValue empty op old mid (kid_of slots last (suc i)) c (left_of l slots (suc i)) (right_of r slots (suc i)) First (Some next) child end → IsSettled IsValue empty op mid new c l r (with_item slots i next) last (suc i) child end row rest → IsApplied IsValue empty op old new at (suc c) l r change (Some x) row rest

@@ -2,6 +2,7 @@ pub mod Lists
 pub mod Frames
 pub mod Sound
 pub mod Opened
+pub mod Linked
 pub mod Links
 pub mod Kids
 pub mod Nesting

@@ -9,9 +9,10 @@ use Rattle.fiba_arena.specs.Stores.{Store, look, Puts}
 use Rattle.fiba_arena.specs.declared.node.Node.{Node}
 use Rattle.agg_laws.specs.Laws.{total}
 use Rattle.agg_laws.specs.Pairs.{values_of}
-use Rattle.fiba_arena.specs.Trees.{KidsAt, IsAt, IsOpened, IsWritten, Moves, TreesAt, Look, only, pairs_at, plain, row_times, shown, tally, times, vacancy, weigh}
-use Rattle.fiba_arena.specs.Links.{ups, HasUp, IsAdopted, AreAdopted}
+use Rattle.fiba_arena.specs.Trees.{HasUp, KidsAt, IsAt, IsOpened, IsWritten, Moves, TreesAt, Look, only, pairs_at, plain, row_times, shown, tally, times, ups, vacancy}
+use Rattle.fiba_arena.specs.Links.{IsAdopted, AreAdopted}
 use Rattle.fiba_arena.proofs.Sound.{only_self, written, written_moves}
+use Rattle.fiba_arena.proofs.Linked.{linked_written, roots_counted}
 use Rattle.fiba_arena.proofs.Opened.{is_used, is_some}
 
 not_it : (k n total : ℕ) → only k n ≤ total → total ≡ 0 → k ≢ n
@@ -90,26 +91,16 @@ module _ {M : Type 0} where
   none_adopted s zero slots last at e = record { same = λ k. refl; ups = all_kids (λ k. HasUp s zero at k) slots last (λ j t is. tt) tt; others = λ k z. refl; spare = refl }
   none_adopted s (suc h) slots last at e = absurd (omega arith)
 
-  tally-le : (f g : ℕ → ℕ) → ((k : ℕ) → f k ≤ g k) → (slots : List (Slot M)) (last : ℕ) → tally f slots last ≤ tally g slots last
-  tally-le f g le [] last = le last
-  tally-le f g le (x ∷ xs) last = let a = le x.kid in let b = tally-le f g le xs last in omega arith
-
-  root_counted : (look : Look M) (h k n : ℕ) → 0 < h → only k n ≤ times k look h n
-  unfolding weigh
-  root_counted look zero k n lt = absurd (omega arith)
-  root_counted look (suc h) k n lt = omega arith
-
-  roots_counted : (look : Look M) (h k : ℕ) (slots : List (Slot M)) (last : ℕ) → 0 < h → tally (only k) slots last ≤ tally (times k look h) slots last
-  roots_counted look h k slots last lt = tally-le (only k) (times k look h) (λ n. root_counted look h k n lt) slots last
-
 module _ {M : Type 0} (IsValue : M → Type 0) (empty : M) (op : M → M → M) where
   -- a node is written where its children were adopted before
-  pub node_written : (old now new : Store M) (at h : ℕ) (l r : Bool) (slots : List (Slot M)) (last : ℕ) (node : Node M) (agg : M) (leaf : Bool) → IsOpened IsValue empty op old at h l r slots last → 1 ≤ length slots → leaf ≡ (h == 0) → agg ≡ total empty op (values_of (shown l r (pairs_at (plain old) h) slots last)) → AreAdopted old now h slots last at → plain_node node ≡ record { slots = slots; last = last; agg = agg; leaf = leaf } → Puts now new at (Some node) → IsWritten IsValue empty op old new at h l r slots last
-  node_written old now new at h l r slots last node agg leaf opened some bottom sum adopted made put =
+  pub node_written : (old now new : Store M) (at h : ℕ) (l r : Bool) (slots : List (Slot M)) (last : ℕ) (node : Node M) (agg : M) (leaf : Bool) → IsOpened IsValue empty op old at h l r slots last → 1 ≤ length slots → leaf ≡ (h == 0) → agg ≡ total empty op (values_of (shown l r (pairs_at (plain old) h) slots last)) → AreAdopted old now h slots last at → plain_node node ≡ record { slots = slots; last = last; agg = agg; leaf = leaf } → Puts now new at (Some node) → KidsAt (λ _ _ k. HasUp new h at k) false false slots last → IsWritten IsValue empty op old new at h l r slots last
+  node_written old now new at h l r slots last node agg leaf opened some bottom sum adopted made put up =
+      let is = ap (option_map plain_node) put.here ∙ ap Some made in
       written IsValue empty op old new h l r at slots last agg leaf
-      (ap (option_map plain_node) put.here ∙ ap Some made)
+      is
       (λ k ne. ap (option_map plain_node) (put.others k ne) ∙ adopted.same k)
       some bottom sum opened
+      (linked_written old now new at h slots last node (record { slots = slots; last = last; agg = agg; leaf = leaf }) is refl refl (λ k. let o = opened.owned k in omega arith) adopted put up opened.linked)
 
   pub node_moves : (old now new : Store M) (at h : ℕ) (l r : Bool) (slots : List (Slot M)) (last : ℕ) (node : Node M) → IsWritten IsValue empty op old new at h l r slots last → AreAdopted old now h slots last at → Puts now new at (Some node) → Moves (look old) (look new) (λ k. only k at + row_times k (plain old) h slots last) (λ k. times k (plain new) (suc h) at)
   node_moves old now new at h l r slots last node w adopted put =

@@ -7,13 +7,14 @@ use Rattle.fiba_arena.specs.declared.item.Item.{Item}
 use Rattle.fiba_arena.specs.declared.node.Node.{Node}
 use Rattle.fiba_arena.specs.Rows.{last_of, more_slots, plain_node, slots_of}
 use Rattle.fiba_arena.specs.Stores.{Store, look, Puts}
-use Rattle.fiba_arena.specs.Trees.{IsAt, IsClosed, IsOpened, KidsAt, Look, Moves, only, pair_of, pairs_at, plain, row_times, size, tally, times, vacancy, weigh, woven}
+use Rattle.fiba_arena.specs.Trees.{AreLinked, IsAt, IsClosed, IsLinked, IsOpened, KidsAt, Look, Moves, only, pair_of, pairs_at, plain, row_times, size, tally, times, vacancy, weigh, woven}
 use Rattle.fiba_arena.specs.Kids.{OthersAt, before, behind, kid_of, left_of, others, right_of, spliced, spliced_last, thinned, thinned_last}
 use Rattle.fiba_arena.specs.Nested.{IsFilled, IsNested, IsSettled, nested_times}
 use Rattle.fiba_arena.proofs.Lists.{all_join, pushed_joined}
 use Rattle.fiba_arena.proofs.Frames.{Keeps, kids-join, same_kids, same_tree, tally-join, woven-join}
 use Rattle.fiba_arena.proofs.Sound.{moves-then, node_of, pairs_of, weight_of}
 use Rattle.fiba_arena.proofs.Writes.{freed_moves, row_beside}
+use Rattle.fiba_arena.proofs.Linked.{any_place, linked_kids, others_linked, row_linked}
 use Rattle.fiba_arena.proofs.Kids.{all-spliced, all-thinned, before-thinned, before-thinned_next, behind-thinned, behind-thinned_next, kid-thinned, kids-spliced, kids-thinned, kids-thinned_next, left-next, left-thinned, length-spliced, length-thinned, others-thinned, others-thinned_next, right-inner, right-thinned_next, tally-spliced, woven-spliced}
 
 -- the other children of a row are as before
@@ -66,13 +67,15 @@ module _ {M : Type 0} (IsValue : M → Type 0) (empty : M) (op : M → M → M) 
 
   -- the opened child, alone
   pub child_opened : (s : Store M) (h : ℕ) (l r : Bool) (slots : List (Slot M)) (last i : ℕ) (child : List (Slot M)) (end : ℕ) → IsNested IsValue empty op s h l r slots last i child end → IsOpened IsValue empty op s (kid_of slots last i) h (left_of l slots i) (right_of r slots i) child end
-  child_opened s h l r slots last i child end n = record { items = n.child_items; kids = n.child_kids; owned = λ k. let o = n.owned k in omega arith }
+  child_opened s h l r slots last i child end n = record { items = n.child_items; kids = n.child_kids; owned = λ k. let o = n.owned k in omega arith; linked = n.child_linked }
 
   -- the child is closed, and what it became stands in its place
   pub settled : (old new : Store M) (h : ℕ) (l r : Bool) (slots : List (Slot M)) (last i : ℕ) (child : List (Slot M)) (end : ℕ) (nodes : List (Slot M)) (stop : ℕ) → IsNested IsValue empty op old h l r slots last i child end → IsClosed IsValue empty op old new (kid_of slots last i) h (left_of l slots i) (right_of r slots i) child end nodes stop → IsSettled IsValue empty op old new h l r slots last i child end (spliced slots i nodes stop) (spliced_last slots last i stop)
   settled old new h l r slots last i child end nodes stop n c =
-      let stays = others_beside old new (suc h) slots last i (λ k. only k (kid_of slots last i) + row_times k (plain old) h child end) (λ k. row_times k (plain new) (suc h) nodes stop) c.moves (λ k. let o = n.owned k in omega arith) in
+      let apart : (k : ℕ) → others (times k (plain old) (suc h)) slots last i + (only k (kid_of slots last i) + row_times k (plain old) h child end + vacancy (look old k)) ≤ 1 = λ k. let o = n.owned k in omega arith in
+      let stays = others_beside old new (suc h) slots last i (λ k. only k (kid_of slots last i) + row_times k (plain old) h child end) (λ k. row_times k (plain new) (suc h) nodes stop) c.moves apart in
       record {
+        linked = kids-spliced (λ _ _ k. IsLinked new (suc h) k) false false slots last i nodes stop (others_linked old new (suc h) slots last i (λ k. only k (kid_of slots last i) + row_times k (plain old) h child end) (λ k. row_times k (plain new) (suc h) nodes stop) c.moves apart n.linked) (any_place (λ k. IsLinked new (suc h) k) false false (left_of false slots i) (right_of false slots i) nodes stop c.linked);
         fits = let e = length-spliced slots i nodes stop in let f = c.few in omega arith;
         items = all-spliced (λ item. IsValue item.value) slots i nodes stop n.items c.items;
         kids = kids-spliced (λ l r k. IsAt IsValue empty op (plain new) (suc h) l r k) l r slots last i nodes stop (stays.kids l r n.beside) c.kids;
@@ -93,6 +96,7 @@ module _ {M : Type 0} (IsValue : M → Type 0) (empty : M) (op : M → M → M) 
     pairs = s.pairs ∙ f.pairs;
     moves = moves-then (look old) (look mid) (look new) (λ k. nested_times k (plain old) h slots last i child end) (λ k. nested_times k (plain mid) h slots' last' i' child' end') (λ k. row_times k (plain new) (suc h) row rest) f.moves s.moves;
     room = s.room ∙ f.room;
+    linked = s.linked;
   }
 
   pub filled_already : (s : Store M) (h : ℕ) (l r : Bool) (slots : List (Slot M)) (last i : ℕ) (child : List (Slot M)) (end : ℕ) → IsNested IsValue empty op s h l r slots last i child end → 1 ≤ length child → (4 ≤ length child → 1 ≤ s.spare) → IsFilled IsValue empty op s s h l r slots last i child end slots last i child end
@@ -132,9 +136,13 @@ module _ {M : Type 0} (IsValue : M → Type 0) (empty : M) (op : M → M → M) 
         let weighs = weight_of IsValue empty op (plain old) h false (right_of r ts i) next (plain_node node) is_node in
         let fm = freed_moves old new next freed in
         let split : (k : ℕ) → others (times k (plain old) (suc h)) slots last i ≡ (only k next + row_times k (plain old) h ns nl) + others (times k (plain old) (suc h)) ts tl i = λ k. let a = others-thinned (times k (plain old) (suc h)) slots last i s is in let b = weighs (only k) in omega arith in
-        let row = row_beside IsValue empty op old new h child end (λ k. only k next) (λ k. 0) fm (λ k. let o = n.owned k in let q = split k in omega arith) in
-        let neighbour = row_beside IsValue empty op old new h ns nl (λ k. only k next) (λ k. 0) fm (λ k. let o = n.owned k in let q = split k in omega arith) in
-        let stays = others_beside old new (suc h) ts tl i (λ k. only k next) (λ k. 0) fm (λ k. let o = n.owned k in let q = split k in omega arith) in
+        let from_child : (k : ℕ) → row_times k (plain old) h child end + (only k next + vacancy (look old k)) ≤ 1 = λ k. let o = n.owned k in let q = split k in omega arith in
+        let from_neighbour : (k : ℕ) → row_times k (plain old) h ns nl + (only k next + vacancy (look old k)) ≤ 1 = λ k. let o = n.owned k in let q = split k in omega arith in
+        let from_others : (k : ℕ) → others (times k (plain old) (suc h)) ts tl i + (only k next + vacancy (look old k)) ≤ 1 = λ k. let o = n.owned k in let q = split k in omega arith in
+        let row = row_beside IsValue empty op old new h child end (λ k. only k next) (λ k. 0) fm from_child in
+        let neighbour = row_beside IsValue empty op old new h ns nl (λ k. only k next) (λ k. 0) fm from_neighbour in
+        let stays = others_beside old new (suc h) ts tl i (λ k. only k next) (λ k. 0) fm from_others in
+        let links = kids-thinned (λ _ _ k. IsLinked old (suc h) k) false false slots last i s is n.linked in
         let same_kid : (k : ℕ) → only k (kid_of ts tl i) ≡ only k (kid_of slots last i) = λ k. ap (only k) (kid-thinned slots last i s is) in
         let joined : (w : ℕ → ℕ) → tally (weigh w (plain new) h) (child ++ middle ∷ ns) nl ≡ tally (weigh w (plain old) h) child end + tally (weigh w (plain old) h) ns nl = λ w. let a = tally-join (weigh w (plain new) h) child middle ns nl in let b = row.tallies w in let c = neighbour.tallies w in omega arith in
         let items = all-thinned (λ item. IsValue item.value) slots i s is n.items in
@@ -148,6 +156,8 @@ module _ {M : Type 0} (IsValue : M → Type 0) (empty : M) (op : M → M → M) 
             child_items = all_join (λ s. IsValue s.item.value) child middle ns n.child_items items.0 inner.items;
             child_kids = kids-join (λ l r k. IsAt IsValue empty op (plain new) h l r k) (left_of l ts i) (right_of r ts i) child middle ns nl (row.kids (left_of l ts i) false child_left) (neighbour.kids false (right_of r ts i) inner.kids);
             owned = λ k. let c = count k in let o = n.owned k in omega arith;
+            linked = others_linked old new (suc h) ts tl i (λ k. only k next) (λ k. 0) fm from_others links.1;
+            child_linked = kids-join (λ _ _ k. IsLinked new h k) false false child middle ns nl (row_linked old new h child end (λ k. only k next) (λ k. 0) fm from_child n.child_linked) (row_linked old new h ns nl (λ k. only k next) (λ k. 0) fm from_neighbour (linked_kids old h next (plain_node node) is_node links.0));
           };
           pairs =
               let a : before (pairs_at (plain new) (suc h)) ts i ≡ before (pairs_at (plain old) (suc h)) slots i = stays.front ∙ before-thinned (pairs_at (plain old) (suc h)) slots last i s is in
@@ -184,9 +194,13 @@ module _ {M : Type 0} (IsValue : M → Type 0) (empty : M) (op : M → M → M) 
         let weighs = weight_of IsValue empty op (plain old) h (left_of l slots j) false previous (plain_node node) is_node in
         let fm = freed_moves old new gone freed in
         let split : (k : ℕ) → others (times k (plain old) (suc h)) slots last (suc j) ≡ (only k previous + row_times k (plain old) h ns nl) + others (times k (plain old) (suc h)) ts tl j = λ k. let a = others-thinned_next (times k (plain old) (suc h)) slots last j s is in let b = weighs (only k) in omega arith in
-        let row = row_beside IsValue empty op old new h child end (λ k. only k gone) (λ k. 0) fm (λ k. let o = n.owned k in let q = split k in omega arith) in
-        let neighbour = row_beside IsValue empty op old new h ns nl (λ k. only k gone) (λ k. 0) fm (λ k. let o = n.owned k in let q = split k in omega arith) in
-        let stays = others_beside old new (suc h) ts tl j (λ k. only k gone) (λ k. 0) fm (λ k. let o = n.owned k in let q = split k in omega arith) in
+        let from_child : (k : ℕ) → row_times k (plain old) h child end + (only k gone + vacancy (look old k)) ≤ 1 = λ k. let o = n.owned k in let q = split k in omega arith in
+        let from_neighbour : (k : ℕ) → row_times k (plain old) h ns nl + (only k gone + vacancy (look old k)) ≤ 1 = λ k. let o = n.owned k in let q = split k in omega arith in
+        let from_others : (k : ℕ) → others (times k (plain old) (suc h)) ts tl j + (only k gone + vacancy (look old k)) ≤ 1 = λ k. let o = n.owned k in let q = split k in omega arith in
+        let row = row_beside IsValue empty op old new h child end (λ k. only k gone) (λ k. 0) fm from_child in
+        let neighbour = row_beside IsValue empty op old new h ns nl (λ k. only k gone) (λ k. 0) fm from_neighbour in
+        let stays = others_beside old new (suc h) ts tl j (λ k. only k gone) (λ k. 0) fm from_others in
+        let links = kids-thinned_next (λ _ _ k. IsLinked old (suc h) k) false false slots last j s is n.linked in
         let same_kid : (k : ℕ) → only k (kid_of ts tl j) ≡ only k previous = λ k. ap (only k) (kid-thinned slots last j s is) in
         let joined : (w : ℕ → ℕ) → tally (weigh w (plain new) h) (ns ++ middle ∷ child) end ≡ tally (weigh w (plain old) h) ns nl + tally (weigh w (plain old) h) child end = λ w. let a = tally-join (weigh w (plain new) h) ns middle child end in let b = row.tallies w in let c = neighbour.tallies w in omega arith in
         let items = all-thinned (λ item. IsValue item.value) slots j s is n.items in
@@ -201,6 +215,8 @@ module _ {M : Type 0} (IsValue : M → Type 0) (empty : M) (op : M → M → M) 
             child_items = all_join (λ s. IsValue s.item.value) ns middle child inner.items items.0 n.child_items;
             child_kids = kids-join (λ l r k. IsAt IsValue empty op (plain new) h l r k) (left_of l ts j) (right_of r ts j) ns middle child end (neighbour.kids (left_of l ts j) false neighbour_left) (row.kids false (right_of r ts j) child_right);
             owned = λ k. let c = count k in let o = n.owned k in omega arith;
+            linked = others_linked old new (suc h) ts tl j (λ k. only k gone) (λ k. 0) fm from_others links.1;
+            child_linked = kids-join (λ _ _ k. IsLinked new h k) false false ns middle child end (row_linked old new h ns nl (λ k. only k gone) (λ k. 0) fm from_neighbour (linked_kids old h previous (plain_node node) is_node links.0)) (row_linked old new h child end (λ k. only k gone) (λ k. 0) fm from_child n.child_linked);
           };
           pairs =
               let a : before (pairs_at (plain old) (suc h)) slots (suc j) ≡ before (pairs_at (plain old) (suc h)) ts j ++ woven (pairs_at (plain old) h) ns nl ++ pair_of s.item ∷ [] = before-thinned_next (pairs_at (plain old) (suc h)) slots last j s is ∙ ap (λ ps. before (pairs_at (plain old) (suc h)) ts j ++ ps ++ pair_of s.item ∷ []) (pairs_of IsValue empty op (plain old) h (left_of l slots j) false previous (plain_node node) is_node) in

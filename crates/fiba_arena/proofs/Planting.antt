@@ -6,12 +6,13 @@ use Rattle.fiba_arena.specs.declared.root.Root.{Root}
 use Rattle.fiba_arena.specs.declared.change.Change.{Change}
 use Rattle.fiba_arena.specs.declared.change.Change.TheVariants.{Insert, Set, Remove, First}
 use Rattle.fiba_arena.specs.Stores.{Store, look, Puts}
-use Rattle.fiba_arena.specs.Trees.{AreValues, IsAt, IsLoose, IsOpened, IsWritten, Look, Moves, only, pairs_at, plain, row_times, size, times, weigh, woven}
+use Rattle.fiba_arena.specs.Trees.{AreValues, IsAt, IsLoose, IsOpened, IsWritten, Look, Moves, only, pairs_at, plain, row_times, size, times, vacancy, weigh, woven}
 use Rattle.fiba_arena.specs.Changes.{IsApplied, added_of, growth, is_first, leaf_slots, pairs_of}
 use Rattle.fiba_arena.specs.Roots.{CanChange, CanSprout, IsChanged, IsPlanted, IsSprouted}
 use Rattle.fiba_arena.proofs.Lists.{append_none}
 use Rattle.fiba_arena.proofs.Opened.{no_pairs}
 use Rattle.fiba_arena.proofs.Sound.{few_kids}
+use Rattle.fiba_arena.proofs.Linked.{link_low, links_low, row_linked}
 use Rattle.fiba_arena.proofs.Writes.{freed_moves, row_beside}
 use Rattle.fiba_arena.proofs.Changing.{goes_other, grown, incoming_values}
 use Rattle.fiba_arena.proofs.Below.{woven_low}
@@ -46,7 +47,7 @@ module _ {M : Type 0} (IsValue : M → Type 0) (empty : M) (op : M → M → M) 
   sprouted_none s root l r item can none =
       let e = none_of item none in
       record {
-        tree = record { sound = tree_low (plain s) root.height l r root.at can.none; owned = λ k. let z = weigh_low (only k) (plain s) root.height root.at can.none in let o = can.owned k in omega arith };
+        tree = record { sound = tree_low (plain s) root.height l r root.at can.none; owned = λ k. let z = weigh_low (only k) (plain s) root.height root.at can.none in let o = can.owned k in omega arith; linked = link_low s root.height root.at can.none };
         pairs = no_pairs (plain s) root.height root.at can.none ∙ ap pairs_of (sym e);
         room = let z = weigh_low (λ _. 1) (plain s) root.height root.at can.none in omega arith;
         higher = can.none ∙ ap (λ o. length (pairs_of o)) (sym e);
@@ -58,11 +59,12 @@ module _ {M : Type 0} (IsValue : M → Type 0) (empty : M) (op : M → M → M) 
     items = subst (λ o. AreValues IsValue (leaf_slots o)) e can.value;
     kids = (tree_low (plain s) 0 l false 0 refl, tree_low (plain s) 0 false r 0 refl);
     owned = λ k. let z = weigh_low (only k) (plain s) 0 0 refl in let o = can.owned k in omega arith;
+    linked = links_low s 0 (record { kid = 0; item = x } ∷ []) 0 refl;
   }
 
   pub sprouted : (old new : Store M) (root : Root) (l r : Bool) (item : Option (Item M)) (x : Item M) (at : ℕ) → CanSprout IsValue empty op old root item → item ≡ Some x → IsWritten IsValue empty op old new at 0 l r (record { kid = 0; item = x } ∷ []) 0 → Moves (look old) (look new) (λ k. row_times k (plain old) 0 (record { kid = 0; item = x } ∷ []) 0) (λ k. times k (plain new) 1 at) → new.spare + 1 ≡ old.spare → IsSprouted IsValue empty op old new root l r item (record { at = at; height = 1 })
   sprouted old new root l r item x at can e w moves spare = record {
-    tree = record { sound = w.sound; owned = λ k. let z = weigh_low (only k) (plain old) 0 0 refl in let o = can.owned k in let m = moves.counts k in omega arith };
+    tree = record { sound = w.sound; owned = λ k. let z = weigh_low (only k) (plain old) 0 0 refl in let o = can.owned k in let m = moves.counts k in omega arith; linked = w.linked };
     pairs = w.pairs ∙ woven_low IsValue empty op (plain old) 0 (record { kid = 0; item = x } ∷ []) 0 refl ∙ ap pairs_of (sym e);
     room = let a = w.weighs (λ _. 1) in let z = weigh_low (λ _. 1) (plain old) 0 0 refl in omega arith;
     higher = ap (λ o. length (pairs_of o)) (sym e);
@@ -74,9 +76,10 @@ module _ {M : Type 0} (IsValue : M → Type 0) (empty : M) (op : M → M → M) 
       let e = nil_of slots none in
       let o : IsOpened IsValue empty op old at b l r [] last = subst (λ xs. IsOpened IsValue empty op old at b l r xs last) e opened in
       let fm = freed_moves old new at freed in
-      let row = row_beside IsValue empty op old new b [] last (λ k. only k at) (λ k. 0) fm (λ k. let x = o.owned k in omega arith) in
+      let apart : (k : ℕ) → row_times k (plain old) b [] last + (only k at + vacancy (look old k)) ≤ 1 = λ k. let x = o.owned k in omega arith in
+      let row = row_beside IsValue empty op old new b [] last (λ k. only k at) (λ k. 0) fm apart in
       subst (λ xs. IsPlanted IsValue empty op old new at b l r xs last (record { at = last; height = b })) (sym e) (record {
-        tree = record { sound = row.kids l r o.kids; owned = λ k. let t = row.tallies (only k) in let m = fm.counts k in let x = o.owned k in omega arith };
+        tree = record { sound = row.kids l r o.kids; owned = λ k. let t = row.tallies (only k) in let m = fm.counts k in let x = o.owned k in omega arith; linked = row_linked old new b [] last (λ k. only k at) (λ k. 0) fm apart o.linked };
         pairs = row.pairs;
         room = let t = row.tallies (λ _. 1) in omega arith;
         higher = omega arith;

@@ -11,7 +11,7 @@ use Rattle.agg_laws.specs.Pairs.{values_of}
 use Rattle.fiba_arena.specs.declared.slot.Slot.{Slot}
 use Rattle.fiba_arena.specs.Rows.{Plain, plain_node}
 use Rattle.fiba_arena.specs.Stores.{Store, look}
-use Rattle.fiba_arena.specs.Trees.{Look, pair_of, woven, shown, tally, KidsAt, pairs_at, weigh, only, times, size, vacancy, AreValues, IsNode, IsAt, Moves, Owned, plain, row_times, IsOpened, IsWritten}
+use Rattle.fiba_arena.specs.Trees.{Look, pair_of, woven, shown, tally, KidsAt, pairs_at, weigh, only, times, size, vacancy, AreValues, IsNode, IsAt, IsLinked, Moves, Owned, plain, row_times, IsOpened, IsWritten}
 use Rattle.fiba_arena.proofs.Frames.{same_kids}
 
 module _ {M : Type 0} (IsValue : M → Type 0) (empty : M) (op : M → M → M) (look : Look M) where
@@ -114,8 +114,8 @@ vacancy_plain s k = elim (look s k) as (λ o. vacancy (option_map plain_node o) 
 
 -- a node is written over trees that stand there already
 module _ {M : Type 0} (IsValue : M → Type 0) (empty : M) (op : M → M → M) (old new : Store M) (h : ℕ) (l r : Bool) (at : ℕ) where
-  pub written : (slots : List (Slot M)) (last : ℕ) (agg : M) (leaf : Bool) → plain new at ≡ Some (record { slots = slots; last = last; agg = agg; leaf = leaf }) → ((k : ℕ) → k ≢ at → plain new k ≡ plain old k) → 1 ≤ length slots → leaf ≡ (h == 0) → agg ≡ total empty op (values_of (shown l r (pairs_at (plain old) h) slots last)) → IsOpened IsValue empty op old at h l r slots last → IsWritten IsValue empty op old new at h l r slots last
-  written slots last agg leaf here others some bottom sum opened =
+  pub written : (slots : List (Slot M)) (last : ℕ) (agg : M) (leaf : Bool) → plain new at ≡ Some (record { slots = slots; last = last; agg = agg; leaf = leaf }) → ((k : ℕ) → k ≢ at → plain new k ≡ plain old k) → 1 ≤ length slots → leaf ≡ (h == 0) → agg ≡ total empty op (values_of (shown l r (pairs_at (plain old) h) slots last)) → IsOpened IsValue empty op old at h l r slots last → IsLinked new (suc h) at → IsWritten IsValue empty op old new at h l r slots last
+  written slots last agg leaf here others some bottom sum opened linked =
       let node : Plain M = record { slots = slots; last = last; agg = agg; leaf = leaf } in
       let apart : (k : ℕ) → 1 ≤ row_times k (plain old) h slots last → k ≢ at = λ k u e. let o = opened.owned k in let s = only_self k in let z : only k at ≡ 1 = rw (← e) s in absurd (omega arith) in
       let row = same_kids IsValue empty op (plain old) (plain new) h slots last (λ k u. others k (apart k u)) in
@@ -123,6 +123,7 @@ module _ {M : Type 0} (IsValue : M → Type 0) (empty : M) (op : M → M → M) 
         sound = tree_of IsValue empty op (plain new) h l r at node here (record { some = some; bottom = bottom; items = opened.items; aggregate = sum ∙ ap (λ ps. total empty op (values_of ps)) (sym (row.shows l r)); kids = row.kids l r opened.kids });
         pairs = pairs_of IsValue empty op (plain new) h l r at node here ∙ row.pairs;
         weighs = λ w. weight_of IsValue empty op (plain new) h l r at node here w ∙ ap (λ t. w at + t) (row.tallies w);
+        linked = linked;
       }
 
   pub written_moves : (slots : List (Slot M)) (last : ℕ) → IsWritten IsValue empty op old new at h l r slots last → ((k : ℕ) → k ≢ at → plain new k ≡ plain old k) → ((k : ℕ) → only k at + row_times k (plain old) h slots last ≡ 0 → look new k ≡ look old k) → Moves (look old) (look new) (λ k. only k at + row_times k (plain old) h slots last) (λ k. times k (plain new) (suc h) at)

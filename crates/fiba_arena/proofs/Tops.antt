@@ -16,13 +16,14 @@ use Rattle.fiba_arena.specs.declared.bound.Bound.TheVariants.{Key}
 use Rattle.fiba_arena.specs.declared.change.Change.TheVariants.{Insert, Set, Remove}
 use Rattle.fiba_arena.specs.Rows.{Plain}
 use Rattle.fiba_arena.specs.Stores.{Store, look}
-use Rattle.fiba_arena.specs.Trees.{IsAt, KidsAt, Look, only, pair_of, pairs_at, plain, size, vacancy, woven}
+use Rattle.fiba_arena.specs.Trees.{IsAt, KidsAt, Look, Owned, only, pair_of, pairs_at, plain, size, times, vacancy, woven}
 use Rattle.fiba_arena.specs.Places.{BeginsIn, EndsIn, IsFolded}
 use Rattle.fiba_arena.specs.Changes.{Applies, pairs_of}
 use Rattle.fiba_arena.specs.Roots.{IsChanged, IsTree}
 use Rattle.fiba_arena.specs.Arena.{IsArena, pairs_in}
 use Rattle.fiba_arena.proofs.Lists.{append_none}
 use Rattle.fiba_arena.proofs.Opened.{no_pairs, some_pairs}
+use Rattle.fiba_arena.proofs.Linked.{link_low, same_linked}
 use Rattle.fiba_arena.proofs.Planting.{tree_low, weigh_low}
 use Rattle.fiba_arena.proofs.Sound.{node_of}
 use Rattle.fiba_arena.proofs.Sound as sound
@@ -213,7 +214,7 @@ module _ {M : Type 0} (IsValue : M → Type 0) (empty : M) (op : M → M → M) 
   arena_fresh s none =
       let e : pairs_at (plain s) 0 0 ≡ [] = no_pairs (plain s) 0 0 refl in
       arena_of s (record { at = 0; height = 0 }) 0 0
-      (record { sound = tree_low IsValue empty op (plain s) 0 false false 0 refl; owned = λ k. let z = weigh_low (only k) (plain s) 0 0 refl in let v : vacancy (look s k) ≡ 1 = ap vacancy (none k) in omega arith })
+      (record { sound = tree_low IsValue empty op (plain s) 0 false false 0 refl; owned = λ k. let z = weigh_low (only k) (plain s) 0 0 refl in let v : vacancy (look s k) ≡ 1 = ap vacancy (none k) in omega arith; linked = link_low s 0 0 refl })
       (subst AreRising (sym e) (λ i j d lt within. absurd (omega arith)))
       (sym (ap length e)) (omega arith) (omega arith) (omega arith)
 
@@ -256,7 +257,9 @@ module _ {M : Type 0} (IsValue : M → Type 0) (empty : M) (op : M → M → M) 
   -- more room
   pub arena_roomier : (old new : Store M) (root : Root) (count limit more : ℕ) → new.cells ≡ old.cells → IsArena IsValue empty op old root count limit → count ≤ more → more ≤ new.spare + size (plain new) root.height root.at → more < 2 ^ 64 → IsArena IsValue empty op new root count more
   arena_roomier old new root count limit more kept a within room fits =
-      let t : IsTree IsValue empty op new root false false = subst (λ cs. IsTree IsValue empty op (record { cells = cs; spare = new.spare }) root false false) (sym kept) (record { sound = a.tree.sound; owned = a.tree.owned }) in
+      let sound : IsAt IsValue empty op (plain new) root.height false false root.at = subst (λ cs. IsAt IsValue empty op (plain (record { cells = cs; spare = new.spare })) root.height false false root.at) (sym kept) a.tree.sound in
+      let owned : Owned (look new) (λ k. times k (plain new) root.height root.at) = subst (λ cs. Owned (look (record { cells = cs; spare = new.spare })) (λ k. times k (plain (record { cells = cs; spare = new.spare })) root.height root.at)) (sym kept) a.tree.owned in
+      let t : IsTree IsValue empty op new root false false = record { sound = sound; owned = owned; linked = same_linked old new root.height root.at (λ k. let o = a.tree.owned k in omega arith) (λ k. ap (λ cs. look (record { cells = cs; spare = new.spare }) k) kept) a.tree.linked } in
       let e : pairs_in new root ≡ pairs_in old root = ap (λ cs. pairs_in (record { cells = cs; spare = new.spare }) root) kept in
       arena_of new root count more t (subst AreRising (sym e) a.rising) (a.counted ∙ ap length (sym e)) within room fits
 

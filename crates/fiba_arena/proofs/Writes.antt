@@ -7,10 +7,11 @@ use Rattle.fiba_arena.specs.declared.slot.Slot.{Slot}
 use Rattle.fiba_arena.specs.declared.node.Node.{Node}
 use Rattle.fiba_arena.specs.Rows.{plain_node}
 use Rattle.fiba_arena.specs.Stores.{Store, look, Puts}
-use Rattle.fiba_arena.specs.Trees.{IsAt, IsClosed, IsLoose, IsOpened, IsWritten, KidsAt, Moves, only, pair_of, pairs_at, plain, row_times, tally, times, vacancy, weigh, woven}
+use Rattle.fiba_arena.specs.Trees.{AreLinked, IsAt, IsClosed, IsLinked, IsLoose, IsOpened, IsWritten, KidsAt, Moves, only, pair_of, pairs_at, plain, row_times, tally, times, vacancy, weigh, woven}
 use Rattle.fiba_arena.proofs.Lists.{all_back, all_front, all_middle}
 use Rattle.fiba_arena.proofs.Frames.{SameRow, SameTree, kids-split, same_kids, same_tree, tally-join, woven-join}
 use Rattle.fiba_arena.proofs.Sound.{moves-then, moves-beside, only_self, only_other}
+use Rattle.fiba_arena.proofs.Linked.{row_linked, tree_linked}
 
 -- a number is taken
 pub fresh_moves : {M : Type 0} (old new : Store M) (at : ℕ) (node : Node M) → look old at ≡ None → Puts old new at (Some node) → Moves (look old) (look new) (λ k. 0) (λ k. only k at)
@@ -54,12 +55,13 @@ module _ {M : Type 0} (IsValue : M → Type 0) (empty : M) (op : M → M → M) 
           items = loose.items;
           kids = row.kids l r loose.kids;
           owned = λ k. let o = loose.owned k in let c = m.counts k in let t = row.tallies (only k) in omega arith;
+          linked = row_linked old mid h slots last (λ k. 0) (λ k. only k at) m (λ k. let o = loose.owned k in omega arith) loose.linked;
         }
 
     pub written_fresh : (new : Store M) → IsWritten IsValue empty op mid new at h l r slots last → IsWritten IsValue empty op old new at h l r slots last
     written_fresh new w =
         let row = row_stays in
-        record { sound = w.sound; pairs = w.pairs ∙ row.pairs; weighs = λ v. w.weighs v ∙ ap (λ t. v at + t) (row.tallies v) }
+        record { sound = w.sound; pairs = w.pairs ∙ row.pairs; weighs = λ v. w.weighs v ∙ ap (λ t. v at + t) (row.tallies v); linked = w.linked }
 
     pub moves_fresh : (new : Store M) → Moves (look mid) (look new) (λ k. only k at + row_times k (plain mid) h slots last) (λ k. times k (plain new) (suc h) at) → Moves (look old) (look new) (λ k. row_times k (plain old) h slots last) (λ k. times k (plain new) (suc h) at)
     moves_fresh new m =
@@ -73,11 +75,14 @@ module _ {M : Type 0} (IsValue : M → Type 0) (empty : M) (op : M → M → M) 
     parts : KidsAt (λ l r k. IsAt IsValue empty op (plain old) h l r k) l false xs s.kid × KidsAt (λ l r k. IsAt IsValue empty op (plain old) h l r k) false r ys last
     parts = kids-split (λ l r k. IsAt IsValue empty op (plain old) h l r k) l r xs s ys last opened.kids
 
+    linked_parts : AreLinked old h xs s.kid × AreLinked old h ys last
+    linked_parts = kids-split (λ _ _ k. IsLinked old h k) false false xs s ys last opened.linked
+
     weight : (w : ℕ → ℕ) → tally (weigh w (plain old) h) (xs ++ s ∷ ys) last ≡ tally (weigh w (plain old) h) xs s.kid + tally (weigh w (plain old) h) ys last
     weight w = tally-join (weigh w (plain old) h) xs s ys last
 
     pub back_loose : IsLoose IsValue empty op old h false r ys last
-    back_loose = record { items = all_back (λ s. IsValue s.item.value) xs s ys opened.items; kids = parts.1; owned = λ k. let o = opened.owned k in let t = weight (only k) in omega arith }
+    back_loose = record { items = all_back (λ s. IsValue s.item.value) xs s ys opened.items; kids = parts.1; owned = λ k. let o = opened.owned k in let t = weight (only k) in omega arith; linked = linked_parts.1 }
 
     module _ (mid : Store M) (end : ℕ) (moved : Moves (look old) (look mid) (λ k. row_times k (plain old) h ys last) (λ k. times k (plain mid) (suc h) end)) where
       front_stays : SameRow IsValue empty op (plain old) (plain mid) h xs s.kid
@@ -88,11 +93,13 @@ module _ {M : Type 0} (IsValue : M → Type 0) (empty : M) (op : M → M → M) 
         items = all_front (λ s. IsValue s.item.value) xs s ys opened.items;
         kids = front_stays.kids l false parts.0;
         owned = λ k. let o = opened.owned k in let t = weight (only k) in let c = moved.counts k in let e = front_stays.tallies (only k) in omega arith;
+        linked = row_linked old mid h xs s.kid (λ k. row_times k (plain old) h ys last) (λ k. times k (plain mid) (suc h) end) moved (λ k. let o = opened.owned k in let t = weight (only k) in omega arith) linked_parts.0;
       }
 
       pub closed_in_two : (new : Store M) → IsWritten IsValue empty op old mid end h false r ys last → IsWritten IsValue empty op mid new at h l false xs s.kid → Moves (look mid) (look new) (λ k. only k at + row_times k (plain mid) h xs s.kid) (λ k. times k (plain new) (suc h) at) → mid.spare + 1 ≡ old.spare → new.spare ≡ mid.spare → 4 ≤ length (xs ++ s ∷ ys) → IsClosed IsValue empty op old new at h l r (xs ++ s ∷ ys) last (record { kid = at; item = s.item } ∷ []) end
       closed_in_two new back front then taken spare many =
-          let stays = tree_beside mid new (suc h) end (λ k. only k at + row_times k (plain mid) h xs s.kid) (λ k. times k (plain new) (suc h) at) then (λ k. let o = opened.owned k in let t = weight (only k) in let c = moved.counts k in let e = front_stays.tallies (only k) in omega arith) in
+          let apart : (k : ℕ) → times k (plain mid) (suc h) end + (only k at + row_times k (plain mid) h xs s.kid + vacancy (look mid k)) ≤ 1 = λ k. let o = opened.owned k in let t = weight (only k) in let c = moved.counts k in let e = front_stays.tallies (only k) in omega arith in
+          let stays = tree_beside mid new (suc h) end (λ k. only k at + row_times k (plain mid) h xs s.kid) (λ k. times k (plain new) (suc h) at) then apart in
           record {
             few = omega arith;
             sizes =
@@ -116,4 +123,5 @@ module _ {M : Type 0} (IsValue : M → Type 0) (empty : M) (op : M → M → M) 
                 let c = back.weighs (λ _. 1) in
                 let e = front_stays.tallies (λ _. 1) in
                 omega arith;
+            linked = (front.linked, tree_linked mid new (suc h) end (λ k. only k at + row_times k (plain mid) h xs s.kid) (λ k. times k (plain new) (suc h) at) then apart back.linked);
           }

@@ -6,7 +6,7 @@ use Rattle.fiba_arena.specs.declared.change.Change.{Change}
 use Rattle.fiba_arena.specs.declared.change.Change.TheVariants.{Insert, Set, Remove, First}
 use Rattle.fiba_arena.specs.Stores.{Store, look}
 use Rattle.fiba_arena.specs.Places.{BeginsIn, EndsIn, IsPlace}
-use Rattle.fiba_arena.specs.Trees.{IsAt, IsOpened, Moves, Owned, only, pair_of, pairs_at, plain, row_size, row_times, size, times, woven}
+use Rattle.fiba_arena.specs.Trees.{IsAt, IsLinked, IsOpened, Moves, Owned, only, pair_of, pairs_at, plain, row_size, row_times, size, times, woven}
 
 -- the item that comes in
 abbrev pub item_of : {M : Type 0} → Change M → Option (Item M)
@@ -96,6 +96,7 @@ CarriesValue IsValue First = Unit {0}
 pub record CanApply {M : Type 0} (IsValue : M → Type 0) (empty : M) (op : M → M → M) (store : Store M) (at b : ℕ) (left right : Bool) (change : Change M) : Type 0 where
   pub sound : IsAt IsValue empty op (plain store) (suc b) left right at
   pub owned : Owned (look store) (λ k. times k (plain store) (suc b) at)
+  pub linked : IsLinked store (suc b) at
   pub room : length (pairs_at (plain store) (suc b) at) + growth change ≤ store.spare + size (plain store) (suc b) at
   pub value : CarriesValue IsValue change
 

@@ -1,8 +1,8 @@
 -- A row with one of its children opened, and what it becomes.
-use Rattle.std.specs.Prelude.{◌≡◌, ◌≤◌, ◌+◌, ◌-◌, ◌++◌, ℕ, suc, Bool, List, length}
+use Rattle.std.specs.Prelude.{◌≡◌, ◌≤◌, ◌+◌, ◌-◌, ◌++◌, ℕ, suc, Bool, false, List, length}
 use Rattle.fiba_arena.specs.declared.slot.Slot.{Slot}
 use Rattle.fiba_arena.specs.Stores.{Store, look}
-use Rattle.fiba_arena.specs.Trees.{AreValues, IsAt, Look, Moves, Owned, TreesAt, only, pairs_at, plain, row_size, row_times, size, times, woven}
+use Rattle.fiba_arena.specs.Trees.{AreLinked, AreValues, IsAt, IsLinked, Look, Moves, Owned, TreesAt, only, pairs_at, plain, row_size, row_times, size, times, woven}
 use Rattle.fiba_arena.specs.Kids.{OthersAt, before, behind, kid_of, left_of, others, right_of}
 
 -- how often a number is one of its nodes
@@ -28,6 +28,8 @@ pub record IsNested {M : Type 0} (IsValue : M → Type 0) (empty : M) (op : M �
   pub child_items : AreValues IsValue child
   pub child_kids : TreesAt IsValue empty op (plain store) h (left_of left slots i) (right_of right slots i) child end
   pub owned : Owned (look store) (λ k. nested_times k (plain store) h slots last i child end)
+  pub linked : OthersAt (λ _ _ k. IsLinked store (suc h) k) false false slots last i
+  pub child_linked : AreLinked store h child end
 
 -- the opened child has items, be it with those of a neighbour, which is gone then
 pub record IsFilled {M : Type 0} (IsValue : M → Type 0) (empty : M) (op : M → M → M) (old new : Store M) (h : ℕ) (left right : Bool) (slots : List (Slot M)) (last i : ℕ) (child : List (Slot M)) (end : ℕ) (slots' : List (Slot M)) (last' i' : ℕ) (child' : List (Slot M)) (end' : ℕ) : Type 0 where
@@ -47,3 +49,4 @@ pub record IsSettled {M : Type 0} (IsValue : M → Type 0) (empty : M) (op : M �
   pub pairs : woven (pairs_at (plain new) (suc h)) row rest ≡ nested_pairs (plain old) h slots last i child end
   pub moves : Moves (look old) (look new) (λ k. nested_times k (plain old) h slots last i child end) (λ k. row_times k (plain new) (suc h) row rest)
   pub room : new.spare + row_size (plain new) (suc h) row rest ≡ old.spare + nested_size (plain old) h slots last i child end
+  pub linked : AreLinked new (suc h) row rest

@@ -5,13 +5,14 @@ use Rattle.fiba_arena.specs.declared.slot.Slot.{Slot}
 use Rattle.fiba_arena.specs.declared.root.Root.{Root}
 use Rattle.fiba_arena.specs.declared.change.Change.{Change}
 use Rattle.fiba_arena.specs.Stores.{Store, look}
-use Rattle.fiba_arena.specs.Trees.{AreValues, IsAt, Owned, pairs_at, plain, row_size, size, times, woven}
+use Rattle.fiba_arena.specs.Trees.{AreValues, IsAt, IsLinked, Owned, pairs_at, plain, row_size, size, times, woven}
 use Rattle.fiba_arena.specs.Changes.{Applies, CarriesValue, growth, leaf_slots, pairs_of}
 
--- a sound tree whose numbers are its own
+-- a sound tree whose numbers are its own, and whose nodes know their parents
 pub record IsTree {M : Type 0} (IsValue : M → Type 0) (empty : M) (op : M → M → M) (store : Store M) (root : Root) (left right : Bool) : Type 0 where
   pub sound : IsAt IsValue empty op (plain store) root.height left right root.at
   pub owned : Owned (look store) (λ k. times k (plain store) root.height root.at)
+  pub linked : IsLinked store root.height root.at
 
 -- an opened root became the root of a tree
 pub record IsPlanted {M : Type 0} (IsValue : M → Type 0) (empty : M) (op : M → M → M) (old new : Store M) (at b : ℕ) (left right : Bool) (slots : List (Slot M)) (last : ℕ) (root : Root) : Type 0 where

@@ -88,6 +88,25 @@ abbrev pub TreesAt : {M : Type 0} → (M → Type 0) → M → (M → M → M) �
 TreesAt IsValue empty op look h left right slots last =
     KidsAt (λ l r k. IsAt IsValue empty op look h l r k) left right slots last
 
+-- the parent of the node at each number, where there is a node
+abbrev pub ups : {M : Type 0} → Store M → ℕ → Option (Option ℕ)
+ups s k = option_map (λ n. n.up) (look s k)
+
+-- the root of a tree of a height has this parent, if there is a root
+abbrev pub HasUp : {M : Type 0} → Store M → ℕ → ℕ → ℕ → Type 0
+HasUp s zero at k = Unit {0}
+HasUp s (suc h) at k = ups s k ≡ Some (Some at)
+
+-- in the tree of a height at a number each node but the root has the number of its parent
+unfoldable pub IsLinked : {M : Type 0} → Store M → ℕ → ℕ → Type 0
+IsLinked s zero at = Unit {0}
+IsLinked s (suc h) at =
+    IsSomeAnd (plain s at) (λ n. KidsAt (λ _ _ k. HasUp s h at k × IsLinked s h k) false false n.slots n.last)
+
+-- the trees in a row are linked
+abbrev pub AreLinked : {M : Type 0} → Store M → ℕ → List (Slot M) → ℕ → Type 0
+AreLinked s h slots last = KidsAt (λ _ _ k. IsLinked s h k) false false slots last
+
 -- nodes of a tree or fresh ones change, and no others; no number is used twice
 pub record Moves {X : Type 0} (old new : ℕ → Option X) (before behind : ℕ → ℕ) : Type 0 where
   pub counts : (k : ℕ) → behind k + vacancy (new k) ≤ before k + vacancy (old k)
@@ -110,12 +129,14 @@ pub record IsOpened {M : Type 0} (IsValue : M → Type 0) (empty : M) (op : M �
   pub items : AreValues IsValue slots
   pub kids : TreesAt IsValue empty op (plain store) h left right slots last
   pub owned : Owned (look store) (λ k. only k at + row_times k (plain store) h slots last)
+  pub linked : AreLinked store h slots last
 
 -- items and children stand in a row
 pub record IsLoose {M : Type 0} (IsValue : M → Type 0) (empty : M) (op : M → M → M) (store : Store M) (h : ℕ) (left right : Bool) (slots : List (Slot M)) (last : ℕ) : Type 0 where
   pub items : AreValues IsValue slots
   pub kids : TreesAt IsValue empty op (plain store) h left right slots last
   pub owned : Owned (look store) (λ k. row_times k (plain store) h slots last)
+  pub linked : AreLinked store h slots last
 
 -- an opened node is closed again: it became one node, or two with an item between
 pub record IsClosed {M : Type 0} (IsValue : M → Type 0) (empty : M) (op : M → M → M) (old new : Store M) (at h : ℕ) (left right : Bool) (slots : List (Slot M)) (last : ℕ) (nodes : List (Slot M)) (end : ℕ) : Type 0 where
@@ -126,9 +147,11 @@ pub record IsClosed {M : Type 0} (IsValue : M → Type 0) (empty : M) (op : M �
   pub pairs : woven (pairs_at (plain new) (suc h)) nodes end ≡ woven (pairs_at (plain old) h) slots last
   pub moves : Moves (look old) (look new) (λ k. only k at + row_times k (plain old) h slots last) (λ k. row_times k (plain new) (suc h) nodes end)
   pub room : new.spare + row_size (plain new) (suc h) nodes end ≡ old.spare + (1 + row_size (plain old) h slots last)
+  pub linked : AreLinked new (suc h) nodes end
 
 -- a node was written over children that stood there already
 pub record IsWritten {M : Type 0} (IsValue : M → Type 0) (empty : M) (op : M → M → M) (old new : Store M) (at h : ℕ) (left right : Bool) (slots : List (Slot M)) (last : ℕ) : Type 0 where
   pub sound : IsAt IsValue empty op (plain new) (suc h) left right at
   pub pairs : pairs_at (plain new) (suc h) at ≡ woven (pairs_at (plain old) h) slots last
   pub weighs : (w : ℕ → ℕ) → weigh w (plain new) (suc h) at ≡ w at + tally (weigh w (plain old) h) slots last
+  pub linked : IsLinked new (suc h) at

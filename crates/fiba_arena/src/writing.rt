@@ -1,8 +1,8 @@
 ghost use Rattle.std.specs.Prelude.{◌≡◌, ◌≤◌, ◌<◌, ◌+◌, ◌*◌, suc, false, None, Some, IsSome, length};
 ghost use Rattle.fiba_arena.specs.Rows.{listed};
 ghost use Rattle.fiba_arena.specs.Stores.{look};
-ghost use Rattle.fiba_arena.specs.Trees.{IsClosed, IsLoose, KidsAt, IsOpened, IsWritten, Moves, TreesAt, only, plain, row_times, times};
-ghost use Rattle.fiba_arena.specs.Links.{AreAdopted, HasUp, IsAdopted, ups};
+ghost use Rattle.fiba_arena.specs.Trees.{HasUp, IsClosed, IsLoose, KidsAt, IsOpened, IsWritten, Moves, TreesAt, only, plain, row_times, times, ups};
+ghost use Rattle.fiba_arena.specs.Links.{AreAdopted, IsAdopted};
 
 use crate::node::Node;
 use crate::nodes::Nodes;

@@ -3,8 +3,19 @@ use Rattle.std.proofs.Common.{◌≡◌, ◌≤◌, ◌++◌, ◌∷◌, length,
 use Rattle.fiba_arena.specs.Rows.{listed}
 use Rattle.fiba_arena.specs.Trees.{IsOpened}
 use Rattle.fiba_arena.proofs.Lists.{parts_of}
-use Rattle.fiba_arena.proofs.Writes.{front_opened, closed_in_two}
+use Rattle.fiba_arena.proofs.Writes.{back_loose, front_opened, closed_in_two}
 use Rattle.fiba_arena.proofs.writing.close.Goals as goal
+
+pub create-last-requires-clause-loose : goal.create-last-requires-clause-loose
+create-last-requires-clause-loose g c =
+    let m = g.M.Monoid in
+    let slots = listed c.args.open.now.slots in
+    let xs = listed c.first.result in
+    let s = c.get-middle.result in
+    let ys = listed c.rest.result in
+    let parts : slots ≡ xs ++ s ∷ ys = parts_of slots xs 2 s ys c.get-middle.ensures c.first.ensures c.rest.ensures in
+    let opened : IsOpened m.is_value m.empty m.op c.args.nodes.now c.args.at c.args.height c.args.place.left c.args.place.right (xs ++ s ∷ ys) c.args.open.now.last = subst (λ l. IsOpened m.is_value m.empty m.op c.args.nodes.now c.args.at c.args.height c.args.place.left c.args.place.right l c.args.open.now.last) parts c.requires.opened in
+    rw c.back.ensures (back_loose m.is_value m.empty m.op c.args.nodes.now c.args.at c.args.height c.args.place.left c.args.place.right xs s ys c.args.open.now.last opened)
 
 pub write-requires-2-clause-opened : goal.write-requires-2-clause-opened
 write-requires-2-clause-opened g c =
