@@ -8,7 +8,6 @@ use crate::item::Item;
 use crate::leaf::{leaf_applied, met, rank};
 use crate::nest::Nest;
 use crate::nodes::Nodes;
-use crate::open::Open;
 use crate::place::Place;
 use crate::row::Row;
 use crate::settling::settle;
@@ -32,11 +31,7 @@ pub fn apply<M: Monoid, L>(
     ensures probes { probes.old ≤ probes.new }
     ensures cost { steps.new ≤ steps.old + 8 * below }
 {
-    let node = nodes.get(at, probes);
-    let open = Open {
-        slots: node.slots(),
-        last: node.last(),
-    };
+    let open = nodes.get(at, probes).opened();
     if below == 0 {
         return leaf_applied(&open, &change);
     }
@@ -62,16 +57,8 @@ pub fn apply<M: Monoid, L>(
         };
     }
     let inner = open.place(i + 1, place);
-    let next = Change::First;
-    let kid = apply(
-        nodes,
-        open.kid(i + 1),
-        below - 1,
-        inner,
-        next,
-        probes,
-        steps,
-    );
+    let next = open.kid(i + 1);
+    let kid = apply(nodes, next, below - 1, inner, Change::First, probes, steps);
     let nest = Nest {
         row: open.with_item(i, kid.taken.unwrap()),
         at: i + 1,

@@ -2,6 +2,7 @@ ghost use Rattle.std.specs.Prelude.{◌≡◌, ◌≤◌, length};
 ghost use Rattle.fiba_arena.specs.Rows.{listed, slots_of, last_of, plain_node};
 
 use crate::item::Item;
+use crate::open::Open;
 use crate::row::Row;
 use crate::slot::Slot;
 
@@ -62,6 +63,19 @@ impl<M: Copy> Node<M> {
             (None, _) => self.kids[1],
             (Some(_), None) => self.kids[2],
             (Some(_), Some(_)) => self.kids[3],
+        }
+    }
+
+    /// The node's items and children.
+    pub fn opened(&self) -> Open<M>
+        requires { length self.now.kids ≡ 4 }
+        ensures slots { listed result.slots ≡ slots_of self.now }
+        ensures few { length (listed result.slots) ≤ 3 }
+        ensures last { result.last ≡ last_of self.now }
+    {
+        Open {
+            slots: self.slots(),
+            last: self.last(),
         }
     }
 
