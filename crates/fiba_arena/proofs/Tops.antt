@@ -195,9 +195,10 @@ module _ {M : Type 0} (IsValue : M → Type 0) (empty : M) (op : M → M → M) 
   flat_of look zero l r at k e = refl
   flat_of look (suc h) l r at k e = let s = some_pairs IsValue empty op look (suc h) l r at (omega arith) k in let z = ap length e in absurd (omega arith)
 
-  pub arena_of : (s : Store M) (root : Root) (count limit : ℕ) → IsTree IsValue empty op s root false false → AreRising (pairs_in s root) → count ≡ length (pairs_in s root) → count ≤ limit → limit ≤ s.spare + size (plain s) root.height root.at → limit < 2 ^ 64 → IsArena IsValue empty op s root count limit
+module _ {M : Type 0} (IsValue : M → Type 0) (empty : M) (op : M → M → M) (l r : Bool) where
+  pub arena_of : (s : Store M) (root : Root) (count limit : ℕ) → IsTree IsValue empty op s root l r → AreRising (pairs_in s root) → count ≡ length (pairs_in s root) → count ≤ limit → limit ≤ s.spare + size (plain s) root.height root.at → limit < 2 ^ 64 → IsArena IsValue empty op s root l r count limit
   arena_of s root count limit tree rising counted within room fits =
-      let t = tall IsValue empty op (plain s) root.height false false root.at tree.sound in
+      let t = tall IsValue empty op (plain s) root.height l r root.at tree.sound in
       record {
         tree = tree;
         rising = rising;
@@ -206,20 +207,20 @@ module _ {M : Type 0} (IsValue : M → Type 0) (empty : M) (op : M → M → M) 
         room = room;
         tall = t;
         low = low_height root.height (length (pairs_in s root)) t (omega arith);
-        flat = flat_of (plain s) root.height false false root.at tree.sound;
+        flat = flat_of IsValue empty op (plain s) root.height l r root.at tree.sound;
       }
 
   -- nothing yet
-  pub arena_fresh : (s : Store M) → ((k : ℕ) → look s k ≡ None) → IsArena IsValue empty op s (record { at = 0; height = 0 }) 0 0
+  pub arena_fresh : (s : Store M) → ((k : ℕ) → look s k ≡ None) → IsArena IsValue empty op s (record { at = 0; height = 0 }) l r 0 0
   arena_fresh s none =
       let e : pairs_at (plain s) 0 0 ≡ [] = no_pairs (plain s) 0 0 refl in
       arena_of s (record { at = 0; height = 0 }) 0 0
-      (record { sound = tree_low IsValue empty op (plain s) 0 false false 0 refl; owned = λ k. let z = weigh_low (only k) (plain s) 0 0 refl in let v : vacancy (look s k) ≡ 1 = ap vacancy (none k) in omega arith; linked = link_low s 0 0 refl })
+      (record { sound = tree_low IsValue empty op (plain s) 0 l r 0 refl; owned = λ k. let z = weigh_low (only k) (plain s) 0 0 refl in let v : vacancy (look s k) ≡ 1 = ap vacancy (none k) in omega arith; linked = link_low s 0 0 refl })
       (subst AreRising (sym e) (λ i j d lt within. absurd (omega arith)))
       (sym (ap length e)) (omega arith) (omega arith) (omega arith)
 
-  module _ (old new : Store M) (root grown : Root) (count limit : ℕ) (arena : IsArena IsValue empty op old root count limit) (fits : limit < 2 ^ 64) where
-    pub arena_inserted : (item : Item M) (taken : Option (Item M)) → has_key item.key (pairs_in old root) ≡ false → count < limit → IsChanged IsValue empty op old new root grown false false (Insert item) taken → IsArena IsValue empty op new grown (count + 1) limit × (pairs_in new grown ≡ inserted item.key item.value (pairs_in old root))
+  module _ (old new : Store M) (root grown : Root) (count limit : ℕ) (arena : IsArena IsValue empty op old root l r count limit) (fits : limit < 2 ^ 64) where
+    pub arena_inserted : (item : Item M) (taken : Option (Item M)) → has_key item.key (pairs_in old root) ≡ false → count < limit → IsChanged IsValue empty op old new root grown l r (Insert item) taken → IsArena IsValue empty op new grown l r (count + 1) limit × (pairs_in new grown ≡ inserted item.key item.value (pairs_in old root))
     arena_inserted item taken none lt c =
         let i = is_inserted item taken (pairs_in old root) (pairs_in new grown) arena.rising none c.applies in
         let a : Applies (Insert item) None (pairs_in old root) (pairs_in new grown) = subst (λ o. Applies (Insert item) o (pairs_in old root) (pairs_in new grown)) i.0 c.applies in
@@ -232,7 +233,7 @@ module _ {M : Type 0} (IsValue : M → Type 0) (empty : M) (op : M → M → M) 
         let r = c.room in
         (arena_of new grown (count + 1) limit c.tree (subst AreRising (sym i.1) (rising-inserted item.key item.value (pairs_in old root) arena.rising none)) (omega arith) (omega arith) (omega arith) fits, i.1)
 
-    pub arena_replaced : (item : Item M) (taken : Option (Item M)) → has_key item.key (pairs_in old root) ≡ true → IsChanged IsValue empty op old new root grown false false (Set item) taken → IsArena IsValue empty op new grown count limit × (pairs_in new grown ≡ replaced item.key item.value (pairs_in old root))
+    pub arena_replaced : (item : Item M) (taken : Option (Item M)) → has_key item.key (pairs_in old root) ≡ true → IsChanged IsValue empty op old new root grown l r (Set item) taken → IsArena IsValue empty op new grown l r count limit × (pairs_in new grown ≡ replaced item.key item.value (pairs_in old root))
     arena_replaced item taken some c =
         let i = is_replaced item taken (pairs_in old root) (pairs_in new grown) arena.rising some c.applies in
         let n = arena.counted in
@@ -241,10 +242,10 @@ module _ {M : Type 0} (IsValue : M → Type 0) (empty : M) (op : M → M → M) 
         let w = arena.within in
         (arena_of new grown count limit c.tree (subst AreRising (sym i.1) (rising-replaced item.key item.value (pairs_in old root) arena.rising)) (omega arith) w (omega arith) fits, i.1)
 
-    pub removed_of : (key : ℕ) (taken : Option (Item M)) → IsChanged IsValue empty op old new root grown false false (Remove key) taken → IsRemoved key taken (pairs_in old root) (pairs_in new grown)
+    pub removed_of : (key : ℕ) (taken : Option (Item M)) → IsChanged IsValue empty op old new root grown l r (Remove key) taken → IsRemoved key taken (pairs_in old root) (pairs_in new grown)
     removed_of key taken c = is_removed key taken (pairs_in old root) (pairs_in new grown) arena.rising c.applies
 
-    pub arena_removed : (key : ℕ) (taken : Option (Item M)) (left : ℕ) → left + length (pairs_of taken) ≡ count → IsChanged IsValue empty op old new root grown false false (Remove key) taken → IsArena IsValue empty op new grown left limit
+    pub arena_removed : (key : ℕ) (taken : Option (Item M)) (left : ℕ) → left + length (pairs_of taken) ≡ count → IsChanged IsValue empty op old new root grown l r (Remove key) taken → IsArena IsValue empty op new grown l r left limit
     arena_removed key taken left fewer c =
         let i = removed_of key taken c in
         let n = arena.counted in
@@ -255,11 +256,11 @@ module _ {M : Type 0} (IsValue : M → Type 0) (empty : M) (op : M → M → M) 
         arena_of new grown left limit c.tree (subst AreRising (sym i.rest) (rising-without key (pairs_in old root) arena.rising)) (omega arith) (omega arith) (omega arith) fits
 
   -- more room
-  pub arena_roomier : (old new : Store M) (root : Root) (count limit more : ℕ) → new.cells ≡ old.cells → IsArena IsValue empty op old root count limit → count ≤ more → more ≤ new.spare + size (plain new) root.height root.at → more < 2 ^ 64 → IsArena IsValue empty op new root count more
+  pub arena_roomier : (old new : Store M) (root : Root) (count limit more : ℕ) → new.cells ≡ old.cells → IsArena IsValue empty op old root l r count limit → count ≤ more → more ≤ new.spare + size (plain new) root.height root.at → more < 2 ^ 64 → IsArena IsValue empty op new root l r count more
   arena_roomier old new root count limit more kept a within room fits =
-      let sound : IsAt IsValue empty op (plain new) root.height false false root.at = subst (λ cs. IsAt IsValue empty op (plain (record { cells = cs; spare = new.spare })) root.height false false root.at) (sym kept) a.tree.sound in
+      let sound : IsAt IsValue empty op (plain new) root.height l r root.at = subst (λ cs. IsAt IsValue empty op (plain (record { cells = cs; spare = new.spare })) root.height l r root.at) (sym kept) a.tree.sound in
       let owned : Owned (look new) (λ k. times k (plain new) root.height root.at) = subst (λ cs. Owned (look (record { cells = cs; spare = new.spare })) (λ k. times k (plain (record { cells = cs; spare = new.spare })) root.height root.at)) (sym kept) a.tree.owned in
-      let t : IsTree IsValue empty op new root false false = record { sound = sound; owned = owned; linked = same_linked old new root.height root.at (λ k. let o = a.tree.owned k in omega arith) (λ k. ap (λ cs. look (record { cells = cs; spare = new.spare }) k) kept) a.tree.linked } in
+      let t : IsTree IsValue empty op new root l r = record { sound = sound; owned = owned; linked = same_linked old new root.height root.at (λ k. let o = a.tree.owned k in omega arith) (λ k. ap (λ cs. look (record { cells = cs; spare = new.spare }) k) kept) a.tree.linked } in
       let e : pairs_in new root ≡ pairs_in old root = ap (λ cs. pairs_in (record { cells = cs; spare = new.spare }) root) kept in
       arena_of new root count more t (subst AreRising (sym e) a.rising) (a.counted ∙ ap length (sym e)) within room fits
 

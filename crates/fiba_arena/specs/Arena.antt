@@ -1,5 +1,5 @@
 -- What a tree in an arena is in contracts, and what it keeps.
-use Rattle.std.specs.Prelude.{◌≡◌, ◌≤◌, ◌+◌, ◌^◌, ℕ, false, List, [], length}
+use Rattle.std.specs.Prelude.{◌≡◌, ◌≤◌, ◌+◌, ◌^◌, ℕ, Bool, List, [], length}
 use Rattle.agg_laws.specs.Pairs.{AreRising}
 use Rattle.fiba_arena.specs.declared.root.Root.{Root}
 use Rattle.fiba_arena.specs.Stores.{Store}
@@ -17,8 +17,8 @@ abbrev pub pairs_in : {M : Type 0} → Store M → Root → List (ℕ × M)
 pairs_in store root = pairs_at (plain store) root.height root.at
 
 -- the tree is sound and balanced, its keys rise, its pairs are counted, and there is room up to a limit
-pub record IsArena {M : Type 0} (IsValue : M → Type 0) (empty : M) (op : M → M → M) (store : Store M) (root : Root) (count limit : ℕ) : Type 0 where
-  pub tree : IsTree IsValue empty op store root false false
+pub record IsArena {M : Type 0} (IsValue : M → Type 0) (empty : M) (op : M → M → M) (store : Store M) (root : Root) (left right : Bool) (count limit : ℕ) : Type 0 where
+  pub tree : IsTree IsValue empty op store root left right
   pub rising : AreRising (pairs_in store root)
   pub counted : count ≡ length (pairs_in store root)
   pub within : count ≤ limit

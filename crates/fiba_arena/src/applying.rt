@@ -28,6 +28,7 @@ pub fn apply<M: Monoid, L>(
     requires { CanApply M.is_value M.empty M.op nodes.old at below place.left place.right change }
     ensures applied { IsApplied M.is_value M.empty M.op nodes.old nodes.new at below
         place.left place.right change result.taken (listed result.open.slots) result.open.last }
+    ensures spare { nodes.old.spare ≤ nodes.new.spare + below }
     ensures probes { probes.old ≤ probes.new }
     ensures cost { steps.new ≤ steps.old + 8 * below }
 {

@@ -46,7 +46,7 @@ pub use nodes::Nodes;
 pub use open::Open;
 pub use place::Place;
 pub use root::Root;
-pub use rooting::change_root;
+pub use rooting::{change_root, plant};
 pub use row::Row;
 pub use settling::settle;
 pub use slot::Slot;

@@ -48,6 +48,13 @@ impl<M: Copy> Nodes<M> {
         Ok(())
     }
 
+    /// For how many more nodes there is room.
+    pub fn spare(&self) -> usize
+        ensures { result ≡ self.now.spare }
+    {
+        self.slab.capacity() - self.slab.len()
+    }
+
     /// Puts a node under a number that wasn't there. Uses one spare.
     pub fn add(&mut self, node: Node<M>) -> usize
         requires { 1 ≤ self.old.spare }

@@ -1,4 +1,4 @@
-ghost use Rattle.std.specs.Prelude.{◌≡◌, ◌≤◌, ◌<◌, ◌+◌, ◌*◌, ◌^◌, false, length};
+ghost use Rattle.std.specs.Prelude.{◌≡◌, ◌≤◌, ◌<◌, ◌+◌, ◌-◌, ◌*◌, ◌^◌, false, length};
 ghost use Rattle.fiba_arena.specs.Rows.{listed};
 ghost use Rattle.fiba_arena.specs.Trees.{IsOpened};
 ghost use Rattle.fiba_arena.specs.Changes.{is_first};
@@ -77,9 +77,9 @@ fn sprout<M: Monoid, L>(
     }
 }
 
-// The root that an opened root becomes: its only child where it has no item, else a node or two
-// with a new root above them.
-fn plant<M: Monoid, L>(
+/// The root that an opened root becomes: its only child where it has no item, else a node or two
+/// with a new root above them. At most eight steps, and three more where it is split.
+pub fn plant<M: Monoid, L>(
     nodes: &mut Nodes<M>,
     at: usize,
     below: u32,
@@ -94,8 +94,9 @@ fn plant<M: Monoid, L>(
     requires levels { below + 2 < 2 ^ 32 }
     ensures planted { IsPlanted M.is_value M.empty M.op nodes.old nodes.new at below
         place.left place.right (listed open.now.slots) open.now.last result }
+    ensures spare { nodes.old.spare ≤ nodes.new.spare + 2 * (result.height - (below + 1)) }
     ensures probes { probes.old ≤ probes.new }
-    ensures cost { steps.new ≤ steps.old + 11 }
+    ensures cost { steps.new ≤ steps.old + 8 + 3 * (length (listed open.now.slots) - 3) }
 {
     if open.slots.len() == 0 {
         nodes.free(at);

@@ -30,6 +30,7 @@ pub fn settle<M: Monoid, L>(
     ensures settled { IsSettled M.is_value M.empty M.op nodes.old nodes.new height
         place.left place.right (listed nest.now.row.slots) nest.now.row.last nest.now.at
         (listed nest.now.child.slots) nest.now.child.last (listed result.slots) result.last }
+    ensures spare { nodes.old.spare ≤ nodes.new.spare + 1 }
     ensures probes { probes.old ≤ probes.new }
     ensures cost { steps.new ≤ steps.old + 8 }
 {
@@ -59,6 +60,7 @@ fn filled<M: Monoid>(
         (listed nest.now.child.slots) nest.now.child.last
         (listed result.row.slots) result.row.last result.at
         (listed result.child.slots) result.child.last }
+    ensures spare { nodes.old.spare ≤ nodes.new.spare }
     ensures probes { probes.old ≤ probes.new }
 {
     if nest.child.slots.len() != 0 {
@@ -88,6 +90,7 @@ fn with_next<M: Monoid>(
         (listed nest.now.child.slots) nest.now.child.last
         (listed result.row.slots) result.row.last result.at
         (listed result.child.slots) result.child.last }
+    ensures spare { nodes.old.spare ≤ nodes.new.spare }
     ensures probes { probes.old ≤ probes.new }
 {
     let item = nest.row.slots.get(nest.at).item;
@@ -124,6 +127,7 @@ fn with_previous<M: Monoid>(
         (listed nest.now.child.slots) nest.now.child.last
         (listed result.row.slots) result.row.last result.at
         (listed result.child.slots) result.child.last }
+    ensures spare { nodes.old.spare ≤ nodes.new.spare }
     ensures probes { probes.old ≤ probes.new }
 {
     let at = nest.at - 1;

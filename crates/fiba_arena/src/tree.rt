@@ -32,7 +32,7 @@ pub struct ArenaTree<M: Monoid> {
 }
 
 impl<M: Monoid> Model for ArenaTree<M> {
-    ghost use Rattle.std.specs.Prelude.{◌-◌};
+    ghost use Rattle.std.specs.Prelude.{◌-◌, false};
     ghost use Rattle.fiba_arena.specs.Arena.{Arena, IsArena, pairs_in};
 
     ghost Value = { Arena M };
@@ -43,7 +43,8 @@ impl<M: Monoid> Model for ArenaTree<M> {
       height = t.root.height;
     } };
 
-    ghost invariant = { λ t. IsArena M.is_value M.empty M.op t.nodes t.root t.count t.limit };
+    ghost invariant = { λ t. IsArena M.is_value M.empty M.op t.nodes t.root false false
+        t.count t.limit };
 }
 
 impl<M: Monoid> AggTree<M> for ArenaTree<M> {

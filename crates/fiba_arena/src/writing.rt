@@ -133,6 +133,7 @@ pub fn close<M: Monoid, L>(
     ensures closed { IsClosed M.is_value M.empty M.op nodes.old nodes.new at height
         place.left place.right (listed open.now.slots) open.now.last
         (listed result.slots) result.last }
+    ensures spare { nodes.old.spare ≤ nodes.new.spare + 1 }
     ensures probes { probes.old ≤ probes.new }
     ensures cost { steps.new ≤ steps.old + 8 }
 {

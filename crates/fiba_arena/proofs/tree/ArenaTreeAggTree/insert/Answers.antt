@@ -1,5 +1,5 @@
 -- The change is an insertion, since no pair has the key.
-use Rattle.std.proofs.Common.{ap, ◌∙◌, arith}
+use Rattle.std.proofs.Common.{false, ap, ◌∙◌, arith}
 use Rattle.agg_laws.specs.Pairs.{has_key, inserted}
 use Rattle.fiba_arena.proofs.Tops.{arena_inserted}
 use Rattle.fiba_arena.proofs.tree.ArenaTreeAggTree.insert.Goals as goal
@@ -10,7 +10,7 @@ invariant_of-self g c =
     let view = ap (λ v. v.pairs) c.self.view_is in
     let spare = ap (λ v. v.spare) c.self.view_is in
     let changed = rw c.inner-place.ensures at c.change_root-changed.ensures.changed in
-    (arena_inserted m.is_value m.empty m.op c.self.inside.nodes c.change_root-changed.new.nodes c.self.inside.root c.change_root-changed.result.root c.self.inside.count c.self.inside.limit c.self.invariant (omega (arith, c.self.ranges)) (record { key = c.args.key; value = c.args.value }) c.change_root-changed.result.taken (ap (has_key c.args.key) view ∙ c.requires.absent) (omega (arith, spare, c.requires.room)) changed).0
+    (arena_inserted m.is_value m.empty m.op false false c.self.inside.nodes c.change_root-changed.new.nodes c.self.inside.root c.change_root-changed.result.root c.self.inside.count c.self.inside.limit c.self.invariant (omega (arith, c.self.ranges)) (record { key = c.args.key; value = c.args.value }) c.change_root-changed.result.taken (ap (has_key c.args.key) view ∙ c.requires.absent) (omega (arith, spare, c.requires.room)) changed).0
 
 pub returns-clause-inserted : goal.returns-clause-inserted
 returns-clause-inserted g c =
@@ -18,7 +18,7 @@ returns-clause-inserted g c =
     let view = ap (λ v. v.pairs) c.self.view_is in
     let spare = ap (λ v. v.spare) c.self.view_is in
     let changed = rw c.inner-place.ensures at c.change_root-changed.ensures.changed in
-    (arena_inserted m.is_value m.empty m.op c.self.inside.nodes c.change_root-changed.new.nodes c.self.inside.root c.change_root-changed.result.root c.self.inside.count c.self.inside.limit c.self.invariant (omega (arith, c.self.ranges)) (record { key = c.args.key; value = c.args.value }) c.change_root-changed.result.taken (ap (has_key c.args.key) view ∙ c.requires.absent) (omega (arith, spare, c.requires.room)) changed).1 ∙ ap (inserted c.args.key c.args.value) view
+    (arena_inserted m.is_value m.empty m.op false false c.self.inside.nodes c.change_root-changed.new.nodes c.self.inside.root c.change_root-changed.result.root c.self.inside.count c.self.inside.limit c.self.invariant (omega (arith, c.self.ranges)) (record { key = c.args.key; value = c.args.value }) c.change_root-changed.result.taken (ap (has_key c.args.key) view ∙ c.requires.absent) (omega (arith, spare, c.requires.room)) changed).1 ∙ ap (inserted c.args.key c.args.value) view
 
 pub returns-clause-rising : goal.returns-clause-rising
 returns-clause-rising g c = let a = invariant_of-self g c in a.rising

@@ -1,5 +1,5 @@
 -- The change puts an item in the place of another, since some pair has the key.
-use Rattle.std.proofs.Common.{ap, ◌∙◌, arith}
+use Rattle.std.proofs.Common.{false, ap, ◌∙◌, arith}
 use Rattle.agg_laws.specs.Pairs.{has_key, replaced}
 use Rattle.fiba_arena.proofs.Tops.{arena_replaced}
 use Rattle.fiba_arena.proofs.tree.ArenaTreeAggTree.set.Goals as goal
@@ -9,14 +9,14 @@ invariant_of-self g c =
     let m = g.M.Monoid in
     let view = ap (λ v. v.pairs) c.self.view_is in
     let changed = rw c.inner-place.ensures at c.change_root-changed.ensures.changed in
-    (arena_replaced m.is_value m.empty m.op c.self.inside.nodes c.change_root-changed.new.nodes c.self.inside.root c.change_root-changed.result.root c.self.inside.count c.self.inside.limit c.self.invariant (omega (arith, c.self.ranges)) (record { key = c.args.key; value = c.args.value }) c.change_root-changed.result.taken (ap (has_key c.args.key) view ∙ c.requires) changed).0
+    (arena_replaced m.is_value m.empty m.op false false c.self.inside.nodes c.change_root-changed.new.nodes c.self.inside.root c.change_root-changed.result.root c.self.inside.count c.self.inside.limit c.self.invariant (omega (arith, c.self.ranges)) (record { key = c.args.key; value = c.args.value }) c.change_root-changed.result.taken (ap (has_key c.args.key) view ∙ c.requires) changed).0
 
 pub returns-clause-replaced : goal.returns-clause-replaced
 returns-clause-replaced g c =
     let m = g.M.Monoid in
     let view = ap (λ v. v.pairs) c.self.view_is in
     let changed = rw c.inner-place.ensures at c.change_root-changed.ensures.changed in
-    (arena_replaced m.is_value m.empty m.op c.self.inside.nodes c.change_root-changed.new.nodes c.self.inside.root c.change_root-changed.result.root c.self.inside.count c.self.inside.limit c.self.invariant (omega (arith, c.self.ranges)) (record { key = c.args.key; value = c.args.value }) c.change_root-changed.result.taken (ap (has_key c.args.key) view ∙ c.requires) changed).1 ∙ ap (replaced c.args.key c.args.value) view
+    (arena_replaced m.is_value m.empty m.op false false c.self.inside.nodes c.change_root-changed.new.nodes c.self.inside.root c.change_root-changed.result.root c.self.inside.count c.self.inside.limit c.self.invariant (omega (arith, c.self.ranges)) (record { key = c.args.key; value = c.args.value }) c.change_root-changed.result.taken (ap (has_key c.args.key) view ∙ c.requires) changed).1 ∙ ap (replaced c.args.key c.args.value) view
 
 pub returns-clause-rising : goal.returns-clause-rising
 returns-clause-rising g c = let a = invariant_of-self g c in a.rising
