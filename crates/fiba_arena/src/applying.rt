@@ -1,6 +1,6 @@
-ghost use Rattle.std.specs.Prelude.{◌≡◌, ◌≤◌, ◌+◌, ◌*◌, false, true, IfSome, IfNone};
+ghost use Rattle.std.specs.Prelude.{◌≡◌, ◌≤◌, ◌+◌, ◌*◌, false, true, IfSome, IfNone, length};
 ghost use Rattle.fiba_arena.specs.Rows.{listed};
-ghost use Rattle.fiba_arena.specs.Changes.{CanApply, IsApplied, IsItemAt, IsPassed, is_first, meets};
+ghost use Rattle.fiba_arena.specs.Changes.{CanApply, IsApplied, IsItemAt, IsPassed, growth, is_first, meets};
 
 use crate::applied::Applied;
 use crate::change::Change;
@@ -28,6 +28,7 @@ pub fn apply<M: Monoid, L>(
     requires { CanApply M.is_value M.empty M.op nodes.old at below place.left place.right change }
     ensures applied { IsApplied M.is_value M.empty M.op nodes.old nodes.new at below
         place.left place.right change result.taken (listed result.open.slots) result.open.last }
+    ensures some { 1 ≤ growth change → 1 ≤ length (listed result.open.slots) }
     ensures spare { nodes.old.spare ≤ nodes.new.spare + below }
     ensures probes { probes.old ≤ probes.new }
     ensures cost { steps.new ≤ steps.old + 8 * below }

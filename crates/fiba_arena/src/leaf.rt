@@ -1,7 +1,7 @@
 ghost use Rattle.std.specs.Prelude.{◌≡◌, ◌≤◌, ◌<◌, ◌+◌, ◌++◌, true, length, Some, IfSome, IfNone, take, drop};
 ghost use Rattle.fiba_arena.specs.Rows.{listed};
 ghost use Rattle.fiba_arena.specs.Trees.{AreValues};
-ghost use Rattle.fiba_arena.specs.Changes.{Applies, leaf_pairs, leaf_slots, CarriesValue, IsItemAt, IsRank, IsUnmet, meets};
+ghost use Rattle.fiba_arena.specs.Changes.{Applies, leaf_pairs, leaf_slots, CarriesValue, growth, IsItemAt, IsRank, IsUnmet, meets};
 
 use crate::applied::Applied;
 use crate::change::Change;
@@ -46,6 +46,7 @@ pub fn leaf_applied<M: Monoid>(open: &Open<M>, change: &Change<M>) -> Applied<M>
     requires value { CarriesValue M.is_value change.now }
     requires some { 1 ≤ length (listed open.now.slots) }
     requires few { length (listed open.now.slots) ≤ 3 }
+    ensures some { 1 ≤ growth change.now → 1 ≤ length (listed result.open.slots) }
     ensures items { AreValues M.is_value (listed result.open.slots) }
     ensures applies { Applies change.now result.taken (leaf_pairs (listed open.now.slots))
         (leaf_pairs (listed result.open.slots)) }

@@ -30,6 +30,8 @@ pub fn settle<M: Monoid, L>(
     ensures settled { IsSettled M.is_value M.empty M.op nodes.old nodes.new height
         place.left place.right (listed nest.now.row.slots) nest.now.row.last nest.now.at
         (listed nest.now.child.slots) nest.now.child.last (listed result.slots) result.last }
+    ensures kept { 1 ≤ length (listed nest.now.child.slots)
+        → length (listed nest.now.row.slots) ≤ length (listed result.slots) }
     ensures spare { nodes.old.spare ≤ nodes.new.spare + 1 }
     ensures probes { probes.old ≤ probes.new }
     ensures cost { steps.new ≤ steps.old + 8 }
@@ -60,6 +62,7 @@ fn filled<M: Monoid>(
         (listed nest.now.child.slots) nest.now.child.last
         (listed result.row.slots) result.row.last result.at
         (listed result.child.slots) result.child.last }
+    ensures same { 1 ≤ length (listed nest.now.child.slots) → result ≡ nest.now }
     ensures spare { nodes.old.spare ≤ nodes.new.spare }
     ensures probes { probes.old ≤ probes.new }
 {
