@@ -7,7 +7,7 @@ use Rattle.fiba_arena.specs.declared.item.Item.{Item}
 use Rattle.fiba_arena.specs.declared.node.Node.{Node}
 use Rattle.fiba_arena.specs.Rows.{last_of, more_slots, plain_node, slots_of}
 use Rattle.fiba_arena.specs.Stores.{Store, look, Puts}
-use Rattle.fiba_arena.specs.Trees.{AreLinked, IsAt, IsClosed, IsLinked, IsOpened, KidsAt, Look, Moves, only, pair_of, pairs_at, plain, row_times, size, tally, times, vacancy, weigh, woven}
+use Rattle.fiba_arena.specs.Trees.{IsAt, IsClosed, IsLinked, IsOpened, KidsAt, Look, Moves, only, pair_of, pairs_at, plain, row_times, size, tally, times, vacancy, weigh, woven}
 use Rattle.fiba_arena.specs.Kids.{OthersAt, before, behind, kid_of, left_of, others, right_of, spliced, spliced_last, thinned, thinned_last}
 use Rattle.fiba_arena.specs.Nested.{IsFilled, IsNested, IsSettled, nested_times}
 use Rattle.fiba_arena.proofs.Lists.{all_join, pushed_joined}

@@ -286,9 +286,9 @@ module _ {M : Type 0} where
       let e : x ≡ slot = cc in
       get_front (f x.kid) (pair_of x.item ∷ woven f xs last) p (subst (λ y. slice_get (f y.kid) 0 ≡ Some p) (sym e) first)
 
-  pub least_kid : (P : Bool → Bool → ℕ → Type 0) (slots : List (Slot M)) (last : ℕ) (slot : Slot M) → slice_get slots 0 ≡ Some slot → KidsAt P false false slots last → P false false slot.kid
-  least_kid P [] last slot is k = cc
-  least_kid P (x ∷ xs) last slot is k = let e : x ≡ slot = cc in subst (λ y. P false false y.kid) e k.0
+  pub least_kid : (P : Bool → Bool → ℕ → Type 0) (l r : Bool) (slots : List (Slot M)) (last : ℕ) (slot : Slot M) → slice_get slots 0 ≡ Some slot → KidsAt P l r slots last → P l false slot.kid
+  least_kid P l r [] last slot is k = cc
+  least_kid P l r (x ∷ xs) last slot is k = let e : x ≡ slot = cc in subst (λ y. P l false y.kid) e k.0
 
   -- the least key is that of the first pair
   pub key_of_first : (pairs : List (ℕ × M)) (item : Item M) → slice_get pairs 0 ≡ Some (pair_of item) → (Some item.key ≡ least_key pairs) × (pairs ≢ [])

@@ -18,7 +18,7 @@ use crate::writing::{close, create};
 use agg_laws::{Monoid, Probes, Steps};
 
 /// Makes a change to a tree. The height grows by one at most, and only where an item comes in. At
-/// most eight steps a level, and eleven.
+/// most eight steps a level, and three.
 pub fn change_root<M: Monoid, L>(
     nodes: &mut Nodes<M>,
     root: Root,
@@ -33,7 +33,7 @@ pub fn change_root<M: Monoid, L>(
     ensures changed { IsChanged M.is_value M.empty M.op nodes.old nodes.new root result.root
         place.left place.right change result.taken }
     ensures probes { probes.old ≤ probes.new }
-    ensures cost { steps.new ≤ steps.old + 8 * root.height + 11 }
+    ensures cost { steps.new ≤ steps.old + 8 * root.height + 3 }
 {
     if root.height == 0 {
         return Changed {

@@ -7,6 +7,7 @@ ghost use Rattle.fiba_arena.specs.Changes.{pairs_of};
 use crate::bound::Bound;
 use crate::change::Change;
 use crate::item::Item;
+use crate::least::first_item;
 use crate::nodes::Nodes;
 use crate::place::Place;
 use crate::root::Root;
@@ -20,7 +21,7 @@ use stream_base::NoMemory;
 /// A tree of partial aggregates in an arena of nodes.
 ///
 /// Its reach is its height, so each call makes a number of steps that grows with the logarithm of
-/// the number of pairs: `insert` and `set` at most `8 * height + 11`, `remove` too, and
+/// the number of pairs: `insert` and `set` at most `8 * height + 3`, `remove` too, and
 /// `fold_range` at most `12 * height + 1`. Contracts see its pairs, for how many more there is
 /// room, and its height.
 #[derive(Drop)]
@@ -141,7 +142,8 @@ impl<M: Monoid> AggTree<M> for ArenaTree<M> {
         if self.root.height == 0 {
             return None;
         }
-        Some(least(&self.nodes, self.root.at, self.root.height - 1).key)
+        let place = Place::inner();
+        Some(first_item(&self.nodes, self.root.at, self.root.height - 1, place).key)
     }
 
     /// The values with `low <= key < high` combined in the order of keys, from the unit. At most
@@ -187,17 +189,4 @@ impl<M: Monoid> AggTree<M> for ArenaTree<M> {
     {
         self.root.height
     }
-}
-
-// The first item of a tree.
-fn least<M: Monoid>(nodes: &Nodes<M>, at: usize, below: u32) -> Item<M>
-    requires { IsAt M.is_value M.empty M.op (plain nodes.now) (suc below) false false at }
-    ensures { slice_get (pairs_at (plain nodes.now) (suc below) at) 0 ≡ Some (pair_of result) }
-{
-    let mut probes = Probes::new();
-    let slot = nodes.get(at, &mut probes).slots().get(0);
-    if below == 0 {
-        return slot.item;
-    }
-    least(nodes, slot.kid, below - 1)
 }

@@ -1,6 +1,6 @@
 -- The opened child has items now; it is closed, and what it became stands in its place.
 use Rattle.fiba_arena.specs.Rows.{listed}
-use Rattle.std.proofs.Common.{ap, length, arith, sym}
+use Rattle.std.proofs.Common.{ap, length, arith}
 use Rattle.fiba_arena.proofs.Kids.{length-spliced}
 use Rattle.fiba_arena.proofs.Nesting.{settled, filled_settled}
 use Rattle.fiba_arena.proofs.settling.settle.Goals as goal
