@@ -1,0 +1,368 @@
+-- The partials of slices: which pairs they are, and what an edit makes of them.
+use Rattle.std.proofs.Common.{◌≡◌, ◌∙◌, ℕ, ℤ, suc, ◌+◌, ◌-◌, ◌<◌, ◌≤◌, Bool, true, false, cond, eqb, Some, None, List, [], ◌∷◌, ◌++◌, length, get_or, take, drop, map, ap, sym, refl, subst, arith, inl, inr, append_assoc, drop-cons}
+use Rattle.std.specs.Prelude.{◌⊎◌, ◌==◌, ◌&&◌, find, nat_le, nat_lt, FitsSigned}
+use Rattle.std.specs.Int.{w64}
+use Rattle.std.specs.List.{All, flat_map}
+use Rattle.std.specs.Option.{option_map}
+use Rattle.std.proofs.lemmas.Bool.{eqb-true, lt-ltb, le-ltb}
+use Rattle.std.proofs.lemmas.Bool.Decides.{nat_tests}
+use Rattle.std.proofs.lemmas.List.{append-nil, map-append, length-append, length-take, take-append-drop}
+use Rattle.std.proofs.lemmas.List.Elements.{All-append, All-cons, All-head, All-nil, All-tail, All-weaker}
+use Rattle.std.proofs.Math.Seq.{get_or-append_seam, split_at, take-suc}
+use Rattle.stream_base.specs.declared.kept.Kept.{Kept}
+use Rattle.stream_base.specs.declared.limits.TheConstants.{TIME_MAX}
+use Rattle.stream_base.specs.Model.Journal.{put_in_order}
+use Rattle.stream_base.specs.Model.Windows.{first_time, last_time}
+use Rattle.agg_laws.specs.Bundled.{Bundled, IsBundle, bundle_of, empty_bundle, bundles_combined}
+use Rattle.agg_laws.specs.BundleLaws.{bundle_laws}
+use Rattle.agg_laws.specs.Laws.{total}
+use Rattle.agg_laws.specs.Pairs as pairs
+use Rattle.agg_laws.specs.Pairs.{AreRising, has_key, inserted, replaced, value_at, within, without}
+use Rattle.agg_laws.proofs.Bundles.{bundle_is_value}
+use Rattle.agg_laws.proofs.RisingPairs.{has_key-between, has_key-middle, inserted-parts, replaced-middle, rising_above, rising_second, value_at-middle, without-middle}
+use Rattle.window_laws.specs.Runs.{AreInOrder, IsPartFrom, IsRun}
+use Rattle.window_laws.proofs.Order.{All-map_of, All-split, filter_none}
+use Rattle.window_laws.proofs.RunEdits.{parted}
+use Rattle.window_laws.proofs.RunFacts.{cases_of, put_behind, put_first}
+use Rattle.slice_store.specs.Slices.{AreSlices, entered_at, joined, slices_between, values_of}
+use Rattle.slice_store.specs.Stored.{partial_of}
+use Rattle.slice_store.proofs.SliceOrder.{IsApart, IsNear, behind_at, first_below_last, first_of_both, part_at, put_far, reach, run_below_last}
+use Rattle.slice_store.proofs.SliceEdits.{put_length}
+use Rattle.slice_store.proofs.SliceParts.{in_parts, joined_parts}
+
+-- ---- one pair of a tree
+outside : (k m : ℕ) → k < m → (nat_le k m && nat_lt m (k + 1)) ≡ false
+outside k m h = grind (arith, nat_tests)
+
+inside : (k m : ℕ) → m ≡ k → (nat_le k m && nat_lt m (k + 1)) ≡ true
+inside k m h = grind (arith, nat_tests)
+
+other : (k m : ℕ) → eqb m k ≡ false → (nat_le k m && nat_lt m (k + 1)) ≡ false
+other k m h = grind (arith, nat_tests)
+
+module _ {M : Type 0} where
+  none_above : (k : ℕ) (ps : List (ℕ × M)) → All (λ q. k < q.0) ps → within k (k + 1) ps ≡ []
+  none_above k ps a =
+      filter_none (λ p. nat_le k p.0 && nat_lt p.0 (k + 1)) ps
+      (All-weaker (λ q. k < q.0) (λ q. (nat_le k q.0 && nat_lt q.0 (k + 1)) ≡ false) (λ q h. outside k q.0 h) ps a)
+
+  above_it : (k : ℕ) (p : ℕ × M) (ps : List (ℕ × M)) → AreRising (p ∷ ps) → p.0 ≡ k → All (λ q. k < q.0) ps
+  above_it k p ps h e = All-weaker (λ q. p.0 < q.0) (λ q. k < q.0) (λ q l. omega arith) ps (rising_above [] ps p h)
+
+  -- at most one pair has a key
+  pub one_at_most : (k : ℕ) (ps : List (ℕ × M)) → AreRising ps → length (within k (k + 1) ps) ≤ 1
+  one_at_most k [] h = omega arith
+  one_at_most k (p ∷ ps) h = by (cases_of (eqb p.0 k)) (one_at_most k ps (rising_second (p ∷ []) ps h))
+    where
+      by : (eqb p.0 k ≡ true) ⊎ (eqb p.0 k ≡ false) → length (within k (k + 1) ps) ≤ 1 → length (within k (k + 1) (p ∷ ps)) ≤ 1
+      by (inl e) later =
+          let same : p.0 ≡ k = eqb-true p.0 k e in
+          omega (arith, ap (λ b. length (cond b (p ∷ within k (k + 1) ps) (within k (k + 1) ps))) (inside k p.0 same), ap length (none_above k ps (above_it k p ps h same)))
+      by (inr e) later = omega (arith, ap (λ b. length (cond b (p ∷ within k (k + 1) ps) (within k (k + 1) ps))) (other k p.0 e))
+
+  -- the pair that has it
+  pub one_there : (k : ℕ) (b : M) (ps : List (ℕ × M)) → AreRising ps → value_at k ps ≡ Some b → within k (k + 1) ps ≡ (k, b) ∷ []
+  one_there k b [] h e = absurd cc
+  one_there k b (p ∷ ps) h e = by (cases_of (eqb p.0 k)) (one_there k b ps (rising_second (p ∷ []) ps h))
+    where
+      by : (eqb p.0 k ≡ true) ⊎ (eqb p.0 k ≡ false) → (value_at k ps ≡ Some b → within k (k + 1) ps ≡ (k, b) ∷ []) → within k (k + 1) (p ∷ ps) ≡ (k, b) ∷ []
+      by (inl t) later =
+          let same : p.0 ≡ k = eqb-true p.0 k t in
+          let found : value_at k (p ∷ ps) ≡ Some p.1 = ap (λ c. option_map (λ (q : ℕ × M). q.1) (cond c (Some p) (find (λ (q : ℕ × M). q.0 == k) ps))) t in
+          let value : p.1 ≡ b = some_same p.1 b (sym found ∙ e) in
+          ap (λ c. cond c (p ∷ within k (k + 1) ps) (within k (k + 1) ps)) (inside k p.0 same)
+          ∙ (λ i. (same i, value i) ∷ none_above k ps (above_it k p ps h same) i)
+        where
+          some_same : (x y : M) → Some x ≡ Some y → x ≡ y
+          some_same x y e = cc
+      by (inr t) later =
+          let found : value_at k (p ∷ ps) ≡ value_at k ps = ap (λ c. option_map (λ (q : ℕ × M). q.1) (cond c (Some p) (find (λ (q : ℕ × M). q.0 == k) ps))) t in
+          ap (λ c. cond c (p ∷ within k (k + 1) ps) (within k (k + 1) ps)) (other k p.0 t) ∙ later (sym found ∙ e)
+
+-- what one pair's range comes to
+pub read_one : (k : ℕ) (b : Bundled) (ps : List (ℕ × Bundled)) → AreRising ps → IsBundle b → value_at k ps ≡ Some b → total empty_bundle bundles_combined (pairs.values_of (within k (k + 1) ps)) ≡ b
+read_one k b ps h v e = ap (λ l. total empty_bundle bundles_combined (pairs.values_of l)) (one_there k b ps h e) ∙ bundle_laws.left_unit b v
+
+-- ---- slices and their keys
+-- the keys of the partials before and behind a slice
+firsts_below : (before : List (List Kept)) (q : List Kept) (behind : List (List Kept)) → AreInOrder (before ++ q ∷ behind) → All (λ p. p.0 < first_time q) (map partial_of before)
+firsts_below [] q behind a = All-nil (λ p. p.0 < first_time q)
+firsts_below (run ∷ before) q behind a =
+    let f : first_time run ≤ last_time run = first_below_last run a.0 in
+    let g : last_time run < first_time q = reach run before q behind a.1 a.2 in
+    All-cons (λ p. p.0 < first_time q) (partial_of run) (map partial_of before) (omega arith) (firsts_below before q behind a.2)
+
+firsts_above : (q : List Kept) (behind : List (List Kept)) → IsPartFrom IsApart q behind → AreInOrder behind → All (λ p. last_time q < p.0) (map partial_of behind)
+firsts_above q [] p a = All-nil (λ p. last_time q < p.0)
+firsts_above q (run ∷ behind) p a =
+    let g : last_time q < first_time run = p in
+    let f : first_time run ≤ last_time run = first_below_last run a.0 in
+    All-cons (λ p. last_time q < p.0) (partial_of run) (map partial_of behind) g
+    (All-weaker (λ p. last_time run < p.0) (λ p. last_time q < p.0) (λ p l. omega arith) (map partial_of behind) (firsts_above run behind a.1 a.2))
+
+pub values_at : (runs : List (List Kept)) (at : ℕ) → at < length runs → AreSlices runs → All (FitsSigned w64) (values_of (get_or runs at []))
+values_at runs at l h =
+    let whole : All (λ (x : Kept). FitsSigned w64 x.value) (joined (take at runs) ++ (get_or runs at [] ++ joined (drop (suc at) runs))) = subst (All (λ (x : Kept). FitsSigned w64 x.value)) (joined_parts runs at l) h.values in
+    let behind : All (λ (x : Kept). FitsSigned w64 x.value) (get_or runs at [] ++ joined (drop (suc at) runs)) = (All-split (λ (x : Kept). FitsSigned w64 x.value) (joined (take at runs)) (get_or runs at [] ++ joined (drop (suc at) runs)) whole).1 in
+    All-map_of (FitsSigned w64) (λ (x : Kept). x.value) (get_or runs at []) (All-split (λ (x : Kept). FitsSigned w64 x.value) (get_or runs at []) (joined (drop (suc at) runs)) behind).0
+
+pub partial_is_value : (runs : List (List Kept)) (at : ℕ) → at < length runs → AreSlices runs → IsBundle (bundle_of (values_of (get_or runs at [])))
+partial_is_value runs at l h = bundle_is_value (values_of (get_or runs at [])) (values_at runs at l h)
+
+-- a slice is a run
+pub run_of : (runs : List (List Kept)) (at : ℕ) → at < length runs → AreInOrder runs → IsRun IsNear (get_or runs at [])
+run_of runs at l o = part_at (take at runs) (get_or runs at []) (drop (suc at) runs) (subst AreInOrder (in_parts runs at l) o)
+
+-- a slice begins and ends within the limits
+pub ends_in_time : (runs : List (List Kept)) (at : ℕ) → at < length runs → AreSlices runs → (first_time (get_or runs at []) ≤ TIME_MAX) × (last_time (get_or runs at []) ≤ TIME_MAX)
+ends_in_time runs at l h =
+    let p = get_or runs at [] in
+    let whole : All (λ (x : Kept). x.time ≤ TIME_MAX) (joined (take at runs) ++ (p ++ joined (drop (suc at) runs))) = subst (All (λ (x : Kept). x.time ≤ TIME_MAX)) (joined_parts runs at l) h.in_time in
+    let behind : All (λ (x : Kept). x.time ≤ TIME_MAX) (p ++ joined (drop (suc at) runs)) = (All-split (λ (x : Kept). x.time ≤ TIME_MAX) (joined (take at runs)) (p ++ joined (drop (suc at) runs)) whole).1 in
+    let own : All (λ (x : Kept). x.time ≤ TIME_MAX) p = (All-split (λ (x : Kept). x.time ≤ TIME_MAX) p (joined (drop (suc at) runs)) behind).0 in
+    let r : IsRun IsNear p = run_of runs at l h.ordered in
+    let last : last_time p ≤ TIME_MAX = end_of p r own in
+    let f : first_time p ≤ last_time p = first_below_last p r in
+    (omega arith, last)
+  where
+    end_of : (p : List Kept) → IsRun IsNear p → All (λ (x : Kept). x.time ≤ TIME_MAX) p → last_time p ≤ TIME_MAX
+    end_of [] r a = absurd r
+    end_of (x ∷ []) r a = All-head (λ (x : Kept). x.time ≤ TIME_MAX) x [] a
+    end_of (x ∷ y ∷ ys) r a = end_of (y ∷ ys) r.1 (All-tail (λ (x : Kept). x.time ≤ TIME_MAX) x (y ∷ ys) a)
+
+module _ (runs : List (List Kept)) (at : ℕ) (l : at < length runs) (o : AreInOrder runs) where
+  order_at : AreInOrder (take at runs ++ get_or runs at [] ∷ drop (suc at) runs)
+  order_at = subst AreInOrder (in_parts runs at l) o
+
+  pairs_at : map partial_of runs ≡ map partial_of (take at runs) ++ partial_of (get_or runs at []) ∷ map partial_of (drop (suc at) runs)
+  pairs_at = ap (map partial_of) (in_parts runs at l) ∙ map-append partial_of (take at runs) (get_or runs at [] ∷ drop (suc at) runs)
+
+  lower_at : All (λ p. p.0 < first_time (get_or runs at [])) (map partial_of (take at runs))
+  lower_at = firsts_below (take at runs) (get_or runs at []) (drop (suc at) runs) order_at
+
+  upper_at : All (λ p. first_time (get_or runs at []) < p.0) (map partial_of (drop (suc at) runs))
+  upper_at =
+      let b = behind_at (take at runs) (get_or runs at []) (drop (suc at) runs) order_at in
+      let f : first_time (get_or runs at []) ≤ last_time (get_or runs at []) = first_below_last (get_or runs at []) (part_at (take at runs) (get_or runs at []) (drop (suc at) runs) order_at) in
+      All-weaker (λ p. last_time (get_or runs at []) < p.0) (λ p. first_time (get_or runs at []) < p.0) (λ p l. omega arith) (map partial_of (drop (suc at) runs)) (firsts_above (get_or runs at []) (drop (suc at) runs) b.0 b.1)
+
+  pub partial_there : has_key (first_time (get_or runs at [])) (map partial_of runs) ≡ true
+  partial_there =
+      ap (has_key (first_time (get_or runs at []))) pairs_at
+      ∙ has_key-middle (first_time (get_or runs at [])) (map partial_of (take at runs)) (map partial_of (drop (suc at) runs)) lower_at upper_at (bundle_of (values_of (get_or runs at [])))
+
+  pub partial_found : value_at (first_time (get_or runs at [])) (map partial_of runs) ≡ Some (bundle_of (values_of (get_or runs at [])))
+  partial_found =
+      ap (value_at (first_time (get_or runs at []))) pairs_at
+      ∙ value_at-middle (first_time (get_or runs at [])) (map partial_of (take at runs)) (map partial_of (drop (suc at) runs)) lower_at upper_at (bundle_of (values_of (get_or runs at [])))
+
+  pub partial_gone : without (first_time (get_or runs at [])) (map partial_of runs) ≡ map partial_of (take at runs) ++ map partial_of (drop (suc at) runs)
+  partial_gone =
+      ap (without (first_time (get_or runs at []))) pairs_at
+      ∙ without-middle (first_time (get_or runs at [])) (map partial_of (take at runs)) (map partial_of (drop (suc at) runs)) lower_at upper_at (bundle_of (values_of (get_or runs at [])))
+
+  pub partial_other : (q : List Kept) (b : Bundled) → first_time q ≡ first_time (get_or runs at []) → b ≡ bundle_of (values_of q) → replaced (first_time (get_or runs at [])) b (map partial_of runs) ≡ map partial_of (take at runs ++ q ∷ drop (suc at) runs)
+  partial_other q b first is =
+      ap (replaced (first_time (get_or runs at [])) b) pairs_at
+      ∙ replaced-middle (first_time (get_or runs at [])) (map partial_of (take at runs)) (map partial_of (drop (suc at) runs)) lower_at upper_at (bundle_of (values_of (get_or runs at []))) b
+      ∙ (λ i. map partial_of (take at runs) ++ (sym first i, is i) ∷ map partial_of (drop (suc at) runs))
+      ∙ sym (map-append partial_of (take at runs) (q ∷ drop (suc at) runs))
+
+-- a partial more
+module _ (before behind : List (List Kept)) (q : List Kept) (o : AreInOrder (before ++ q ∷ behind)) where
+  more_below : All (λ p. p.0 < first_time q) (map partial_of before)
+  more_below = firsts_below before q behind o
+
+  more_above : All (λ p. first_time q < p.0) (map partial_of behind)
+  more_above =
+      let b = behind_at before q behind o in
+      let f : first_time q ≤ last_time q = first_below_last q (part_at before q behind o) in
+      All-weaker (λ p. last_time q < p.0) (λ p. first_time q < p.0) (λ p l. omega arith) (map partial_of behind) (firsts_above q behind b.0 b.1)
+
+  pub more_absent : has_key (first_time q) (map partial_of before ++ map partial_of behind) ≡ false
+  more_absent = has_key-between (first_time q) (map partial_of before) (map partial_of behind) more_below more_above
+
+  pub more_there : (b : Bundled) → b ≡ bundle_of (values_of q) → inserted (first_time q) b (map partial_of before ++ map partial_of behind) ≡ map partial_of (before ++ q ∷ behind)
+  more_there b is =
+      inserted-parts (first_time q) (map partial_of before) (map partial_of behind) more_below b (All-weaker (λ p. first_time q < p.0) (λ p. first_time q ≤ p.0) (λ p l. omega arith) (map partial_of behind) more_above)
+      ∙ (λ i. map partial_of before ++ (first_time q, is i) ∷ map partial_of behind)
+      ∙ sym (map-append partial_of before (q ∷ behind))
+
+-- ---- the place of a tuple in a slice
+pub put_at_end : (p : List Kept) (x : Kept) → IsRun IsNear p → last_time p ≤ x.time → put_in_order p x ≡ p ++ x ∷ []
+put_at_end p x r l =
+    ap (λ q. put_in_order q x) (sym (append-nil p))
+    ∙ put_far p [] x (λ k d h. let g : (get_or p k d).time ≤ last_time p = run_below_last p r k d h in omega (arith, l))
+
+pub put_at_front : (q : List Kept) (x : Kept) → IsRun IsNear q → x.time < first_time q → put_in_order q x ≡ x ∷ q
+put_at_front [] x r l = absurd r
+put_at_front (y ∷ q) x r l = put_first y q x (lt-ltb x.time y.time l)
+
+pub put_in_front : (q : List Kept) (x : Kept) → IsRun IsNear q → x.time < first_time q → put_in_order q x ≡ x ∷ q
+put_in_front q x r l = put_at_front q x r l
+
+-- a tuple between two slices
+pub put_between : (p q : List Kept) (x : Kept) → IsRun IsNear p → IsRun IsNear q → last_time p ≤ x.time → x.time < first_time q → put_in_order (p ++ q) x ≡ p ++ x ∷ q
+put_between p q x r s low high =
+    put_far p q x (λ k d h. let g : (get_or p k d).time ≤ last_time p = run_below_last p r k d h in omega (arith, low))
+    ∙ ap (λ l. p ++ l) (put_at_front q x s high)
+
+first_behind : (p : List Kept) (x : Kept) → IsRun IsNear p → first_time p ≤ x.time → first_time (put_in_order p x) ≡ first_time p
+first_behind [] x r l = absurd r
+first_behind (y ∷ ys) x r l = ap first_time (put_behind y ys x (le-ltb x.time y.time l))
+
+-- ---- slices that are entered
+take_none : {X : Type 0} (xs : List X) → take 0 xs ≡ []
+take_none [] = refl
+take_none (x ∷ xs) = refl
+
+none_between : (at : ℕ) (runs : List (List Kept)) → slices_between at at runs ≡ []
+none_between at runs = ap (λ n. take n (drop at runs)) (let e : at - at ≡ 0 = omega arith in e) ∙ take_none (drop at runs)
+
+one_between : (at to : ℕ) (runs : List (List Kept)) → to ≡ at + 1 → at < length runs → joined (slices_between at to runs) ≡ get_or runs at []
+one_between at to runs e l =
+    ap joined (ap (λ n. take n (drop at runs)) (let h : to - at ≡ 1 = omega arith in h) ∙ ap (take 1) (drop-cons runs at [] l) ∙ ap (λ l. get_or runs at [] ∷ l) (take_none (drop (suc at) runs)))
+    ∙ append-nil (get_or runs at [])
+
+two_between : (at to : ℕ) (runs : List (List Kept)) → to ≡ at + 2 → suc at < length runs → joined (slices_between at to runs) ≡ get_or runs at [] ++ get_or runs (suc at) []
+two_between at to runs e l =
+    ap joined
+    (ap (λ n. take n (drop at runs)) (let h : to - at ≡ 2 = omega arith in h)
+    ∙ ap (take 2) (drop-cons runs at [] (omega arith) ∙ ap (λ l. get_or runs at [] ∷ l) (drop-cons runs (suc at) [] l))
+    ∙ ap (λ l. get_or runs at [] ∷ get_or runs (suc at) [] ∷ l) (take_none (drop (suc (suc at)) runs)))
+    ∙ ap (λ l. get_or runs at [] ++ l) (append-nil (get_or runs (suc at) []))
+
+pub entered_none : (at : ℕ) (x : Kept) (runs : List (List Kept)) → entered_at at at x runs ≡ take at runs ++ (x ∷ []) ∷ drop at runs
+entered_none at x runs = ap (λ l. take at runs ++ put_in_order (joined l) x ∷ drop at runs) (none_between at runs)
+
+pub entered_one : (at to : ℕ) (x : Kept) (runs : List (List Kept)) → to ≡ at + 1 → at < length runs → entered_at at to x runs ≡ take at runs ++ put_in_order (get_or runs at []) x ∷ drop (suc at) runs
+entered_one at to x runs e l =
+    (λ i. take at runs ++ put_in_order (one_between at to runs e l i) x ∷ drop to runs)
+    ∙ ap (λ n. take at runs ++ put_in_order (get_or runs at []) x ∷ drop n runs) (let h : to ≡ suc at = omega arith in h)
+
+pub entered_two : (at to : ℕ) (x : Kept) (runs : List (List Kept)) → to ≡ at + 2 → suc at < length runs → entered_at at to x runs ≡ take at runs ++ put_in_order (get_or runs at [] ++ get_or runs (suc at) []) x ∷ drop (suc (suc at)) runs
+entered_two at to x runs e l =
+    (λ i. take at runs ++ put_in_order (two_between at to runs e l i) x ∷ drop to runs)
+    ∙ ap (λ n. take at runs ++ put_in_order (get_or runs at [] ++ get_or runs (suc at) []) x ∷ drop n runs) (let h : to ≡ suc (suc at) = omega arith in h)
+
+-- the slice with it, as it is read
+pub entered_there : (runs : List (List Kept)) (at to : ℕ) (x : Kept) → to ≡ at + 1 → at < length runs → get_or (entered_at at to x runs) at [] ≡ put_in_order (get_or runs at []) x
+entered_there runs at to x e l =
+    ap (λ rs. get_or rs at []) (entered_one at to x runs e l)
+    ∙ ap (λ n. get_or (take at runs ++ put_in_order (get_or runs at []) x ∷ drop (suc at) runs) n []) (sym (let h : length (take at runs) ≡ at = omega (arith, length-take at runs) in h))
+    ∙ get_or-append_seam (take at runs) (put_in_order (get_or runs at []) x) (drop (suc at) runs) []
+
+-- and how many tuples it has
+pub refolded_length : (runs : List (List Kept)) (at to : ℕ) (x : Kept) → to ≡ at + 1 → at < length runs → length (put_in_order (get_or runs at []) x) ≡ length (joined (slices_between at to runs)) + 1
+refolded_length runs at to x e l = put_length (get_or runs at []) x ∙ ap (λ r. length r + 1) (sym (one_between at to runs e l))
+
+-- ---- what a tuple makes of the partials
+module _ (runs : List (List Kept)) (at to : ℕ) (x : Kept) (o : AreInOrder runs) (n : AreInOrder (entered_at at to x runs)) where
+  -- it is alone
+  module _ (e : to ≡ at) where
+    alone_is : entered_at at to x runs ≡ take at runs ++ (x ∷ []) ∷ drop at runs
+    alone_is = ap (λ t. entered_at at t x runs) e ∙ entered_none at x runs
+
+    alone_order : AreInOrder (take at runs ++ (x ∷ []) ∷ drop at runs)
+    alone_order = subst AreInOrder alone_is n
+
+    halves : map partial_of runs ≡ map partial_of (take at runs) ++ map partial_of (drop at runs)
+    halves = ap (map partial_of) (sym (take-append-drop at runs)) ∙ map-append partial_of (take at runs) (drop at runs)
+
+    pub alone_absent : has_key x.time (map partial_of runs) ≡ false
+    alone_absent = ap (has_key x.time) halves ∙ more_absent (take at runs) (drop at runs) (x ∷ []) alone_order
+
+    pub alone_there : (b : Bundled) → b ≡ bundle_of (x.value ∷ []) → inserted x.time b (map partial_of runs) ≡ map partial_of (entered_at at to x runs)
+    alone_there b is =
+        ap (inserted x.time b) halves
+        ∙ more_there (take at runs) (drop at runs) (x ∷ []) alone_order b is
+        ∙ ap (map partial_of) (sym alone_is)
+
+  -- it enters one slice
+  module _ (e : to ≡ at + 1) (l : at < length runs) where
+    one_is : entered_at at to x runs ≡ take at runs ++ put_in_order (get_or runs at []) x ∷ drop (suc at) runs
+    one_is = entered_one at to x runs e l
+
+    pub refolded_there : first_time (get_or runs at []) ≤ x.time → (b : Bundled) → b ≡ bundle_of (values_of (put_in_order (get_or runs at []) x)) → replaced (first_time (get_or runs at [])) b (map partial_of runs) ≡ map partial_of (entered_at at to x runs)
+    refolded_there late b is =
+        partial_other runs at l o (put_in_order (get_or runs at []) x) b (first_behind (get_or runs at []) x (run_of runs at l o) late) is
+        ∙ ap (map partial_of) (sym one_is)
+
+    pub extended_there : last_time (get_or runs at []) ≤ x.time → (b : Bundled) → b ≡ bundle_of (values_of (get_or runs at []) ++ x.value ∷ []) → replaced (first_time (get_or runs at [])) b (map partial_of runs) ≡ map partial_of (entered_at at to x runs)
+    extended_there late b is =
+        let p = get_or runs at [] in
+        let r : IsRun IsNear p = run_of runs at l o in
+        let f : first_time p ≤ last_time p = first_below_last p r in
+        refolded_there (omega arith) b
+        (is ∙ ap bundle_of (sym (ap values_of (put_at_end p x r late) ∙ map-append (λ (y : Kept). y.value) p (x ∷ []))))
+
+    module _ (early : x.time < first_time (get_or runs at [])) where
+      front_is : entered_at at to x runs ≡ take at runs ++ (x ∷ get_or runs at []) ∷ drop (suc at) runs
+      front_is = one_is ∙ ap (λ q. take at runs ++ q ∷ drop (suc at) runs) (put_at_front (get_or runs at []) x (run_of runs at l o) early)
+
+      front_order : AreInOrder (take at runs ++ (x ∷ get_or runs at []) ∷ drop (suc at) runs)
+      front_order = subst AreInOrder front_is n
+
+      pub fronted_absent : has_key x.time (without (first_time (get_or runs at [])) (map partial_of runs)) ≡ false
+      fronted_absent = ap (has_key x.time) (partial_gone runs at l o) ∙ more_absent (take at runs) (drop (suc at) runs) (x ∷ get_or runs at []) front_order
+
+      pub fronted_there : (b : Bundled) → b ≡ bundle_of (x.value ∷ values_of (get_or runs at [])) → inserted x.time b (without (first_time (get_or runs at [])) (map partial_of runs)) ≡ map partial_of (entered_at at to x runs)
+      fronted_there b is =
+          ap (inserted x.time b) (partial_gone runs at l o)
+          ∙ more_there (take at runs) (drop (suc at) runs) (x ∷ get_or runs at []) front_order b is
+          ∙ ap (map partial_of) (sym front_is)
+
+  -- it joins two slices
+  module _ (e : to ≡ at + 2) (l : suc at < length runs) where
+    abbrev fewer : List (List Kept)
+    fewer = take at runs ++ get_or runs at [] ∷ drop (suc (suc at)) runs
+
+    in_pair : runs ≡ take at runs ++ get_or runs at [] ∷ get_or runs (suc at) [] ∷ drop (suc (suc at)) runs
+    in_pair = in_parts runs at (omega arith) ∙ ap (λ l. take at runs ++ get_or runs at [] ∷ l) (drop-cons runs (suc at) [] l)
+
+    order_pair : AreInOrder (take at runs ++ get_or runs at [] ∷ get_or runs (suc at) [] ∷ drop (suc (suc at)) runs)
+    order_pair = subst AreInOrder in_pair o
+
+    -- the pairs without that of the second
+    next_gone : without (first_time (get_or runs (suc at) [])) (map partial_of runs) ≡ map partial_of (take at runs) ++ partial_of (get_or runs at []) ∷ map partial_of (drop (suc (suc at)) runs)
+    next_gone =
+        partial_gone runs (suc at) l o
+        ∙ ap (λ l. map partial_of l ++ map partial_of (drop (suc (suc at)) runs)) (take-suc runs at [] (omega arith))
+        ∙ ap (λ l. l ++ map partial_of (drop (suc (suc at)) runs)) (map-append partial_of (take at runs) (get_or runs at [] ∷ []))
+        ∙ append_assoc (map partial_of (take at runs)) (partial_of (get_or runs at []) ∷ []) (map partial_of (drop (suc (suc at)) runs))
+
+    low_pairs : All (λ p. p.0 < first_time (get_or runs at [])) (map partial_of (take at runs))
+    low_pairs = lower_at runs at (omega arith) o
+
+    high_pairs : All (λ p. first_time (get_or runs at []) < p.0) (map partial_of (drop (suc (suc at)) runs))
+    high_pairs =
+        let f : first_time (get_or runs at []) < first_time (get_or runs (suc at) []) = firsts_rise in
+        All-weaker (λ p. first_time (get_or runs (suc at) []) < p.0) (λ p. first_time (get_or runs at []) < p.0) (λ p l. omega arith) (map partial_of (drop (suc (suc at)) runs)) (upper_at runs (suc at) l o)
+      where
+        firsts_rise : first_time (get_or runs at []) < first_time (get_or runs (suc at) [])
+        firsts_rise =
+            let b = behind_at (take at runs) (get_or runs at []) (get_or runs (suc at) [] ∷ drop (suc (suc at)) runs) order_pair in
+            let g : last_time (get_or runs at []) < first_time (get_or runs (suc at) []) = b.0 in
+            let f : first_time (get_or runs at []) ≤ last_time (get_or runs at []) = first_below_last (get_or runs at []) (run_of runs at (omega arith) o) in
+            omega arith
+
+    pub merged_there : has_key (first_time (get_or runs at [])) (without (first_time (get_or runs (suc at) [])) (map partial_of runs)) ≡ true
+    merged_there =
+        ap (has_key (first_time (get_or runs at []))) next_gone
+        ∙ has_key-middle (first_time (get_or runs at [])) (map partial_of (take at runs)) (map partial_of (drop (suc (suc at)) runs)) low_pairs high_pairs (bundle_of (values_of (get_or runs at [])))
+
+    pub merged_is : last_time (get_or runs at []) ≤ x.time → x.time < first_time (get_or runs (suc at) []) → (b : Bundled) → b ≡ bundle_of ((values_of (get_or runs at []) ++ x.value ∷ []) ++ values_of (get_or runs (suc at) []))
+        → replaced (first_time (get_or runs at [])) b (without (first_time (get_or runs (suc at) [])) (map partial_of runs)) ≡ map partial_of (entered_at at to x runs)
+    merged_is low high b is =
+        let p = get_or runs at [] in
+        let q = get_or runs (suc at) [] in
+        let r : IsRun IsNear p = run_of runs at (omega arith) o in
+        let s : IsRun IsNear q = run_of runs (suc at) l o in
+        let put : put_in_order (p ++ q) x ≡ p ++ x ∷ q = put_between p q x r s low high in
+        let values : (values_of p ++ x.value ∷ []) ++ values_of q ≡ values_of (p ++ x ∷ q) = append_assoc (values_of p) (x.value ∷ []) (values_of q) ∙ sym (map-append (λ (y : Kept). y.value) p (x ∷ q)) in
+        ap (replaced (first_time p) b) next_gone
+        ∙ replaced-middle (first_time p) (map partial_of (take at runs)) (map partial_of (drop (suc (suc at)) runs)) low_pairs high_pairs (bundle_of (values_of p)) b
+        ∙ (λ i. map partial_of (take at runs) ++ (sym (first_of_both p (x ∷ q) r) i, (is ∙ ap bundle_of values) i) ∷ map partial_of (drop (suc (suc at)) runs))
+        ∙ sym (map-append partial_of (take at runs) ((p ++ x ∷ q) ∷ drop (suc (suc at)) runs))
+        ∙ ap (λ l. map partial_of (take at runs ++ l ∷ drop (suc (suc at)) runs)) (sym put)
+        ∙ ap (map partial_of) (sym (entered_two at to x runs e l))

@@ -1,0 +1,86 @@
+-- The place of a slice among all tuples.
+use Rattle.std.proofs.Common.{◌≡◌, ◌∙◌, ℕ, suc, ◌+◌, ◌<◌, ◌≤◌, List, [], ◌∷◌, ◌++◌, length, get_or, take, drop, ap, sym, refl, subst, arith, inl, inr}
+use Rattle.std.specs.List.{All, flat_map}
+use Rattle.std.proofs.lemmas.Bool.{cases_lt}
+use Rattle.std.proofs.lemmas.List.{length-append, get_or_append_left}
+use Rattle.std.proofs.lemmas.List.Concat.{flat_map-append}
+use Rattle.std.proofs.lemmas.List.Elements.{All-append, All-weaker}
+use Rattle.std.proofs.Math.Seq.{split_at}
+use Rattle.stream_base.specs.declared.kept.Kept.{Kept}
+use Rattle.stream_base.specs.Model.Windows.{first_time, last_time}
+use Rattle.window_laws.specs.Runs.{AreInOrder, IsRun}
+use Rattle.slice_store.specs.declared.slice.Slice.{Slice}
+use Rattle.slice_store.specs.Places.{IsPlaceOf}
+use Rattle.slice_store.specs.Slices.{joined, slice_of}
+use Rattle.slice_store.proofs.PlaceFacts.{some_tuple}
+use Rattle.slice_store.proofs.SliceEdits.{drop_own, take_own}
+use Rattle.slice_store.proofs.SliceOrder.{IsNear, above_slice, behind_at, below_slice, first_below_last, part_at, run_above_first}
+
+-- so many lie before a time as the first of two parts has
+pub place_between : (xs ys : List Kept) (time place : ℕ) → All (λ x. x.time < time) xs → All (λ y. time ≤ y.time) ys → IsPlaceOf (λ x. x.time) (xs ++ ys) time place → place ≡ length xs
+place_between xs ys time place low high h =
+    let n : length (xs ++ ys) ≡ length xs + length ys = length-append xs ys in
+    elim (cases_lt place (length xs)) [
+      | inl l ↦ absurd (
+        let a : (get_or xs place some_tuple).time < time = low place some_tuple l in
+        let b : time ≤ (get_or (xs ++ ys) place some_tuple).time = h.behind place some_tuple (omega arith) (omega (arith, n)) in
+        omega (arith, a, b, ap (λ (x : Kept). x.time) (get_or_append_left xs ys some_tuple place l)))
+      | inr l ↦ elim (cases_lt (length xs) place) [
+        | inl m ↦ absurd (
+          let inside : 0 < length ys = omega (arith, n, h.within) in
+          let a : time ≤ (get_or ys 0 some_tuple).time = high 0 some_tuple inside in
+          let b : (get_or (xs ++ ys) (length xs) some_tuple).time < time = h.before (length xs) some_tuple (omega arith) m in
+          omega (arith, a, b, ap (λ (x : Kept). x.time) (first_behind xs ys)))
+        | inr m ↦ omega arith
+      ]
+    ]
+  where
+    first_behind : (xs ys : List Kept) → get_or (xs ++ ys) (length xs) some_tuple ≡ get_or ys 0 some_tuple
+    first_behind [] ys = refl
+    first_behind (x ∷ xs) ys = first_behind xs ys
+
+-- a slice among the others
+pub in_parts : (runs : List (List Kept)) (at : ℕ) → at < length runs → runs ≡ take at runs ++ get_or runs at [] ∷ drop (suc at) runs
+in_parts runs at l = split_at runs at [] l
+
+pub joined_parts : (runs : List (List Kept)) (at : ℕ) → at < length runs → joined runs ≡ joined (take at runs) ++ (get_or runs at [] ++ joined (drop (suc at) runs))
+joined_parts runs at l =
+    ap joined (in_parts runs at l) ∙ flat_map-append (λ (run : List Kept). run) (take at runs) (get_or runs at [] ∷ drop (suc at) runs)
+
+-- what stands from a slice on begins no earlier than it
+from_slice : (before : List (List Kept)) (p : List Kept) (behind : List (List Kept)) → AreInOrder (before ++ p ∷ behind) → All (λ y. first_time p ≤ y.time) (p ++ joined behind)
+from_slice before p behind o =
+    let r : IsRun IsNear p = part_at before p behind o in
+    let f : first_time p ≤ last_time p = first_below_last p r in
+    let b = behind_at before p behind o in
+    All-append (λ y. first_time p ≤ y.time) p (joined behind) (run_above_first p r)
+    (All-weaker (λ (y : Kept). last_time p < y.time) (λ y. first_time p ≤ y.time) (λ y l. omega arith) (joined behind) (above_slice p behind b.0 b.1))
+
+module _ (runs : List (List Kept)) (at start : ℕ) (tuples : List Kept) (l : at < length runs) (o : AreInOrder runs) (e : joined runs ≡ tuples) (h : IsPlaceOf (λ x. x.time) tuples (first_time (get_or runs at [])) start) where
+  abbrev before : List Kept
+  before = joined (take at runs)
+
+  abbrev run : List Kept
+  run = get_or runs at []
+
+  abbrev behind : List Kept
+  behind = joined (drop (suc at) runs)
+
+  there : tuples ≡ joined (take at runs) ++ (get_or runs at [] ++ joined (drop (suc at) runs))
+  there = sym e ∙ joined_parts runs at l
+
+  pub start_is : start ≡ length (joined (take at runs))
+  start_is =
+      let order = subst AreInOrder (in_parts runs at l) o in
+      place_between before (run ++ behind) (first_time run) start (below_slice (take at runs) run (drop (suc at) runs) order) (from_slice (take at runs) run (drop (suc at) runs) order)
+      (subst (λ ts. IsPlaceOf (λ x. x.time) ts (first_time run) start) there h)
+
+  pub part_within : start + length (get_or runs at []) ≤ length tuples
+  part_within = omega (arith, start_is, ap length there, length-append before (run ++ behind), length-append run behind)
+
+  pub part_is : take (length (get_or runs at [])) (drop start tuples) ≡ get_or runs at []
+  part_is =
+      ap (λ ts. take (length run) (drop start ts)) there
+      ∙ ap (λ n. take (length run) (drop n (before ++ (run ++ behind)))) start_is
+      ∙ ap (take (length run)) (drop_own before (run ++ behind))
+      ∙ take_own run behind

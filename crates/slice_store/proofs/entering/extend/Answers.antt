@@ -1,0 +1,43 @@
+-- The partial of the slice is combined with the tuple behind it.
+use Rattle.std.proofs.Common.{◌≡◌, ◌∙◌, ◌<◌, ◌≤◌, ◌+◌, ℕ, [], ◌∷◌, ◌++◌, Some, ap, sym, map, refl, subst, arith, length, get_or}
+use Rattle.std.specs.Prelude.{FitsSigned}
+use Rattle.std.specs.Int.{w64}
+use Rattle.std.specs.List.{All}
+use Rattle.std.proofs.lemmas.List.Elements.{All-cons, All-nil}
+use Rattle.stream_base.specs.Model.Windows.{first_time}
+use Rattle.agg_laws.specs.Bundled.{bundle_of}
+use Rattle.agg_laws.specs.Pairs.{has_key, replaced, value_at}
+use Rattle.slice_store.specs.declared.slice.Slice.{Slice}
+use Rattle.slice_store.specs.Slices.{values_of}
+use Rattle.slice_store.specs.Stored.{partial_of}
+use Rattle.slice_store.proofs.PartialFacts.{ends_in_time, extended_there, partial_found, partial_is_value, partial_there, values_at}
+use Rattle.slice_store.proofs.entering.extend.Goals as goal
+
+pub read-own-requires : goal.read-own-requires
+read-own-requires g c =
+    let l : c.args.at < length c.args.runs.now.slices = omega (arith, c.requires.can.within) in
+    omega (arith, ap (λ (s : Slice). s.low) c.slice-low.ensures.shown, (ends_in_time c.args.runs.now.slices c.args.at l c.slice-low.ensures.holds).0)
+
+pub set-requires : goal.set-requires
+set-requires g c =
+    let l : c.args.at < length c.args.runs.now.slices = omega (arith, c.requires.can.within) in
+    ap (λ (s : Slice). has_key s.low (g.T.AggTree.pairs c.args.partials.now)) c.slice-low.ensures.shown
+    ∙ ap (has_key (first_time (get_or c.args.runs.now.slices c.args.at []))) c.requires.stand
+    ∙ partial_there c.args.runs.now.slices c.args.at l c.slice-low.ensures.holds.ordered
+
+pub returns-clause-stand : goal.returns-clause-stand
+returns-clause-stand g c =
+    let runs = c.args.runs.now.slices in
+    let p = get_or runs c.args.at [] in
+    let l : c.args.at < length runs = omega (arith, c.requires.can.within) in
+    let found : value_at c.slice-low.result.low (g.T.AggTree.pairs c.args.partials.now) ≡ Some (bundle_of (values_of p)) =
+    ap (λ (s : Slice). value_at s.low (g.T.AggTree.pairs c.args.partials.now)) c.slice-low.ensures.shown
+    ∙ ap (value_at (first_time p)) c.requires.stand
+    ∙ partial_found runs c.args.at l c.slice-low.ensures.holds.ordered in
+    let own : c.read-own.result ≡ bundle_of (values_of p) = c.read-own.ensures.value (bundle_of (values_of p)) (partial_is_value runs c.args.at l c.slice-low.ensures.holds) found in
+    let both : c.combine-bundle.result ≡ bundle_of (values_of p ++ (c.args.x).value ∷ []) =
+    c.combine-bundle.ensures.joined (values_of p) ((c.args.x).value ∷ []) (values_at runs c.args.at l c.slice-low.ensures.holds) (All-cons (FitsSigned w64) (c.args.x).value [] c.requires.can.value (All-nil (FitsSigned w64))) own c.lifted.ensures in
+    c.set.ensures.replaced
+    ∙ (λ i. replaced (ap (λ (s : Slice). s.low) c.slice-low.ensures.shown i) c.combine-bundle.result (c.requires.stand i))
+    ∙ extended_there runs c.args.at (c.args.at + 1) c.args.x c.slice-low.ensures.holds.ordered c.requires.can.ordered refl l c.requires.late c.combine-bundle.result both
+    ∙ ap (map partial_of) (sym c.enter.ensures.slices)

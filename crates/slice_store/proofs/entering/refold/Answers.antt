@@ -1,0 +1,37 @@
+-- The partial of the slice is that of its tuples, with the new one among them.
+use Rattle.std.proofs.Common.{◌≡◌, ◌∙◌, ◌<◌, ◌≤◌, ◌+◌, ℕ, [], ap, sym, map, refl, arith, length, get_or}
+use Rattle.stream_base.specs.Model.Journal.{put_in_order}
+use Rattle.stream_base.specs.Model.Windows.{first_time}
+use Rattle.agg_laws.specs.Bundled.{bundle_of}
+use Rattle.agg_laws.specs.Pairs.{has_key, replaced}
+use Rattle.slice_store.specs.declared.slice.Slice.{Slice}
+use Rattle.slice_store.specs.Slices.{values_of}
+use Rattle.slice_store.specs.Stored.{partial_of}
+use Rattle.slice_store.proofs.PartialFacts.{entered_there, partial_there, refolded_length, refolded_there}
+use Rattle.slice_store.proofs.entering.refold.Goals as goal
+
+pub set-requires : goal.set-requires
+set-requires g c =
+    let l : c.args.at < length c.args.runs.now.slices = omega (arith, c.requires.can.within) in
+    ap (λ (s : Slice). has_key s.low (g.T.AggTree.pairs c.args.partials.now)) c.slice-low.ensures.shown
+    ∙ ap (has_key (first_time (get_or c.args.runs.now.slices c.args.at []))) c.requires.stand
+    ∙ partial_there c.args.runs.now.slices c.args.at l c.slice-low.ensures.holds.ordered
+
+pub returns-clause-stand : goal.returns-clause-stand
+returns-clause-stand g c =
+    let runs = c.args.runs.now.slices in
+    let l : c.args.at < length runs = omega (arith, c.requires.can.within) in
+    let own : c.tuples_of.result.now ≡ put_in_order (get_or runs c.args.at []) c.args.x =
+    c.tuples_of.ensures ∙ ap (λ rs. get_or rs c.args.at []) c.enter.ensures.slices ∙ entered_there runs c.args.at (c.args.at + 1) c.args.x refl l in
+    c.set.ensures.replaced
+    ∙ (λ i. replaced (ap (λ (s : Slice). s.low) c.slice-low.ensures.shown i) c.folded-bundle.result (c.requires.stand i))
+    ∙ refolded_there runs c.args.at (c.args.at + 1) c.args.x c.slice-low.ensures.holds.ordered c.requires.can.ordered refl l c.requires.late c.folded-bundle.result (c.folded-bundle.ensures.value ∙ ap (λ ts. bundle_of (values_of ts)) own)
+    ∙ ap (map partial_of) (sym c.enter.ensures.slices)
+
+pub returns-clause-cost : goal.returns-clause-cost
+returns-clause-cost g c =
+    let runs = c.args.runs.now.slices in
+    let l : c.args.at < length runs = omega (arith, c.requires.can.within) in
+    let own : c.tuples_of.result.now ≡ put_in_order (get_or runs c.args.at []) c.args.x =
+    c.tuples_of.ensures ∙ ap (λ rs. get_or rs c.args.at []) c.enter.ensures.slices ∙ entered_there runs c.args.at (c.args.at + 1) c.args.x refl l in
+    omega (arith, c.folded-bundle.ensures.cost, ap length own, refolded_length runs c.args.at (c.args.at + 1) c.args.x refl l, c.set.ensures.cost)

@@ -1,0 +1,46 @@
+-- What a store of slices is in contracts.
+use Rattle.std.specs.Prelude.{◌≡◌, ℕ, List, map}
+use Rattle.std.specs.List.Sorted.{IsStrictlyIncreasing}
+use Rattle.stream_base.specs.declared.def.Def.{Def}
+use Rattle.stream_base.specs.declared.kept.Kept.{Kept}
+use Rattle.stream_base.specs.Model.Slices.{runs_of}
+use Rattle.stream_base.specs.Model.Windows.{first_time}
+use Rattle.agg_laws.specs.Bundled.{Bundled, bundle_of}
+use Rattle.slice_store.specs.Slices.{AreSlices, joined, values_of}
+
+-- the slices of a key, oldest first; its marks, rising; the greatest time up to which slices were dropped; for how many more tuples or marks there is room; and what the bounds on steps go by
+pub record Stored : Type 0 where
+  pub slices : List (List Kept)
+  pub marks : List ℕ
+  pub dropped : ℕ
+  pub spare : ℕ
+  pub reach : ℕ
+
+-- the tuples, in event order
+abbrev pub tuples_of : Stored → List Kept
+tuples_of s = joined s.slices
+
+-- the slices are exactly those of the tuples under the windows and the marks
+abbrev pub IsSliced : List Def → Stored → Type 0
+IsSliced windows s = s.slices ≡ runs_of windows s.marks (tuples_of s)
+
+-- what holds of every store
+pub record IsStore (s : Stored) : Type 0 where
+  pub slices : AreSlices s.slices
+  pub marks : IsStrictlyIncreasing s.marks
+
+-- the partial of a slice, under the time of its first tuple
+abbrev pub partial_of : List Kept → ℕ × Bundled
+partial_of run = (first_time run, bundle_of (values_of run))
+
+-- what a store keeps of its parts: the marks rise, and under the time of its first tuple stands the partial of each slice
+pub record AreInside (slices : List (List Kept)) (marks : List ℕ) (pairs : List (ℕ × Bundled)) : Type 0 where
+  pub rising : IsStrictlyIncreasing marks
+  pub partials : pairs ≡ map partial_of slices
+
+-- only room differs
+pub record IsAsBefore (old new : Stored) : Type 0 where
+  pub slices : new.slices ≡ old.slices
+  pub marks : new.marks ≡ old.marks
+  pub dropped : new.dropped ≡ old.dropped
+  pub reach : new.reach ≡ old.reach

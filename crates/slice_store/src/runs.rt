@@ -1,0 +1,130 @@
+//! Tuples in event order, parted into slices.
+ghost use Rattle.std.specs.Prelude.{◌≡◌, ◌≤◌, ◌<◌, ◌+◌, ◌-◌, ◌++◌, ◌∷◌, [], length, take, drop, filter, slice_index_or, nat_le, nat_lt, OnOk, FitsSigned};
+ghost use Rattle.std.specs.Int.{w64};
+ghost use Rattle.stream_base.specs.declared.limits.TheConstants.{TIME_MAX};
+ghost use Rattle.stream_base.specs.Model.Windows.{first_time, last_time};
+ghost use Rattle.window_laws.specs.Runs.{AreInOrder, IsAligned};
+ghost use Rattle.slice_store.specs.Entered.{slices_from};
+ghost use Rattle.slice_store.specs.Places.{IsPlaceOf};
+ghost use Rattle.slice_store.specs.Slices.{AreSlices, CanEnter, entered_at, joined, slice_of, split_at};
+
+use crate::bounds::enter_bounds;
+use crate::places::{are_by, place_of, slices_before, slices_up_to, tuples_before};
+use crate::slice::Slice;
+use std::alloc::Global;
+use std::marker::Model;
+use stream_base::{Kept, NoMemory};
+
+/// Tuples in event order in one list, and beside it the bounds of each slice. Contracts see the
+/// slices as lists of tuples, and for how many more tuples there is room.
+#[derive(Drop)]
+pub struct Runs {
+    tuples: Vec<Kept>,
+    bounds: Vec<Slice>,
+}
+
+impl Model for Runs {
+    ghost use Rattle.slice_store.specs.Slices.{Sliced};
+
+    ghost Value = { Sliced };
+
+    ghost use Rattle.slice_store.specs.Inside.{sliced, IsKept};
+
+    ghost view = { sliced };
+
+    ghost invariant = { IsKept };
+}
+
+impl Runs {
+    /// No tuple.
+    pub fn new(alloc: Global) -> Runs
+        ensures { (result).slices ≡ [] }
+    {
+        Runs {
+            tuples: Vec::new(alloc),
+            bounds: Vec::new(alloc),
+        }
+    }
+
+    /// Makes room for one tuple more.
+    pub fn reserve(&mut self) -> Result<(), NoMemory>
+        ensures room { OnOk result (1 ≤ (self.new).spare) }
+        ensures spare { (self.old).spare ≤ (self.new).spare }
+        ensures kept { (self.new).slices ≡ (self.old).slices }
+    {
+        self.tuples.reserve(1)?;
+        self.bounds.reserve(1)?;
+        Ok(())
+    }
+
+    /// How many slices there are.
+    pub fn len(&self) -> usize
+        ensures count { result ≡ length (self.now).slices }
+        ensures holds { AreSlices (self.now).slices }
+    {
+        self.bounds.len()
+    }
+
+    /// How many slices begin at or before a time.
+    pub fn up_to(&self, time: u64) -> usize
+        requires { time ≤ TIME_MAX }
+        ensures place { IsPlaceOf first_time (self.now).slices (time + 1) result }
+        ensures holds { AreSlices (self.now).slices }
+    {
+        slices_up_to(&self.bounds, time)
+    }
+
+    /// How many slices begin before a time.
+    pub fn before(&self, time: u64) -> usize
+        ensures place { IsPlaceOf first_time (self.now).slices time result }
+        ensures holds { AreSlices (self.now).slices }
+    {
+        slices_before(&self.bounds, time)
+    }
+
+    /// A slice, as it shows.
+    pub fn slice(&self, at: usize) -> Slice
+        requires { at < length (self.now).slices }
+        ensures shown { result ≡ slice_of (slice_index_or (self.now).slices at []) }
+        ensures holds { AreSlices (self.now).slices }
+    {
+        self.bounds[at]
+    }
+
+    /// Whether no tuple is of a later time.
+    pub fn are_by(&self, time: u64) -> bool
+        ensures { result ≡ nat_le (last_time (joined (self.now).slices)) time }
+    {
+        are_by(&self.tuples, time)
+    }
+
+    /// The tuples of a slice.
+    pub fn tuples_of(&self, at: usize) -> &[Kept]
+        requires { at < length (self.now).slices }
+        ensures { result.now ≡ slice_index_or (self.now).slices at [] }
+    {
+        let slice = self.bounds[at];
+        let start = tuples_before(&self.tuples, slice.low);
+        part(&self.tuples, start, slice.number as usize)
+    }
+
+    /// Puts a tuple in its place, where the slices from one place up to another become one with it.
+    pub fn enter(&mut self, from: usize, to: usize, x: Kept)
+        requires { CanEnter from to x self.old }
+        ensures slices { (self.new).slices ≡ entered_at from to x (self.old).slices }
+        ensures spare { (self.old).spare ≤ (self.new).spare + 1 }
+    {
+        let place = place_of(&self.tuples, x.time);
+        self.tuples.insert(place, x).unwrap();
+        let _count = self.tuples.len();
+        enter_bounds(&mut self.bounds, from, to, x.time);
+    }
+}
+
+// So many tuples from a place on.
+fn part(tuples: &[Kept], start: usize, number: usize) -> &[Kept]
+    requires { start + number ≤ length tuples.now }
+    ensures { result.now ≡ take number (drop start tuples.now) }
+{
+    &tuples[start..start + number]
+}

@@ -1,0 +1,157 @@
+//! The store of a key's slices.
+ghost use Rattle.std.specs.Prelude.{◌≡◌, ◌≤◌, ◌<◌, ◌+◌, ◌*◌, List, [], length, filter, find, map, max, nat_le, nat_lt, OnOk, FitsSigned};
+ghost use Rattle.std.specs.Int.{w64};
+ghost use Rattle.std.specs.BTreeSet.{insert_key};
+ghost use Rattle.std.specs.List.{flat_map, list_any};
+ghost use Rattle.std.specs.Option.{option_map};
+ghost use Rattle.std.specs.Ordering.{nat_cmp};
+ghost use Rattle.stream_base.specs.declared.def.Def.{Def};
+ghost use Rattle.stream_base.specs.declared.kept.Kept.{Kept};
+ghost use Rattle.stream_base.specs.declared.limits.TheConstants.{TIME_MAX};
+ghost use Rattle.stream_base.specs.Model.Journal.{put_in_order};
+ghost use Rattle.stream_base.specs.Model.Windows.{first_time, within};
+ghost use Rattle.agg_laws.specs.Bundled.{bundle_of};
+ghost use Rattle.window_laws.specs.Runs.{IsAligned, parted_at, runs_within};
+ghost use Rattle.slice_store.specs.Entered.{IsPut, is_across, is_last, marks_left, placed_in, slices_from, slices_near};
+ghost use Rattle.slice_store.specs.Slices.{joined, kept_at, slice_of, values_of};
+ghost use Rattle.slice_store.specs.Stored.{IsAsBefore, IsSliced, IsStore, tuples_of};
+
+use crate::cuts::{first_entered, last_entered};
+use crate::entering::enter;
+use crate::placed::Placed;
+use crate::runs::Runs;
+use agg_laws::{AggTree, Bundle, Steps};
+use std::alloc::Global;
+use std::marker::Model;
+use stream_base::{Defs, Kept, NoMemory};
+
+/// The slices of one key, with a partial aggregate for each in a tree. Contracts see the slices as
+/// lists of tuples, the marks, up to which time slices were dropped, and for how many more tuples or
+/// marks there is room; they see what the bounds on steps go by, which is the reach of the tree.
+///
+/// The definitions that a call is handed are those of every call before it: that the slices are
+/// theirs is a condition of `put` and `mark`, and each of them says it again.
+#[derive(Drop)]
+pub struct SliceStore<T: AggTree<Bundle>> {
+    runs: Runs,
+    marks: Vec<u64>,
+    dropped: u64,
+    partials: T,
+}
+
+impl<T: AggTree<Bundle>> Model for SliceStore<T> {
+    ghost use Rattle.std.specs.Prelude.{◌-◌, min, vec_len, vec_capacity};
+    ghost use Rattle.slice_store.specs.Stored.{Stored, AreInside};
+
+    ghost Value = { Stored };
+
+    ghost view = { λ s. record {
+      slices = s.runs.slices;
+      marks = s.marks.items;
+      dropped = s.dropped;
+      spare = min (min s.runs.spare (vec_capacity s.marks - vec_len s.marks)) (T.spare s.partials);
+      reach = T.reach s.partials;
+    } };
+
+    ghost invariant = { λ s. AreInside s.runs.slices s.marks.items (T.pairs s.partials) };
+}
+
+impl<T: AggTree<Bundle>> SliceStore<T> {
+    /// No tuple and no mark.
+    pub fn new(alloc: Global) -> SliceStore<T>
+        ensures slices { (result).slices ≡ [] }
+        ensures marks { (result).marks ≡ [] }
+        ensures dropped { (result).dropped ≡ 0 }
+        ensures reach { (result).reach ≡ 0 }
+        ensures sliced { (windows : List Def) → IsSliced windows result }
+    {
+        SliceStore {
+            runs: Runs::new(alloc),
+            marks: Vec::new(alloc),
+            dropped: 0,
+            partials: T::fresh(alloc),
+        }
+    }
+
+    /// Makes room for one tuple or mark more.
+    pub fn reserve(&mut self) -> Result<(), NoMemory>
+        ensures room { OnOk result (1 ≤ self.new.spare) }
+        ensures spare { self.old.spare ≤ self.new.spare }
+        ensures kept { IsAsBefore self.old self.new }
+    {
+        self.runs.reserve()?;
+        self.marks.reserve(1)?;
+        self.partials.reserve(1)?;
+        Ok(())
+    }
+
+    /// Puts a tuple in its place in event order, behind those of its time, and says what that did to
+    /// the slices. It enters the slices that it is near to: in none it becomes a slice of its own,
+    /// and two neighbours become one with it. Work is done on the tuples of a slice only where it
+    /// comes between two of them.
+    pub fn put<L>(
+        &mut self,
+        defs: &Defs,
+        pos: u64,
+        time: u64,
+        value: i64,
+        steps: &mut Steps<L>,
+    ) -> Placed
+        requires room { 1 ≤ self.old.spare }
+        requires time { time ≤ TIME_MAX }
+        requires sliced { IsSliced defs.now.windows self.old }
+        ensures sliced { IsSliced defs.now.windows self.new }
+        ensures tuples { tuples_of self.new
+            ≡ put_in_order (tuples_of self.old) (kept_at pos time value) }
+        ensures put { IsPut defs.now.windows self.old (kept_at pos time value) self.new }
+        ensures answer { result
+            ≡ placed_in (slices_near defs.now.windows time self.old) (is_last time self.old) }
+        ensures marks { self.new.marks ≡ self.old.marks }
+        ensures dropped { self.new.dropped ≡ self.old.dropped }
+        ensures spare { self.old.spare ≤ self.new.spare + 1 }
+        ensures reach { self.new.reach ≤ self.old.reach + 1 }
+        ensures cost { steps.new ≤ steps.old + (128 * (self.old.reach + 3)
+            + length (joined (slices_near defs.now.windows time self.old))) }
+    {
+        let _windows = defs.windows();
+        let at = self.runs.up_to(time);
+        let from = first_entered(&self.runs, defs, &self.marks, at, time);
+        let to = last_entered(&self.runs, defs, &self.marks, at, time);
+        let last = self.runs.are_by(time);
+        let x = kept_at(pos, time, value);
+        enter(&mut self.runs, &mut self.partials, from, to, x, steps);
+        placed_in(to - from, last)
+    }
+
+    /// How many slices there are.
+    pub fn slice_count(&self) -> u64
+        ensures count { result ≡ length self.now.slices }
+        ensures holds { IsStore self.now }
+    {
+        self.runs.len() as u64
+    }
+}
+
+fn kept_at(position: u64, time: u64, value: i64) -> Kept
+    ensures kept { result ≡ kept_at position time value }
+    ensures fits { FitsSigned w64 result.value }
+{
+    Kept {
+        position,
+        time,
+        value,
+    }
+}
+
+// How a tuple is placed that enters so many slices.
+fn placed_in(entered: usize, last: bool) -> Placed
+    ensures { (slices : List (List Kept)) → length slices ≡ entered
+        → result ≡ placed_in slices last }
+{
+    match entered {
+        0 => Placed::Added,
+        1 if last => Placed::Appended,
+        1 => Placed::Joined,
+        _ => Placed::Merged,
+    }
+}
