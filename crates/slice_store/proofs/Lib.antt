@@ -9,3 +9,4 @@ pub mod PartialFacts
 pub mod EnterFacts
 pub mod NearFacts
 pub mod PutFacts
+pub mod FoldFacts

@@ -20,7 +20,8 @@ use crate::cuts::{first_entered, last_entered};
 use crate::entering::enter;
 use crate::placed::Placed;
 use crate::runs::Runs;
-use agg_laws::{AggTree, Bundle, Steps};
+use crate::slice::Slice;
+use agg_laws::{AggTree, Bundle, Probes, Steps};
 use std::alloc::Global;
 use std::marker::Model;
 use stream_base::{Defs, Kept, NoMemory};
@@ -123,12 +124,40 @@ impl<T: AggTree<Bundle>> SliceStore<T> {
         placed_in(to - from, last)
     }
 
+    /// The fold of the tuples with `low <= time < high` in event order, from the partials of their
+    /// slices. No slice has tuples on both sides of either time.
+    pub fn fold<L>(&self, low: u64, high: u64, steps: &mut Steps<L>) -> Bundle
+        requires low { IsAligned self.now.slices low }
+        requires high { IsAligned self.now.slices high }
+        ensures value { result ≡ bundle_of (values_of (within low high (tuples_of self.now))) }
+        ensures one_each { steps.new ≤ steps.old + length (runs_within low high self.now.slices) }
+        ensures cost { steps.new ≤ steps.old + 64 * (self.now.reach + 2) }
+    {
+        let _count = self.runs.len();
+        let mut probes = Probes::new();
+        self.partials.fold_range(low, high, &mut probes, steps)
+    }
+
     /// How many slices there are.
     pub fn slice_count(&self) -> u64
         ensures count { result ≡ length self.now.slices }
         ensures holds { IsStore self.now }
     {
         self.runs.len() as u64
+    }
+
+    /// The first slice that begins at a time or later, `None` exactly where there is none.
+    pub fn slice_from(&self, time: u64) -> Option<Slice>
+        ensures first { result
+            ≡ option_map slice_of (find (λ run. nat_le time (first_time run)) self.now.slices) }
+        ensures holds { IsStore self.now }
+    {
+        let at = self.runs.before(time);
+        if at < self.runs.len() {
+            Some(self.runs.slice(at))
+        } else {
+            None
+        }
     }
 }
 
