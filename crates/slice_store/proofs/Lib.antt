@@ -10,3 +10,5 @@ pub mod EnterFacts
 pub mod NearFacts
 pub mod PutFacts
 pub mod FoldFacts
+pub mod SplitFacts
+pub mod MarkFacts

@@ -52,7 +52,7 @@ module _ (R : ℕ → ℕ → Type 0) (x : Kept) where
   part_before (run ∷ next ∷ runs) (suc (suc at)) l h = part_before (next ∷ runs) (suc at) (omega arith) (λ i e. h (suc i) (ap suc e))
 
 -- two neighbours
-neighbours : (near apart : ℕ → ℕ → Type 0) (runs : List (List Kept)) → AreParted near apart runs → (k : ℕ) → suc k < length runs → apart (last_time (get_or runs k [])) (first_time (get_or runs (suc k) []))
+pub neighbours : (near apart : ℕ → ℕ → Type 0) (runs : List (List Kept)) → AreParted near apart runs → (k : ℕ) → suc k < length runs → apart (last_time (get_or runs k [])) (first_time (get_or runs (suc k) []))
 neighbours near apart [] a k l = absurd (omega arith)
 neighbours near apart (run ∷ []) a k l = absurd (omega arith)
 neighbours near apart (run ∷ next ∷ runs) a zero l = a.1
@@ -128,7 +128,7 @@ uncut true c f h = absurd (false≢true (sym h ∙ f refl))
 uncut false c f h = refl
 
 -- ---- a filter that passes a stretch alone
-stretch : {X : Type 0} (p : X → Bool) (xs : List X) (from to : ℕ) (d : X) → from ≤ to → to ≤ length xs → ((k : ℕ) → k < from → p (get_or xs k d) ≡ false) → ((k : ℕ) → from ≤ k → k < to → p (get_or xs k d) ≡ true) → ((k : ℕ) → to ≤ k → k < length xs → p (get_or xs k d) ≡ false) → filter p xs ≡ take (to - from) (drop from xs)
+pub stretch : {X : Type 0} (p : X → Bool) (xs : List X) (from to : ℕ) (d : X) → from ≤ to → to ≤ length xs → ((k : ℕ) → k < from → p (get_or xs k d) ≡ false) → ((k : ℕ) → from ≤ k → k < to → p (get_or xs k d) ≡ true) → ((k : ℕ) → to ≤ k → k < length xs → p (get_or xs k d) ≡ false) → filter p xs ≡ take (to - from) (drop from xs)
 stretch {X = X} p xs from to d le within low mid high =
     ap (filter p) three
     ∙ filter-append p (take from xs) (take (to - from) (drop from xs) ++ drop to xs)

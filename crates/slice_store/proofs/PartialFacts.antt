@@ -219,7 +219,7 @@ take_none (x ∷ xs) = refl
 none_between : (at : ℕ) (runs : List (List Kept)) → slices_between at at runs ≡ []
 none_between at runs = ap (λ n. take n (drop at runs)) (let e : at - at ≡ 0 = omega arith in e) ∙ take_none (drop at runs)
 
-one_between : (at to : ℕ) (runs : List (List Kept)) → to ≡ at + 1 → at < length runs → joined (slices_between at to runs) ≡ get_or runs at []
+pub one_between : (at to : ℕ) (runs : List (List Kept)) → to ≡ at + 1 → at < length runs → joined (slices_between at to runs) ≡ get_or runs at []
 one_between at to runs e l =
     ap joined (ap (λ n. take n (drop at runs)) (let h : to - at ≡ 1 = omega arith in h) ∙ ap (take 1) (drop-cons runs at [] l) ∙ ap (λ l. get_or runs at [] ∷ l) (take_none (drop (suc at) runs)))
     ∙ append-nil (get_or runs at [])

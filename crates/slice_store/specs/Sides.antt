@@ -2,6 +2,7 @@
 use Rattle.std.specs.Prelude.{◌≡◌, ◌≤◌, ◌<◌, ◌+◌, ◌⊎◌, ℕ, suc, Bool, true, false, List, [], length, slice_index_or}
 use Rattle.stream_base.specs.declared.kept.Kept.{Kept}
 use Rattle.stream_base.specs.Model.Windows.{first_time, last_time}
+use Rattle.slice_store.specs.Places.{IsPlaceOf}
 
 -- a time lies inside the slice before the place, or there is no cut from its last tuple on
 abbrev pub IsNearBefore : (ℕ → ℕ → Bool) → List (List Kept) → ℕ → ℕ → Type 0
@@ -30,3 +31,10 @@ IsFirstEntered cut slices at time from =
 abbrev pub IsLastEntered : (ℕ → ℕ → Bool) → List (List Kept) → ℕ → ℕ → ℕ → Type 0
 IsLastEntered cut slices at time to =
     (IsNearBehind cut slices at time × (to ≡ at + 1)) ⊎ (IsApartBehind cut slices at time × (to ≡ at))
+
+-- the slice at a place has tuples before a time and from it on, and is the last that begins before it
+pub record IsAcrossAt (slices : List (List Kept)) (time at : ℕ) : Type 0 where
+  pub within : at < length slices
+  pub before : first_time (slice_index_or slices at []) < time
+  pub behind : time ≤ last_time (slice_index_or slices at [])
+  pub place : IsPlaceOf first_time slices time (at + 1)

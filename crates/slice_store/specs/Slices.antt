@@ -62,3 +62,10 @@ pub record CanEnter (from to : ℕ) (x : Kept) (s : Sliced) : Type 0 where
   pub ordered : AreInOrder (entered_at from to x s.slices)
   pub between : to ≡ from + 2
       → (last_time (slice_index_or s.slices from []) ≤ x.time) × (x.time < first_time (slice_index_or s.slices (suc from) []))
+
+-- a slice may be split at a time: there is room, and it has tuples before the time and from it on
+pub record CanSplit (at time : ℕ) (s : Sliced) : Type 0 where
+  pub room : 1 ≤ s.spare
+  pub within : at < length s.slices
+  pub before : first_time (slice_index_or s.slices at []) < time
+  pub behind : time ≤ last_time (slice_index_or s.slices at [])

@@ -1,5 +1,5 @@
 //! How slices show after an edit: their times and numbers alone.
-ghost use Rattle.std.specs.Prelude.{◌≡◌, ◌≤◌, ◌<◌, ◌+◌, ◌-◌, ◌^◌, take, drop, vec_len, vec_capacity};
+ghost use Rattle.std.specs.Prelude.{◌≡◌, ◌≤◌, ◌<◌, ◌+◌, ◌-◌, ◌^◌, ◌++◌, ◌∷◌, suc, take, drop, vec_len, vec_capacity};
 ghost use Rattle.slice_store.specs.Bounds.{both_of, entered_bounds, entered_of, shown_alone, widened};
 
 use crate::slice::Slice;
@@ -35,6 +35,19 @@ fn merge_bounds(bounds: &mut Vec<Slice>, at: usize, time: u64)
 {
     bounds[at] = widened(both_of(bounds[at], bounds[at + 1]), time);
     bounds.remove(at + 1);
+}
+
+/// Puts two slices in the place of one.
+pub fn split_bounds(bounds: &mut Vec<Slice>, at: usize, front: Slice, back: Slice)
+    requires within { at < vec_len bounds.old }
+    requires room { vec_len bounds.old < vec_capacity bounds.old }
+    ensures items { bounds.new.items
+        ≡ take at bounds.old.items ++ front ∷ back ∷ drop (suc at) bounds.old.items }
+    ensures len { vec_len bounds.new ≡ vec_len bounds.old + 1 }
+    ensures capacity { vec_capacity bounds.new ≡ vec_capacity bounds.old }
+{
+    bounds[at] = front;
+    bounds.insert(at + 1, back).unwrap();
 }
 
 fn shown_alone(time: u64) -> Slice

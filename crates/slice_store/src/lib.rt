@@ -19,6 +19,7 @@ mod placed;
 mod places;
 mod runs;
 mod slice;
+mod splitting;
 mod store;
 
 pub use placed::Placed;

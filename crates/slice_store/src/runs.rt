@@ -1,14 +1,16 @@
 //! Tuples in event order, parted into slices.
-ghost use Rattle.std.specs.Prelude.{◌≡◌, ◌≤◌, ◌<◌, ◌+◌, ◌-◌, ◌++◌, ◌∷◌, [], length, take, drop, filter, slice_index_or, nat_le, nat_lt, OnOk, FitsSigned};
+ghost use Rattle.std.specs.Prelude.{◌≡◌, ◌≤◌, ◌<◌, ◌+◌, ◌-◌, ◌++◌, ◌∷◌, [], length, take, drop, filter, slice_index_or, nat_le, nat_lt, OnOk, IfSome, IfNone, All, FitsSigned, false};
 ghost use Rattle.std.specs.Int.{w64};
 ghost use Rattle.stream_base.specs.declared.limits.TheConstants.{TIME_MAX};
+ghost use Rattle.stream_base.specs.Laws.{TimesDoNotFall};
 ghost use Rattle.stream_base.specs.Model.Windows.{first_time, last_time};
 ghost use Rattle.window_laws.specs.Runs.{AreInOrder, IsAligned};
-ghost use Rattle.slice_store.specs.Entered.{slices_from};
+ghost use Rattle.slice_store.specs.Entered.{is_across, slices_from};
+ghost use Rattle.slice_store.specs.Sides.{IsAcrossAt};
 ghost use Rattle.slice_store.specs.Places.{IsPlaceOf};
-ghost use Rattle.slice_store.specs.Slices.{AreSlices, CanEnter, entered_at, joined, slice_of, split_at};
+ghost use Rattle.slice_store.specs.Slices.{AreSlices, CanEnter, CanSplit, entered_at, joined, slice_of, split_at};
 
-use crate::bounds::enter_bounds;
+use crate::bounds::{enter_bounds, split_bounds};
 use crate::places::{are_by, place_of, slices_before, slices_up_to, tuples_before};
 use crate::slice::Slice;
 use std::alloc::Global;
@@ -119,6 +121,34 @@ impl Runs {
         let _count = self.tuples.len();
         enter_bounds(&mut self.bounds, from, to, x.time);
     }
+
+    /// The place of the slice that has tuples before a time and from it on, if there is one.
+    pub fn across(&self, time: u64) -> Option<usize>
+        ensures some { IfSome result (λ at. IsAcrossAt (self.now).slices time at) }
+        ensures none { IfNone result
+            (All (λ run. is_across time run ≡ false) (self.now).slices) }
+        ensures holds { AreSlices (self.now).slices }
+    {
+        let begun = self.before(time);
+        if begun == 0 {
+            return None;
+        }
+        if self.slice(begun - 1).high < time {
+            return None;
+        }
+        Some(begun - 1)
+    }
+
+    /// Splits a slice that has tuples before a time and from it on.
+    pub fn split(&mut self, at: usize, time: u64)
+        requires { CanSplit at time self.old }
+        ensures slices { (self.new).slices ≡ split_at at time (self.old).slices }
+        ensures spare { (self.old).spare ≤ (self.new).spare + 1 }
+    {
+        let _count = self.len();
+        let (front, back) = parts_at(self.tuples_of(at), time);
+        split_bounds(&mut self.bounds, at, front, back);
+    }
 }
 
 // So many tuples from a place on.
@@ -127,4 +157,32 @@ fn part(tuples: &[Kept], start: usize, number: usize) -> &[Kept]
     ensures { result.now ≡ take number (drop start tuples.now) }
 {
     &tuples[start..start + number]
+}
+
+// How the tuples of a slice before a time show, and those from it on.
+fn parts_at(tuples: &[Kept], time: u64) -> (Slice, Slice)
+    requires in_order { TimesDoNotFall tuples.now }
+    requires before { first_time tuples.now < time }
+    requires behind { time ≤ last_time tuples.now }
+    ensures front { result.0 ≡ slice_of (filter (λ x. nat_lt x.time time) tuples.now) }
+    ensures back { result.1 ≡ slice_of (filter (λ x. nat_le time x.time) tuples.now) }
+    ensures some_before { 0 < result.0.number }
+    ensures some_behind { 0 < result.1.number }
+    ensures whole { tuples.now
+        ≡ filter (λ x. nat_lt x.time time) tuples.now ++ filter (λ x. nat_le time x.time) tuples.now }
+{
+    let cut = tuples_before(tuples, time);
+    (shown(&tuples[..cut]), shown(&tuples[cut..]))
+}
+
+// How the tuples of a slice show.
+fn shown(tuples: &[Kept]) -> Slice
+    requires { 0 < length tuples.now }
+    ensures { result ≡ slice_of tuples.now }
+{
+    Slice {
+        low: tuples[0].time,
+        high: tuples[tuples.len() - 1].time,
+        number: tuples.len() as u64,
+    }
 }

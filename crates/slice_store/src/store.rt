@@ -18,9 +18,11 @@ ghost use Rattle.slice_store.specs.Stored.{IsAsBefore, IsSliced, IsStore, tuples
 
 use crate::cuts::{first_entered, last_entered};
 use crate::entering::enter;
+use crate::marks::add_mark;
 use crate::placed::Placed;
 use crate::runs::Runs;
 use crate::slice::Slice;
+use crate::splitting::split;
 use agg_laws::{AggTree, Bundle, Probes, Steps};
 use std::alloc::Global;
 use std::marker::Model;
@@ -122,6 +124,33 @@ impl<T: AggTree<Bundle>> SliceStore<T> {
         let x = kept_at(pos, time, value);
         enter(&mut self.runs, &mut self.partials, from, to, x, steps);
         placed_in(to - from, last)
+    }
+
+    /// Marks a time: the slice that has tuples on both sides of it, if there is one, is split in
+    /// two. A tuple of the very time lies behind the mark. Answers whether a slice was split.
+    pub fn mark<L>(&mut self, defs: &Defs, time: u64, steps: &mut Steps<L>) -> bool
+        requires room { 1 ≤ self.old.spare }
+        requires time { time ≤ TIME_MAX }
+        requires sliced { IsSliced defs.now.windows self.old }
+        ensures sliced { IsSliced defs.now.windows self.new }
+        ensures tuples { tuples_of self.new ≡ tuples_of self.old }
+        ensures slices { self.new.slices ≡ flat_map (parted_at time) self.old.slices }
+        ensures marks { self.new.marks ≡ insert_key nat_cmp self.old.marks time }
+        ensures answer { result ≡ list_any (is_across time) self.old.slices }
+        ensures dropped { self.new.dropped ≡ self.old.dropped }
+        ensures spare { self.old.spare ≤ self.new.spare + 1 }
+        ensures reach { self.new.reach ≤ self.old.reach + 1 }
+        ensures cost { steps.new ≤ steps.old + (128 * (self.old.reach + 3)
+            + length (joined (filter (is_across time) self.old.slices))) }
+    {
+        add_mark(&mut self.marks, time);
+        match self.runs.across(time) {
+            Some(at) => {
+                split(&mut self.runs, &mut self.partials, at, time, steps);
+                true
+            }
+            None => false,
+        }
     }
 
     /// The fold of the tuples with `low <= time < high` in event order, from the partials of their

@@ -1,0 +1,64 @@
+-- Each part has its own partial.
+use Rattle.std.proofs.Common.{◌≡◌, ◌∙◌, ◌<◌, ◌+◌, [], ap, arith, sym, subst, length, get_or, map}
+use Rattle.std.specs.Prelude.{nat_le, nat_lt}
+use Rattle.std.specs.List.{filter}
+use Rattle.stream_base.specs.declared.kept.Kept.{Kept}
+use Rattle.stream_base.specs.Model.Windows.{first_time}
+use Rattle.agg_laws.specs.Bundled.{bundle_of}
+use Rattle.agg_laws.specs.Pairs.{has_key, inserted, replaced}
+use Rattle.window_laws.specs.Runs.{AreInOrder}
+use Rattle.slice_store.specs.declared.slice.Slice.{Slice}
+use Rattle.slice_store.specs.Slices.{slice_of, split_at, values_of}
+use Rattle.slice_store.specs.Stored.{partial_of}
+use Rattle.slice_store.proofs.MarkFacts.{parts_length, split_absent, split_first, split_longer, split_second, split_there}
+use Rattle.slice_store.proofs.PartialFacts.{partial_there}
+use Rattle.slice_store.proofs.splitting.split.Goals as goal
+
+pub slice-next-requires : goal.slice-next-requires
+slice-next-requires g c =
+    omega (arith, c.requires.can.within, ap length c.split.ensures.slices, split_longer c.args.runs.now.slices c.args.at c.args.time c.requires.can.within)
+
+pub set-requires : goal.set-requires
+set-requires g c =
+    let runs = c.args.runs.now.slices in
+    ap (λ (s : Slice). has_key s.low (g.T.AggTree.pairs c.args.partials.now)) c.slice-low.ensures.shown
+    ∙ ap (has_key (first_time (get_or runs c.args.at []))) c.requires.stand
+    ∙ partial_there runs c.args.at c.requires.can.within c.slice-low.ensures.holds.ordered
+
+pub insert-requires-clause-absent : goal.insert-requires-clause-absent
+insert-requires-clause-absent g c =
+    let runs = c.args.runs.now.slices in
+    let at = c.args.at in
+    let time = c.args.time in
+    let next : c.slice-next.result ≡ slice_of (filter (λ (x : Kept). nat_le time x.time) (get_or runs at [])) =
+    c.slice-next.ensures.shown ∙ ap (λ rs. slice_of (get_or rs (at + 1) [])) c.split.ensures.slices ∙ ap slice_of (split_second runs at time c.requires.can.within) in
+    let order : AreInOrder (split_at at time runs) = subst AreInOrder c.split.ensures.slices c.slice-next.ensures.holds.ordered in
+    let front = c.folded-front.ensures.value ∙ ap (λ ts. bundle_of (values_of ts)) (c.tuples_of.ensures ∙ ap (λ rs. get_or rs at []) c.split.ensures.slices ∙ split_first runs at time c.requires.can.within) in
+    (λ i. has_key (ap (λ (s : Slice). s.low) next i) (c.set.ensures.replaced i))
+    ∙ (λ i. has_key (first_time (filter (λ (x : Kept). nat_le time x.time) (get_or runs at []))) (replaced (ap (λ (s : Slice). s.low) c.slice-low.ensures.shown i) c.folded-front.result (c.requires.stand i)))
+    ∙ split_absent runs at time c.requires.can.within c.slice-low.ensures.holds.ordered order c.requires.can.before c.folded-front.result front
+
+pub returns-clause-stand : goal.returns-clause-stand
+returns-clause-stand g c =
+    let runs = c.args.runs.now.slices in
+    let at = c.args.at in
+    let time = c.args.time in
+    let next : c.slice-next.result ≡ slice_of (filter (λ (x : Kept). nat_le time x.time) (get_or runs at [])) =
+    c.slice-next.ensures.shown ∙ ap (λ rs. slice_of (get_or rs (at + 1) [])) c.split.ensures.slices ∙ ap slice_of (split_second runs at time c.requires.can.within) in
+    let order : AreInOrder (split_at at time runs) = subst AreInOrder c.split.ensures.slices c.slice-next.ensures.holds.ordered in
+    let front = c.folded-front.ensures.value ∙ ap (λ ts. bundle_of (values_of ts)) (c.tuples_of.ensures ∙ ap (λ rs. get_or rs at []) c.split.ensures.slices ∙ split_first runs at time c.requires.can.within) in
+    let back = c.folded-back.ensures.value ∙ ap (λ ts. bundle_of (values_of ts)) (c.tuples_of-2.ensures ∙ ap (λ rs. get_or rs (at + 1) []) c.split.ensures.slices ∙ split_second runs at time c.requires.can.within) in
+    c.insert.ensures.inserted
+    ∙ (λ i. inserted (ap (λ (s : Slice). s.low) next i) c.folded-back.result (c.set.ensures.replaced i))
+    ∙ (λ i. inserted (first_time (filter (λ (x : Kept). nat_le time x.time) (get_or runs at []))) c.folded-back.result (replaced (ap (λ (s : Slice). s.low) c.slice-low.ensures.shown i) c.folded-front.result (c.requires.stand i)))
+    ∙ split_there runs at time c.requires.can.within c.slice-low.ensures.holds.ordered order c.requires.can.before c.folded-front.result front c.folded-back.result back
+    ∙ ap (map partial_of) (sym c.split.ensures.slices)
+
+pub returns-clause-cost : goal.returns-clause-cost
+returns-clause-cost g c =
+    let runs = c.args.runs.now.slices in
+    let at = c.args.at in
+    let time = c.args.time in
+    let front = c.tuples_of.ensures ∙ ap (λ rs. get_or rs at []) c.split.ensures.slices ∙ split_first runs at time c.requires.can.within in
+    let back = c.tuples_of-2.ensures ∙ ap (λ rs. get_or rs (at + 1) []) c.split.ensures.slices ∙ split_second runs at time c.requires.can.within in
+    omega (arith, c.folded-front.ensures.cost, c.folded-back.ensures.cost, ap length front, ap length back, parts_length time (get_or runs at []), c.set.ensures.cost, c.set.ensures.reach, c.insert.ensures.cost)
