@@ -3,7 +3,7 @@ use Rattle.std.proofs.Common.{◌≡◌, ◌==◌, ◌||◌, ℕ, Bool, true, fa
 use Rattle.std.specs.Prelude.{filter}
 use Rattle.std.specs.List.{list_any}
 use Rattle.agg_laws.specs.Pairs.{has_key}
-use Rattle.agg_tests.proofs.trees.put.Goals as goal
+use Rattle.tests.proofs.trees.put.Goals as goal
 
 none_step : {X : Type 0} (test : X → Bool) (x : X) (xs : List X) (b : Bool) → test x ≡ b → list_any test (filter (λ x. not (test x)) xs) ≡ false → list_any test (filter (λ x. not (test x)) (x ∷ xs)) ≡ false
 none_step test x xs true e rest = rw e rest

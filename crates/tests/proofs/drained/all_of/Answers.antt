@@ -1,7 +1,7 @@
 -- Each turn gives one entry more of those that were told.
 use Rattle.std.proofs.Common.{sym, ◌∙◌}
-use Rattle.feed_tests.proofs.Draining.{gave_more, gave_none, pushed}
-use Rattle.feed_tests.proofs.drained.all_of.Goals as goal
+use Rattle.tests.proofs.Draining.{gave_more, gave_none, pushed}
+use Rattle.tests.proofs.drained.all_of.Goals as goal
 
 pub turns-init : goal.turns-init
 turns-init g c = rw c.new-entries.ensures.items (gave_none (g.F.Feed.state c.args.feed.now).rest)
