@@ -68,7 +68,7 @@ per_run : (P : Kept → Type 0) (runs : List (List Kept)) → All P (joined runs
 per_run P [] a = All-nil (All P)
 per_run P (run ∷ runs) a = let s = All-split P run (joined runs) a in All-cons (All P) run runs s.0 (per_run P runs s.1)
 
-all_joined : (P : Kept → Type 0) (runs : List (List Kept)) → All (All P) runs → All P (joined runs)
+pub all_joined : (P : Kept → Type 0) (runs : List (List Kept)) → All (All P) runs → All P (joined runs)
 all_joined P [] a = All-nil P
 all_joined P (run ∷ runs) a = All-append P run (joined runs) (All-head (All P) run runs a) (all_joined P runs (All-tail (All P) run runs a))
 

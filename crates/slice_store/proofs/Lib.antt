@@ -12,3 +12,4 @@ pub mod PutFacts
 pub mod FoldFacts
 pub mod SplitFacts
 pub mod MarkFacts
+pub mod LeaveFacts

@@ -70,8 +70,8 @@ module _ (slices : List (List Kept)) (time : ℕ) (o : AreInOrder slices) where
       by k (inr m) l =
           elim (cases_lt k begun) [
             | inl p ↦ (
-              let same : begun - 1 ≡ k = omega arith in
-              subst (λ n. is_across time (get_or slices n []) ≡ false) same (and_right (nat_lt (first_time (get_or slices (begun - 1) [])) time) (nat_le time (last_time (get_or slices (begun - 1) []))) (lt-leb time (last_time (get_or slices (begun - 1) [])) e)))
+                let same : begun - 1 ≡ k = omega arith in
+                subst (λ n. is_across time (get_or slices n []) ≡ false) same (and_right (nat_lt (first_time (get_or slices (begun - 1) [])) time) (nat_le time (last_time (get_or slices (begun - 1) []))) (lt-leb time (last_time (get_or slices (begun - 1) [])) e)))
             | inr p ↦ not_behind begun h k p l
           ]
 

@@ -316,8 +316,8 @@ module _ (windows : List Def) (marks : List ℕ) (runs : List (List Kept)) (x : 
         late =
             elim (cases_lt x.time (last_time (get_or runs i []))) [
               | inl inside ↦ absurd (
-                let step : last_time (get_or runs i []) < first_time (get_or runs (suc i) []) = neighbours IsNear IsApart runs o i q.0 in
-                false≢true (sym q.1 ∙ earlier_cut windows marks x.time (last_time (get_or runs i [])) (first_time (get_or runs (suc i) [])) (omega arith) (omega arith) (neighbours (λ p q. has_cut windows marks p q ≡ false) (λ p q. has_cut windows marks p q ≡ true) runs a i q.0)))
+                  let step : last_time (get_or runs i []) < first_time (get_or runs (suc i) []) = neighbours IsNear IsApart runs o i q.0 in
+                  false≢true (sym q.1 ∙ earlier_cut windows marks x.time (last_time (get_or runs i [])) (first_time (get_or runs (suc i) [])) (omega arith) (omega arith) (neighbours (λ p q. has_cut windows marks p q ≡ false) (λ p q. has_cut windows marks p q ≡ true) runs a i q.0)))
               | inr l ↦ l
             ]
 

@@ -92,7 +92,7 @@ firsts_below (run ∷ before) q behind a =
     let g : last_time run < first_time q = reach run before q behind a.1 a.2 in
     All-cons (λ p. p.0 < first_time q) (partial_of run) (map partial_of before) (omega arith) (firsts_below before q behind a.2)
 
-firsts_above : (q : List Kept) (behind : List (List Kept)) → IsPartFrom IsApart q behind → AreInOrder behind → All (λ p. last_time q < p.0) (map partial_of behind)
+pub firsts_above : (q : List Kept) (behind : List (List Kept)) → IsPartFrom IsApart q behind → AreInOrder behind → All (λ p. last_time q < p.0) (map partial_of behind)
 firsts_above q [] p a = All-nil (λ p. last_time q < p.0)
 firsts_above q (run ∷ behind) p a =
     let g : last_time q < first_time run = p in

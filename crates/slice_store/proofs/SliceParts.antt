@@ -22,15 +22,15 @@ place_between xs ys time place low high h =
     let n : length (xs ++ ys) ≡ length xs + length ys = length-append xs ys in
     elim (cases_lt place (length xs)) [
       | inl l ↦ absurd (
-        let a : (get_or xs place some_tuple).time < time = low place some_tuple l in
-        let b : time ≤ (get_or (xs ++ ys) place some_tuple).time = h.behind place some_tuple (omega arith) (omega (arith, n)) in
-        omega (arith, a, b, ap (λ (x : Kept). x.time) (get_or_append_left xs ys some_tuple place l)))
+          let a : (get_or xs place some_tuple).time < time = low place some_tuple l in
+          let b : time ≤ (get_or (xs ++ ys) place some_tuple).time = h.behind place some_tuple (omega arith) (omega (arith, n)) in
+          omega (arith, a, b, ap (λ (x : Kept). x.time) (get_or_append_left xs ys some_tuple place l)))
       | inr l ↦ elim (cases_lt (length xs) place) [
         | inl m ↦ absurd (
-          let inside : 0 < length ys = omega (arith, n, h.within) in
-          let a : time ≤ (get_or ys 0 some_tuple).time = high 0 some_tuple inside in
-          let b : (get_or (xs ++ ys) (length xs) some_tuple).time < time = h.before (length xs) some_tuple (omega arith) m in
-          omega (arith, a, b, ap (λ (x : Kept). x.time) (first_behind xs ys)))
+            let inside : 0 < length ys = omega (arith, n, h.within) in
+            let a : time ≤ (get_or ys 0 some_tuple).time = high 0 some_tuple inside in
+            let b : (get_or (xs ++ ys) (length xs) some_tuple).time < time = h.before (length xs) some_tuple (omega arith) m in
+            omega (arith, a, b, ap (λ (x : Kept). x.time) (first_behind xs ys)))
         | inr m ↦ omega arith
       ]
     ]

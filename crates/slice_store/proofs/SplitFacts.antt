@@ -70,8 +70,8 @@ module _ (tuples : List Kept) (time cut : ℕ) (h : IsPlaceOf (λ x. x.time) tup
       elim (cases_lt cut (length tuples)) [
         | inl m ↦ m
         | inr m ↦ absurd (
-          let g : (get_or tuples (length tuples - 1) some_tuple).time < time = h.before (length tuples - 1) some_tuple (omega arith) (omega arith) in
-          omega (arith, g, last_is tuples))
+            let g : (get_or tuples (length tuples - 1) some_tuple).time < time = h.before (length tuples - 1) some_tuple (omega arith) (omega arith) in
+            omega (arith, g, last_is tuples))
       ]
 
 -- there are tuples at all

@@ -13,6 +13,7 @@
 mod bounds;
 mod cuts;
 mod entering;
+mod leaving;
 mod marks;
 mod partials;
 mod placed;

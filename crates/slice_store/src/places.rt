@@ -26,6 +26,14 @@ pub fn marks_before(marks: &[u64], time: u64) -> usize
     marks.partition_point(|mark| *mark < time)
 }
 
+/// How many marks lie at or before a time.
+pub fn marks_up_to(marks: &[u64], time: u64) -> usize
+    requires { IsStrictlyIncreasing marks.now }
+    ensures { IsPlaceOf (λ m. m) marks.now (time + 1) result }
+{
+    marks.partition_point(|mark| *mark <= time)
+}
+
 /// How many slices begin before a time.
 pub fn slices_before(bounds: &[Slice], time: u64) -> usize
     requires { IsNonDecreasingBy (λ s. s.low) bounds.now }

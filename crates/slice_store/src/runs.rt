@@ -5,7 +5,7 @@ ghost use Rattle.stream_base.specs.declared.limits.TheConstants.{TIME_MAX};
 ghost use Rattle.stream_base.specs.Laws.{TimesDoNotFall};
 ghost use Rattle.stream_base.specs.Model.Windows.{first_time, last_time};
 ghost use Rattle.window_laws.specs.Runs.{AreInOrder, IsAligned};
-ghost use Rattle.slice_store.specs.Entered.{is_across, slices_from};
+ghost use Rattle.slice_store.specs.Entered.{is_across};
 ghost use Rattle.slice_store.specs.Sides.{IsAcrossAt};
 ghost use Rattle.slice_store.specs.Places.{IsPlaceOf};
 ghost use Rattle.slice_store.specs.Slices.{AreSlices, CanEnter, CanSplit, entered_at, joined, slice_of, split_at};
@@ -120,6 +120,17 @@ impl Runs {
         self.tuples.insert(place, x).unwrap();
         let _count = self.tuples.len();
         enter_bounds(&mut self.bounds, from, to, x.time);
+    }
+
+    /// Drops the slices before a time, of which there are so many.
+    pub fn drop_first(&mut self, count: usize, time: u64)
+        requires place { IsPlaceOf first_time (self.old).slices time count }
+        requires aligned { IsAligned (self.old).slices time }
+        ensures slices { (self.new).slices ≡ drop count (self.old).slices }
+        ensures spare { (self.old).spare ≤ (self.new).spare }
+    {
+        self.tuples.retain(|x| time <= x.time);
+        self.bounds.retain(|s| time <= s.low);
     }
 
     /// The place of the slice that has tuples before a time and from it on, if there is one.

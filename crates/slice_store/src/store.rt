@@ -18,7 +18,8 @@ ghost use Rattle.slice_store.specs.Stored.{IsAsBefore, IsSliced, IsStore, tuples
 
 use crate::cuts::{first_entered, last_entered};
 use crate::entering::enter;
-use crate::marks::add_mark;
+use crate::leaving::take_first;
+use crate::marks::{add_mark, keep_last};
 use crate::placed::Placed;
 use crate::runs::Runs;
 use crate::slice::Slice;
@@ -187,6 +188,27 @@ impl<T: AggTree<Bundle>> SliceStore<T> {
         } else {
             None
         }
+    }
+
+    /// Drops the slices before a time, and the marks at or before it other than the greatest of
+    /// them. No slice has tuples on both sides of the time.
+    pub fn drop_settled<L>(&mut self, time: u64, steps: &mut Steps<L>)
+        requires { IsAligned self.old.slices time }
+        ensures slices { self.new.slices ≡ slices_from time self.old.slices }
+        ensures marks { self.new.marks ≡ marks_left time self.old.marks }
+        ensures dropped { self.new.dropped ≡ max self.old.dropped time }
+        ensures sliced { (windows : List Def) → IsSliced windows self.old
+            → IsSliced windows self.new }
+        ensures spare { self.old.spare ≤ self.new.spare }
+        ensures reach { self.new.reach ≤ self.old.reach }
+        ensures cost { steps.new ≤ steps.old + 64 * (self.old.reach + 2)
+            * length (filter (λ run. nat_lt (first_time run) time) self.old.slices) }
+    {
+        let count = self.runs.before(time);
+        take_first(&self.runs, &mut self.partials, count, steps);
+        self.runs.drop_first(count, time);
+        keep_last(&mut self.marks, time);
+        self.dropped = self.dropped.max(time);
     }
 }
 

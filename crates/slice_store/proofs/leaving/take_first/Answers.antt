@@ -1,0 +1,21 @@
+-- The partial of one slice more is taken out.
+use Rattle.std.proofs.Common.{◌≡◌, ◌∙◌, ◌<◌, ◌≤◌, ◌+◌, ◌*◌, ℕ, ap, arith, length, map, drop}
+use Rattle.agg_laws.specs.Pairs.{without}
+use Rattle.slice_store.specs.declared.slice.Slice.{Slice}
+use Rattle.slice_store.specs.Stored.{partial_of}
+use Rattle.slice_store.proofs.LeaveFacts.{first_leaves, one_more}
+use Rattle.slice_store.proofs.leaving.take_first.Goals as goal
+
+pub loop-at-preserved : goal.loop-at-preserved
+loop-at-preserved g c =
+    let runs = c.args.runs.now.slices in
+    let at = c.loop-at.at in
+    let l : at < length runs = omega (arith, c.requires.within) in
+    record {
+      stand = c.take-partial.ensures.pairs
+          ∙ (λ i. without (ap (λ (s : Slice). s.low) c.slice.ensures.shown i) (c.loop-at.invariant.stand i))
+          ∙ first_leaves runs at l c.slice.ensures.holds.ordered;
+      spare = omega (arith, c.loop-at.invariant.spare, c.take-partial.ensures.spare);
+      reach = omega (arith, c.loop-at.invariant.reach, c.take-partial.ensures.reach);
+      cost = one_more c.args.steps.now c.loop-at.steps c.take-partial.new.steps (g.T.AggTree.reach c.args.partials.now) (g.T.AggTree.reach c.loop-at.partials) at c.loop-at.invariant.cost c.loop-at.invariant.reach c.take-partial.ensures.cost;
+    }
