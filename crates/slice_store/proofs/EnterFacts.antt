@@ -1,5 +1,5 @@
 -- The same slices are entered where the places are the same.
-use Rattle.std.proofs.Common.{◌≡◌, ◌+◌, ◌-◌, ℕ, subst, sym, arith}
+use Rattle.std.proofs.Common.{◌≡◌, ◌+◌, ◌-◌, ℕ, subst, arith}
 use Rattle.stream_base.specs.declared.kept.Kept.{Kept}
 use Rattle.slice_store.specs.Slices.{CanEnter, Sliced}
 

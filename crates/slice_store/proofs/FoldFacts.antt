@@ -1,8 +1,8 @@
 -- Folds of the slices that begin in an interval.
-use Rattle.std.proofs.Common.{◌≡◌, ◌∙◌, ℕ, zero, suc, ◌+◌, ◌<◌, ◌≤◌, Bool, true, false, cond, Some, None, List, [], ◌∷◌, ◌++◌, length, get_or, map, ap, sym, refl, subst, arith, inl, inr}
+use Rattle.std.proofs.Common.{◌≡◌, ◌∙◌, ℕ, zero, suc, ◌<◌, ◌≤◌, Bool, true, false, cond, Some, None, List, [], ◌∷◌, ◌++◌, length, get_or, map, ap, sym, refl, arith, inl, inr}
 use Rattle.std.specs.Prelude.{◌⊎◌, ◌&&◌, find, nat_le, nat_lt, FitsSigned}
 use Rattle.std.specs.Int.{w64}
-use Rattle.std.specs.List.{All, filter, flat_map}
+use Rattle.std.specs.List.{All, filter}
 use Rattle.std.proofs.lemmas.Bool.{le-leb, lt-ltb, lt-leb, le-ltb, and_from, and_left, and_right}
 use Rattle.std.proofs.lemmas.List.{length-map, map-append}
 use Rattle.std.proofs.lemmas.List.Elements.{All-append, All-cons, All-filter, All-head, All-nil, All-tail, All-weaker, filter-append}
@@ -15,12 +15,12 @@ use Rattle.agg_laws.specs.Laws.{total}
 use Rattle.agg_laws.specs.Pairs as pairs
 use Rattle.agg_laws.proofs.Bundles.{bundle_is_value, bundle_of-append}
 use Rattle.agg_laws.proofs.Totals.{total-cons}
-use Rattle.window_laws.specs.Runs.{AreInOrder, IsAligned, IsRun, runs_within}
+use Rattle.window_laws.specs.Runs.{AreInOrder, IsAligned, runs_within}
 use Rattle.window_laws.proofs.Order.{All-map_of, All-split, filter_all, filter_none}
 use Rattle.slice_store.specs.Places.{IsPlaceOf}
 use Rattle.slice_store.specs.Slices.{AreSlices, joined, values_of}
 use Rattle.slice_store.specs.Stored.{partial_of}
-use Rattle.slice_store.proofs.SliceOrder.{IsNear, first_below_last, run_above_first, run_below_last}
+use Rattle.slice_store.proofs.SliceOrder.{first_below_last, run_above_first, run_below_last}
 
 -- ---- an interval with no slice on both sides of either end
 module _ (low high : ℕ) where

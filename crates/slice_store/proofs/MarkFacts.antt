@@ -1,6 +1,6 @@
 -- What a mark makes of slices and their partials.
-use Rattle.std.proofs.Common.{◌≡◌, ◌∙◌, ℕ, zero, suc, ◌+◌, ◌-◌, ◌<◌, ◌≤◌, Bool, true, false, cond, List, [], ◌∷◌, ◌++◌, length, get_or, take, drop, map, ap, sym, refl, subst, arith, inl, inr, append_assoc}
-use Rattle.std.specs.Prelude.{◌⊎◌, ◌||◌, ◌&&◌, nat_le, nat_lt}
+use Rattle.std.proofs.Common.{◌≡◌, ◌∙◌, ℕ, suc, ◌+◌, ◌-◌, ◌<◌, ◌≤◌, true, false, cond, List, [], ◌∷◌, ◌++◌, length, get_or, take, drop, map, ap, sym, refl, subst, arith, inl, inr, append_assoc}
+use Rattle.std.specs.Prelude.{◌⊎◌, nat_le, nat_lt}
 use Rattle.std.specs.BTreeSet.{insert_key}
 use Rattle.std.specs.List.{All, filter, flat_map, list_any}
 use Rattle.std.specs.List.Sorted.{IsStrictlyIncreasing}
@@ -24,14 +24,13 @@ use Rattle.agg_laws.specs.Bundled.{Bundled, bundle_of}
 use Rattle.agg_laws.specs.Pairs.{has_key, inserted, replaced}
 use Rattle.window_laws.specs.Runs.{AreInOrder, parted_at}
 use Rattle.window_laws.proofs.MarkRuns.{runs_after_mark}
-use Rattle.window_laws.proofs.RunFacts.{cases_of}
 use Rattle.slice_store.specs.Entered.{is_across}
 use Rattle.slice_store.specs.Places.{IsPlaceOf}
 use Rattle.slice_store.specs.Sides.{IsAcrossAt}
-use Rattle.slice_store.specs.Slices.{joined, slices_between, split_at, values_of}
+use Rattle.slice_store.specs.Slices.{joined, split_at, values_of}
 use Rattle.slice_store.specs.Stored.{partial_of}
 use Rattle.slice_store.proofs.NearFacts.{neighbours, stretch}
-use Rattle.slice_store.proofs.PartialFacts.{more_absent, more_there, one_between, partial_other, run_of}
+use Rattle.slice_store.proofs.PartialFacts.{more_absent, more_there, one_between, partial_other}
 use Rattle.slice_store.proofs.SliceOrder.{IsApart, IsNear, times_of_order}
 use Rattle.slice_store.proofs.SliceParts.{in_parts}
 

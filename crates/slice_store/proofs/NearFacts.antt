@@ -12,19 +12,16 @@ use Rattle.stream_base.specs.declared.kind.Kind.{Kind}
 use Rattle.stream_base.specs.declared.kind.Kind.TheVariants.{Tumbling, Sliding, Session, Marks, Events}
 use Rattle.stream_base.specs.Limits.{IsKindWithin}
 use Rattle.stream_base.specs.Model.Cuts.{has_cut, cuts_between}
-use Rattle.stream_base.specs.Model.Journal.{put_in_order}
 use Rattle.stream_base.specs.Model.Windows.{first_time, last_time}
-use Rattle.window_laws.specs.Runs.{AreInOrder, AreParted, ArePartFrom, AreRuns, IsPartFrom, IsRun}
+use Rattle.window_laws.specs.Runs.{AreInOrder, AreParted, ArePartFrom, AreRuns, IsPartFrom}
 use Rattle.window_laws.proofs.MarkRuns.{earlier_cut, later_cut}
 use Rattle.window_laws.proofs.Order.{filter_all, filter_none}
-use Rattle.window_laws.proofs.RunEdits.{added, entered, extended, fronted, merged, parted}
-use Rattle.window_laws.proofs.SliceFacts.{entered_slice}
+use Rattle.window_laws.proofs.RunEdits.{added, entered, extended, fronted, merged}
 use Rattle.slice_store.specs.Entered.{is_near}
 use Rattle.slice_store.specs.Places.{IsPlaceOf}
 use Rattle.slice_store.specs.Sides.{IsApartBefore, IsApartBehind, IsFirstEntered, IsLastEntered, IsNearBefore, IsNearBehind}
-use Rattle.slice_store.specs.Slices.{entered_at, joined, slices_between}
+use Rattle.slice_store.specs.Slices.{entered_at, slices_between}
 use Rattle.slice_store.proofs.PartialFacts.{entered_none, entered_one, entered_two, put_at_end, put_at_front, put_between, run_of}
-use Rattle.slice_store.proofs.SliceEdits.{in_three}
 use Rattle.slice_store.proofs.SliceOrder.{IsApart, IsNear, first_below_last}
 use Rattle.slice_store.proofs.SliceParts.{in_parts}
 

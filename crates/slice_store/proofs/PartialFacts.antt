@@ -1,14 +1,14 @@
 -- The partials of slices: which pairs they are, and what an edit makes of them.
-use Rattle.std.proofs.Common.{◌≡◌, ◌∙◌, ℕ, ℤ, suc, ◌+◌, ◌-◌, ◌<◌, ◌≤◌, Bool, true, false, cond, eqb, Some, None, List, [], ◌∷◌, ◌++◌, length, get_or, take, drop, map, ap, sym, refl, subst, arith, inl, inr, append_assoc, drop-cons}
+use Rattle.std.proofs.Common.{◌≡◌, ◌∙◌, ℕ, suc, ◌+◌, ◌-◌, ◌<◌, ◌≤◌, true, false, cond, eqb, Some, List, [], ◌∷◌, ◌++◌, length, get_or, take, drop, map, ap, sym, refl, subst, arith, inl, inr, append_assoc, drop-cons}
 use Rattle.std.specs.Prelude.{◌⊎◌, ◌==◌, ◌&&◌, find, nat_le, nat_lt, FitsSigned}
 use Rattle.std.specs.Int.{w64}
-use Rattle.std.specs.List.{All, flat_map}
+use Rattle.std.specs.List.{All}
 use Rattle.std.specs.Option.{option_map}
 use Rattle.std.proofs.lemmas.Bool.{eqb-true, lt-ltb, le-ltb}
 use Rattle.std.proofs.lemmas.Bool.Decides.{nat_tests}
-use Rattle.std.proofs.lemmas.List.{append-nil, map-append, length-append, length-take, take-append-drop}
-use Rattle.std.proofs.lemmas.List.Elements.{All-append, All-cons, All-head, All-nil, All-tail, All-weaker}
-use Rattle.std.proofs.Math.Seq.{get_or-append_seam, split_at, take-suc}
+use Rattle.std.proofs.lemmas.List.{append-nil, map-append, length-take, take-append-drop}
+use Rattle.std.proofs.lemmas.List.Elements.{All-cons, All-head, All-nil, All-tail, All-weaker}
+use Rattle.std.proofs.Math.Seq.{get_or-append_seam, take-suc}
 use Rattle.stream_base.specs.declared.kept.Kept.{Kept}
 use Rattle.stream_base.specs.declared.limits.TheConstants.{TIME_MAX}
 use Rattle.stream_base.specs.Model.Journal.{put_in_order}
@@ -22,7 +22,6 @@ use Rattle.agg_laws.proofs.Bundles.{bundle_is_value}
 use Rattle.agg_laws.proofs.RisingPairs.{has_key-between, has_key-middle, inserted-parts, replaced-middle, rising_above, rising_second, value_at-middle, without-middle}
 use Rattle.window_laws.specs.Runs.{AreInOrder, IsPartFrom, IsRun}
 use Rattle.window_laws.proofs.Order.{All-map_of, All-split, filter_none}
-use Rattle.window_laws.proofs.RunEdits.{parted}
 use Rattle.window_laws.proofs.RunFacts.{cases_of, put_behind, put_first}
 use Rattle.slice_store.specs.Slices.{AreSlices, entered_at, joined, slices_between, values_of}
 use Rattle.slice_store.specs.Stored.{partial_of}

@@ -1,12 +1,12 @@
 -- Places in lists that are sorted by time.
-use Rattle.std.proofs.Common.{◌≡◌, ◌∙◌, pos, ℕ, zero, suc, ◌+◌, ◌-◌, ◌<◌, ◌≤◌, Bool, true, false, eqb, List, [], ◌∷◌, ◌++◌, length, get_or, map, ap, sym, refl, subst, arith}
+use Rattle.std.proofs.Common.{◌≡◌, ◌∙◌, pos, ℕ, zero, suc, ◌+◌, ◌-◌, ◌<◌, ◌≤◌, Bool, true, false, eqb, List, [], ◌∷◌, length, get_or, map, ap, sym, refl, subst, arith}
 use Rattle.std.specs.Prelude.{◌&&◌, insert, nat_le, nat_lt}
 use Rattle.std.specs.BTreeSet.{insert_key}
 use Rattle.std.specs.List.{All, list_any, position_or_len}
 use Rattle.std.specs.List.Sorted.{IsNonDecreasing, IsNonDecreasingBy, IsPartitionPoint, IsStrictlyIncreasing}
 use Rattle.std.specs.Ordering.{match_ordering, nat_cmp}
 use Rattle.std.specs.declared.cmp.Ordering.TheVariants.{Less, Equal, Greater}
-use Rattle.std.proofs.lemmas.Bool.{and_parts, eqb-true, le-ltb, lt-ltb, ltb-true, ltb-false, leb-true, leb-false}
+use Rattle.std.proofs.lemmas.Bool.{and_parts, eqb-true, le-ltb, lt-ltb, ltb-true, ltb-false, leb-false}
 use Rattle.std.proofs.lemmas.Bool.Decides.{nat_tests}
 use Rattle.std.proofs.lemmas.List.{get_or-map, get_or_default, length-map}
 use Rattle.std.proofs.lemmas.List.Folds.{list_any_at, list_any_none}
@@ -14,7 +14,6 @@ use Rattle.std.proofs.lemmas.List.Sums.{position_or_len_is}
 use Rattle.std.proofs.lemmas.Map.Keys.{sorted_from_strictly_increasing, non_decreasing_from_sorted}
 use Rattle.stream_base.specs.declared.kept.Kept.{Kept}
 use Rattle.stream_base.specs.Laws.{TimesDoNotFall}
-use Rattle.stream_base.specs.Model.Journal.{put_in_order}
 use Rattle.stream_base.specs.Model.Windows.{last_time}
 use Rattle.slice_store.specs.Places.{IsPlaceOf}
 

@@ -1,5 +1,5 @@
 -- A tuple that comes into a store.
-use Rattle.std.proofs.Common.{◌≡◌, ◌∙◌, ℕ, ◌+◌, ◌-◌, ◌≤◌, Bool, true, false, List, [], ◌∷◌, ◌++◌, length, take, drop, ap, sym, refl, subst, arith, length-drop, length-take}
+use Rattle.std.proofs.Common.{◌≡◌, ◌∙◌, ℕ, ◌+◌, ◌-◌, ◌≤◌, List, ◌∷◌, ◌++◌, length, take, drop, ap, sym, subst, arith, length-drop, length-take}
 use Rattle.std.specs.Prelude.{FitsSigned, filter}
 use Rattle.std.specs.Int.{w64}
 use Rattle.stream_base.specs.declared.def.Def.{Def}
@@ -10,7 +10,7 @@ use Rattle.stream_base.specs.Model.Cuts.{has_cut}
 use Rattle.stream_base.specs.Model.Journal.{put_in_order}
 use Rattle.stream_base.specs.Model.Slices.{runs_of}
 use Rattle.stream_base.specs.Model.Windows.{first_time}
-use Rattle.window_laws.specs.Runs.{AreInOrder, AreRuns}
+use Rattle.window_laws.specs.Runs.{AreRuns}
 use Rattle.window_laws.proofs.RunEdits.{pieces_are_runs, runs_are_pieces}
 use Rattle.slice_store.specs.Entered.{is_near}
 use Rattle.slice_store.specs.Places.{IsPlaceOf}

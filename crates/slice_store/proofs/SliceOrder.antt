@@ -1,8 +1,8 @@
 -- Slices in order: the times of their tuples, and one tuple more among them.
-use Rattle.std.proofs.Common.{◌≡◌, ◌∙◌, ℕ, zero, suc, ◌+◌, ◌<◌, ◌≤◌, Bool, true, false, List, [], ◌∷◌, ◌++◌, length, ap, sym, refl, subst, arith, inl, inr}
+use Rattle.std.proofs.Common.{◌≡◌, ◌∙◌, ℕ, zero, suc, ◌<◌, ◌≤◌, true, false, List, [], ◌∷◌, ◌++◌, ap, sym, refl, subst, arith, inl, inr}
 use Rattle.std.specs.Prelude.{◌⊎◌, nat_lt}
-use Rattle.std.specs.List.{All, Contains}
-use Rattle.std.proofs.lemmas.Bool.{ltb-true, ltb-false, lt-ltb, le-ltb}
+use Rattle.std.specs.List.{All}
+use Rattle.std.proofs.lemmas.Bool.{ltb-false, lt-ltb, le-ltb}
 use Rattle.std.proofs.lemmas.List.Concat.{flat_map-append}
 use Rattle.std.proofs.lemmas.List.Elements.{All-cons, All-nil, All-head, All-tail, All-weaker, All-contains, All-append}
 use Rattle.stream_base.specs.declared.kept.Kept.{Kept}
@@ -10,7 +10,7 @@ use Rattle.stream_base.specs.Laws.{TimesDoNotFall}
 use Rattle.stream_base.specs.Model.Journal.{put_in_order}
 use Rattle.stream_base.specs.Model.Windows.{first_time, last_time}
 use Rattle.stream_base.proofs.Members.{Contains-insert_new}
-use Rattle.window_laws.specs.Runs.{AreInOrder, AreParted, IsPartFrom, IsRun}
+use Rattle.window_laws.specs.Runs.{AreInOrder, IsPartFrom, IsRun}
 use Rattle.window_laws.proofs.RunFacts.{cases_of, put_first, put_behind}
 use Rattle.window_laws.proofs.RunEdits.{parted}
 use Rattle.slice_store.specs.Slices.{joined}

@@ -1,6 +1,6 @@
 -- The place of a slice among all tuples.
 use Rattle.std.proofs.Common.{◌≡◌, ◌∙◌, ℕ, suc, ◌+◌, ◌<◌, ◌≤◌, List, [], ◌∷◌, ◌++◌, length, get_or, take, drop, ap, sym, refl, subst, arith, inl, inr}
-use Rattle.std.specs.List.{All, flat_map}
+use Rattle.std.specs.List.{All}
 use Rattle.std.proofs.lemmas.Bool.{cases_lt}
 use Rattle.std.proofs.lemmas.List.{length-append, get_or_append_left}
 use Rattle.std.proofs.lemmas.List.Concat.{flat_map-append}
@@ -9,9 +9,8 @@ use Rattle.std.proofs.Math.Seq.{split_at}
 use Rattle.stream_base.specs.declared.kept.Kept.{Kept}
 use Rattle.stream_base.specs.Model.Windows.{first_time, last_time}
 use Rattle.window_laws.specs.Runs.{AreInOrder, IsRun}
-use Rattle.slice_store.specs.declared.slice.Slice.{Slice}
 use Rattle.slice_store.specs.Places.{IsPlaceOf}
-use Rattle.slice_store.specs.Slices.{joined, slice_of}
+use Rattle.slice_store.specs.Slices.{joined}
 use Rattle.slice_store.proofs.PlaceFacts.{some_tuple}
 use Rattle.slice_store.proofs.SliceEdits.{drop_own, take_own}
 use Rattle.slice_store.proofs.SliceOrder.{IsNear, above_slice, behind_at, below_slice, first_below_last, part_at, run_above_first}

@@ -1,17 +1,17 @@
 -- A slice in two parts.
-use Rattle.std.proofs.Common.{◌≡◌, ◌∙◌, ℕ, zero, suc, ◌+◌, ◌-◌, ◌<◌, ◌≤◌, Bool, true, false, cond, List, [], ◌∷◌, ◌++◌, length, get_or, set, take, drop, map, ap, sym, refl, subst, arith, inl, inr, append_assoc}
-use Rattle.std.specs.Prelude.{◌&&◌, insert, nat_le, nat_lt, FitsSigned}
+use Rattle.std.proofs.Common.{◌≡◌, ◌∙◌, ℕ, zero, suc, ◌+◌, ◌-◌, ◌<◌, ◌≤◌, Bool, true, false, List, [], ◌∷◌, ◌++◌, length, get_or, set, take, drop, map, ap, sym, refl, subst, arith, inl, inr, append_assoc}
+use Rattle.std.specs.Prelude.{insert, nat_le, nat_lt, FitsSigned}
 use Rattle.std.specs.Int.{w64}
-use Rattle.std.specs.List.{All, filter, flat_map, list_any}
+use Rattle.std.specs.List.{All, filter}
 use Rattle.std.proofs.lemmas.Bool.{cases_lt, leb-true, lt-ltb, le-ltb, lt-leb, le-leb, ltb-true}
-use Rattle.std.proofs.lemmas.List.{append-nil, drop-map, length-append, length-drop, length-take, map-append, set_split, take-append-drop, take-map, get_or-drop, get_or-take}
+use Rattle.std.proofs.lemmas.List.{append-nil, drop-map, length-drop, length-take, map-append, take-append-drop, take-map, get_or-drop, get_or-take}
 use Rattle.std.proofs.lemmas.List.Elements.{All-head, All-tail, All-weaker, filter-append, filter_passes}
 use Rattle.std.proofs.lemmas.List.Concat.{flat_map-append}
 use Rattle.stream_base.specs.declared.kept.Kept.{Kept}
 use Rattle.stream_base.specs.declared.limits.TheConstants.{TIME_MAX}
 use Rattle.stream_base.specs.Laws.{TimesDoNotFall}
 use Rattle.stream_base.specs.Model.Windows.{first_time, last_time}
-use Rattle.window_laws.specs.Runs.{AreInOrder, AreParted, IsPartFrom, IsRun, parted_at}
+use Rattle.window_laws.specs.Runs.{AreInOrder, IsPartFrom, IsRun}
 use Rattle.window_laws.proofs.Order.{filter_all, filter_none}
 use Rattle.window_laws.proofs.RunEdits.{parted, replaced}
 use Rattle.slice_store.specs.declared.slice.Slice.{Slice}

@@ -1,5 +1,5 @@
 -- One slice is wider.
-use Rattle.std.proofs.Common.{◌≡◌, ◌∙◌, ◌+◌, ◌<◌, ap, arith, length, get_or, set, sym}
+use Rattle.std.proofs.Common.{arith}
 use Rattle.slice_store.proofs.BoundEdits.{wider}
 use Rattle.slice_store.proofs.bounds.enter_bounds.Goals as goal
 

@@ -1,5 +1,5 @@
 -- The partial of the slice is that of its tuples, with the new one among them.
-use Rattle.std.proofs.Common.{◌≡◌, ◌∙◌, ◌<◌, ◌≤◌, ◌+◌, ℕ, [], ap, sym, map, refl, arith, length, get_or}
+use Rattle.std.proofs.Common.{◌≡◌, ◌∙◌, ◌<◌, ◌+◌, [], ap, sym, map, refl, arith, length, get_or}
 use Rattle.stream_base.specs.Model.Journal.{put_in_order}
 use Rattle.stream_base.specs.Model.Windows.{first_time}
 use Rattle.agg_laws.specs.Bundled.{bundle_of}

@@ -1,6 +1,5 @@
 -- The parts stand before the place of the time and behind it.
-use Rattle.std.proofs.Common.{◌≡◌, ◌∙◌, ◌<◌, ◌-◌, ap, arith, sym, length, take, drop, length-take, length-drop}
-use Rattle.std.proofs.Math.Seq.{take-length}
+use Rattle.std.proofs.Common.{◌∙◌, ◌<◌, ap, arith, sym, length, length-take, length-drop}
 use Rattle.agg_laws.proofs.Places.{part_to_end}
 use Rattle.slice_store.specs.declared.slice.Slice.{Slice}
 use Rattle.slice_store.specs.Slices.{slice_of}

@@ -1,6 +1,6 @@
 -- None has begun, or the last that has ends before the time.
-use Rattle.std.proofs.Common.{◌≡◌, ◌<◌, ◌-◌, [], ap, arith, get_or, subst}
-use Rattle.stream_base.specs.Model.Windows.{first_time, last_time}
+use Rattle.std.proofs.Common.{ap, arith, subst}
+use Rattle.stream_base.specs.Model.Windows.{first_time}
 use Rattle.slice_store.specs.declared.slice.Slice.{Slice}
 use Rattle.slice_store.specs.Places.{IsPlaceOf}
 use Rattle.slice_store.proofs.MarkFacts.{last_ended, none_begun}

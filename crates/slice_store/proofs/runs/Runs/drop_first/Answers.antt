@@ -1,12 +1,11 @@
 -- The tuples and the slices from the time on are left.
-use Rattle.std.proofs.Common.{◌≡◌, ◌∙◌, drop, map, ap, rules, sym}
+use Rattle.std.proofs.Common.{◌≡◌, ◌∙◌, drop, ap, rules, sym}
 use Rattle.std.specs.Prelude.{nat_le}
 use Rattle.std.specs.List.{filter}
 use Rattle.std.proofs.lemmas.Fn.{filter_same}
 use Rattle.stream_base.specs.declared.kept.Kept.{Kept}
 use Rattle.slice_store.specs.declared.slice.Slice.{Slice}
 use Rattle.slice_store.specs.Inside.{parted_by}
-use Rattle.slice_store.specs.Slices.{joined, slice_of}
 use Rattle.slice_store.proofs.LeaveFacts.{bounds_left, left_hold, tuples_left}
 use Rattle.slice_store.proofs.SliceEdits.{kept_again, parted_again}
 use Rattle.slice_store.proofs.runs.Runs.drop_first.Goals as goal

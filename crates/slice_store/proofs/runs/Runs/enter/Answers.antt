@@ -1,5 +1,5 @@
 -- The tuple stands in order among all, and the slices that it enters are one.
-use Rattle.std.proofs.Common.{◌≡◌, ◌∙◌, ◌<◌, ◌≤◌, ◌+◌, ap, arith, sym, subst, rules, insert, length, map}
+use Rattle.std.proofs.Common.{◌≡◌, ◌∙◌, ◌+◌, ap, arith, sym, subst, insert, length, map}
 use Rattle.std.proofs.lemmas.List.Edits.{length-insert}
 use Rattle.stream_base.specs.Model.Journal.{put_in_order}
 use Rattle.stream_base.specs.Laws.{TimesDoNotFall}

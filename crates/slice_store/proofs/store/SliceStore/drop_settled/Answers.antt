@@ -1,5 +1,5 @@
 -- The slices and marks from the time on are left.
-use Rattle.std.proofs.Common.{◌≡◌, ◌∙◌, ◌+◌, ◌*◌, ap, arith, drop, sym}
+use Rattle.std.proofs.Common.{◌∙◌, ap, sym}
 use Rattle.stream_base.specs.Model.Slices.{runs_of}
 use Rattle.slice_store.specs.Slices.{joined}
 use Rattle.slice_store.proofs.LeaveFacts.{from_place, left_sliced, many_before}

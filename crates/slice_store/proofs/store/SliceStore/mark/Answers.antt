@@ -1,10 +1,7 @@
 -- The slice that is across the mark, if there is one, is split.
-use Rattle.std.proofs.Common.{◌≡◌, ◌∙◌, ap, arith, length, refl, sym, subst}
-use Rattle.std.specs.BTreeSet.{insert_key}
-use Rattle.std.specs.List.{flat_map}
+use Rattle.std.proofs.Common.{◌∙◌, ap, arith, length, sym, subst}
 use Rattle.std.specs.List.Sorted.{IsStrictlyIncreasing}
 use Rattle.stream_base.specs.Model.Slices.{runs_of}
-use Rattle.window_laws.specs.Runs.{parted_at}
 use Rattle.slice_store.specs.Slices.{joined}
 use Rattle.slice_store.proofs.MarkFacts.{across_alone, marked_sliced, none_any, none_split, one_any, one_split, rising_more, same_tuples}
 use Rattle.slice_store.proofs.store.SliceStore.mark.Goals as goal

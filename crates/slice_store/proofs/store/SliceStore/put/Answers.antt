@@ -1,10 +1,10 @@
 -- The slices that the tuple is near to become one with it.
-use Rattle.std.proofs.Common.{◌≡◌, ◌∙◌, ◌+◌, ◌-◌, ap, arith, sym, subst, take, drop}
+use Rattle.std.proofs.Common.{◌≡◌, ◌∙◌, ap, arith, sym, subst, take, drop}
 use Rattle.std.specs.Int.{w64}
 use Rattle.std.proofs.lemmas.Int.{to_z-of_z}
 use Rattle.stream_base.specs.declared.kept.Kept.{Kept}
-use Rattle.slice_store.specs.Entered.{is_last, placed_in, slices_near}
-use Rattle.slice_store.specs.Slices.{CanEnter, kept_at}
+use Rattle.slice_store.specs.Entered.{placed_in}
+use Rattle.slice_store.specs.Slices.{kept_at}
 use Rattle.slice_store.proofs.NearFacts.{IsEdit}
 use Rattle.slice_store.proofs.PutFacts.{can_enter, edit_at, is_then, near_joined, near_length, sliced_again, tuples_with, was_before}
 use Rattle.slice_store.proofs.store.SliceStore.put.Goals as goal
