@@ -6,7 +6,7 @@ use Rattle.std.specs.List.{All}
 use Rattle.std.specs.Option.{option_map}
 use Rattle.std.proofs.lemmas.Bool.{eqb-true, lt-ltb, le-ltb}
 use Rattle.std.proofs.lemmas.Bool.Decides.{nat_tests}
-use Rattle.std.proofs.lemmas.List.{append-nil, map-append, length-take, take-append-drop}
+use Rattle.std.proofs.lemmas.List.{get_or_default, append-nil, map-append, length-take, take-append-drop}
 use Rattle.std.proofs.lemmas.List.Elements.{All-cons, All-head, All-nil, All-tail, All-weaker}
 use Rattle.std.proofs.Math.Seq.{get_or-append_seam, take-suc}
 use Rattle.stream_base.specs.declared.kept.Kept.{Kept}
@@ -128,6 +128,9 @@ ends_in_time runs at l h =
     end_of [] r a = absurd r
     end_of (x ∷ []) r a = All-head (λ (x : Kept). x.time ≤ TIME_MAX) x [] a
     end_of (x ∷ y ∷ ys) r a = end_of (y ∷ ys) r.1 (All-tail (λ (x : Kept). x.time ≤ TIME_MAX) x (y ∷ ys) a)
+
+pub all_end : (runs : List (List Kept)) → AreSlices runs → All (λ run. last_time run ≤ TIME_MAX) runs
+all_end runs h k d l = subst (λ run. last_time run ≤ TIME_MAX) (sym (get_or_default runs k d [] l)) (ends_in_time runs k l h).1
 
 module _ (runs : List (List Kept)) (at : ℕ) (l : at < length runs) (o : AreInOrder runs) where
   order_at : AreInOrder (take at runs ++ get_or runs at [] ∷ drop (suc at) runs)

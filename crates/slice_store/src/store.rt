@@ -1,5 +1,5 @@
 //! The store of a key's slices.
-ghost use Rattle.std.specs.Prelude.{◌≡◌, ◌≤◌, ◌<◌, ◌+◌, ◌*◌, List, [], length, filter, find, map, max, nat_le, nat_lt, OnOk, FitsSigned};
+ghost use Rattle.std.specs.Prelude.{◌≡◌, ◌≤◌, ◌<◌, ◌+◌, ◌*◌, List, [], length, filter, find, map, max, nat_le, nat_lt, OnOk, All, FitsSigned};
 ghost use Rattle.std.specs.Int.{w64};
 ghost use Rattle.std.specs.BTreeSet.{insert_key};
 ghost use Rattle.std.specs.List.{flat_map, list_any};
@@ -9,7 +9,7 @@ ghost use Rattle.stream_base.specs.declared.def.Def.{Def};
 ghost use Rattle.stream_base.specs.declared.kept.Kept.{Kept};
 ghost use Rattle.stream_base.specs.declared.limits.TheConstants.{TIME_MAX};
 ghost use Rattle.stream_base.specs.Model.Journal.{put_in_order};
-ghost use Rattle.stream_base.specs.Model.Windows.{first_time, within};
+ghost use Rattle.stream_base.specs.Model.Windows.{first_time, last_time, within};
 ghost use Rattle.agg_laws.specs.Bundled.{bundle_of};
 ghost use Rattle.window_laws.specs.Runs.{IsAligned, parted_at, runs_within};
 ghost use Rattle.slice_store.specs.Entered.{IsPut, is_across, is_last, marks_left, placed_in, slices_from, slices_near};
@@ -172,6 +172,7 @@ impl<T: AggTree<Bundle>> SliceStore<T> {
     pub fn slice_count(&self) -> u64
         ensures count { result ≡ length self.now.slices }
         ensures holds { IsStore self.now }
+        ensures ends { All (λ run. last_time run ≤ TIME_MAX) self.now.slices }
     {
         self.runs.len() as u64
     }
