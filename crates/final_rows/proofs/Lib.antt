@@ -1,6 +1,7 @@
 pub mod AllShards
 pub mod EachShard
 pub mod GeneratedEvents
+pub mod GeneratedExamples
 pub mod GeneratedSources
 pub mod GeneratedTimes
 pub mod InOrder
