@@ -24,7 +24,7 @@ use Rattle.fan_in.specs.declared.outcome.Outcome.{Outcome}
 use Rattle.fan_in.specs.declared.outcome.Outcome.TheVariants.{Done, Fault, Full}
 use Rattle.fan_in.proofs.Lists.{some_of}
 
-bears_memory : (o : Option Stream) → IfSome o (λ stream. Bears stream (Fault NoMemory))
+pub bears_memory : (o : Option Stream) → IfSome o (λ stream. Bears stream (Fault NoMemory))
 bears_memory None = tt
 bears_memory (Some stream) = tt
 

@@ -7,3 +7,10 @@ mod Columns
 mod Journals
 mod Ending
 mod Final
+mod Sent
+mod Posted
+mod Lettered
+mod Outcomes
+mod Settled
+mod Tasked
+mod Mailed

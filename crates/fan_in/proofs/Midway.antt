@@ -39,19 +39,19 @@ rest_more stream given entry left (Some l) e s =
     let more : behind given (with_first entry l) ≡ behind (given ++ entry ∷ []) l = ap (λ (es : List Entry). let s : Stream = record { entries = es; refusal = l.refusal } in s) (sym (append_assoc given (entry ∷ []) l.entries)) in
     record { left = l; is = refl; whole = e ∙ ap (behind given) is ∙ more }
 
-told_more : (o : Option Stream) (given : List Entry) (entry : Entry) (r s : Option Stream) → IfSome o (λ stream. IsRest stream given r) → StaysTold r (option_map (with_first entry) s)
+pub told_more : (o : Option Stream) (given : List Entry) (entry : Entry) (r s : Option Stream) → IfSome o (λ stream. IsRest stream given r) → StaysTold r (option_map (with_first entry) s)
     → IfSome o (λ stream. IsRest stream (given ++ entry ∷ []) s)
 told_more None given entry r s h t = tt
 told_more (Some stream) given entry r s h t =
     let t' : option_map (with_first entry) s ≡ Some h.left = subst (λ (x : Option Stream). StaysTold x (option_map (with_first entry) s)) h.is t in
     rest_more stream given entry h.left s h.whole t'
 
-told_first : (o : Option Stream) → IfSome o (λ stream. IsRest stream [] o)
+pub told_first : (o : Option Stream) → IfSome o (λ stream. IsRest stream [] o)
 told_first None = tt
 told_first (Some stream) = record { left = stream; is = refl; whole = refl }
 
 -- a source that gives nothing more refuses nothing, and has given all
-told_last : (shards : ℕ) (o : Option Stream) (given : List Entry) (source : ℕ) (ended : Bool) (r : Option Stream) (outcome : Outcome) → IfSome o (λ stream. IsRest stream given r) → IfSome r (IsWhole source ended) → ended ≡ true
+pub told_last : (shards : ℕ) (o : Option Stream) (given : List Entry) (source : ℕ) (ended : Bool) (r : Option Stream) (outcome : Outcome) → IfSome o (λ stream. IsRest stream given r) → IfSome r (IsWhole source ended) → ended ≡ true
     → IsHalfway shards outcome → IfSome o (λ stream. Bears stream outcome × (stream.entries ≡ given))
 told_last shards None given source ended r outcome h w e i = tt
 told_last shards (Some stream) given source ended r outcome h w e i =
@@ -66,7 +66,7 @@ told_last shards (Some stream) given source ended r outcome h w e i =
     bears (Fault fault) n i = subst (λ (f : FeedFault). Bears stream (Fault f)) (sym i) tt
 
 -- a fault shows the refusal that the stream tells
-told_fault : (o : Option Stream) (given : List Entry) (r s : Option Stream) (fault : FeedFault) → IfSome o (λ stream. IsRest stream given r) → Ends (refusal_of fault) r s
+pub told_fault : (o : Option Stream) (given : List Entry) (r s : Option Stream) (fault : FeedFault) → IfSome o (λ stream. IsRest stream given r) → Ends (refusal_of fault) r s
     → IfSome o (λ stream. Bears stream (Fault fault) × ((rest : List Entry) × (stream.entries ≡ given ++ rest)))
 told_fault None given r s fault h e = tt
 told_fault (Some stream) given r s fault h e =
@@ -77,28 +77,28 @@ told_fault (Some stream) given r s fault h e =
     bears None x = tt
     bears (Some refusal) x = ap (λ (s : Stream). s.refusal) h.whole ∙ ap (λ (s : Stream). s.refusal) x.0
 
-shows : (shards : ℕ) (o : Outcome) (back : FeedState FeedFault) → IsHalfway shards o → back.ended ≡ true → back.answered ≡ None → Shows back o
+pub shows : (shards : ℕ) (o : Outcome) (back : FeedState FeedFault) → IsHalfway shards o → back.ended ≡ true → back.answered ≡ None → Shows back o
 shows shards Done back i e a = (e, a)
 shows shards (Full shard) back i e a = (e, a)
 shows shards (Fault fault) back i e a = inr i
 
-no_read : (shards : ℕ) (o : Outcome) → IsHalfway shards o → o ≡ Fault Read → ⊥
+pub no_read : (shards : ℕ) (o : Outcome) → IsHalfway shards o → o ≡ Fault Read → ⊥
 no_read shards Done i e = absurd (cc)
 no_read shards (Full shard) i e = absurd (cc)
 no_read shards (Fault fault) i e = let f : NoMemory ≡ Read = cc in absurd (cc)
 
-named_of : (shards : ℕ) (o : Outcome) → IsHalfway shards o → NamesOneOf shards o
+pub named_of : (shards : ℕ) (o : Outcome) → IsHalfway shards o → NamesOneOf shards o
 named_of shards Done i = tt
 named_of shards (Full shard) i = i
 named_of shards (Fault fault) i = tt
 
-routed_more : (shards k : ℕ) (given : List Entry) (more : List Entry) → routed shards k (given ++ more) ≡ routed shards k given ++ routed shards k more
+pub routed_more : (shards k : ℕ) (given : List Entry) (more : List Entry) → routed shards k (given ++ more) ≡ routed shards k given ++ routed shards k more
 routed_more shards k given more = filter-append (λ e. goes_to shards k e.what) given more
 
-all_front : (P : Entry → Type 0) (xs ys : List Entry) → All P (xs ++ ys) → All P xs
+pub all_front : (P : Entry → Type 0) (xs ys : List Entry) → All P (xs ++ ys) → All P xs
 all_front P xs ys h = λ k d l. subst P (get_or_append_left xs ys d k l) (h k d (omega (arith, length-append xs ys)))
 
-bears_only : (o : Option Stream) (outcome : Outcome) (Q : Stream → Type 0) → IfSome o (λ stream. Bears stream outcome × Q stream) → IfSome o (λ stream. Bears stream outcome)
+pub bears_only : (o : Option Stream) (outcome : Outcome) (Q : Stream → Type 0) → IfSome o (λ stream. Bears stream outcome × Q stream) → IfSome o (λ stream. Bears stream outcome)
 bears_only None outcome Q t = tt
 bears_only (Some stream) outcome Q t = t.0
 

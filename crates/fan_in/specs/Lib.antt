@@ -6,3 +6,8 @@ pub mod Reading
 pub mod Floors
 pub mod Closings
 pub mod Works
+pub mod Sending
+pub mod Owning
+pub mod Posts
+pub mod Tasks
+pub mod Settling

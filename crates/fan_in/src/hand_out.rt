@@ -75,7 +75,7 @@ fn offer_at<G: Gate, R: Threads + Wait>(
 }
 
 // Whether an entry goes to a shard.
-fn goes_to(what: &What, shards: u16, shard: u16) -> bool
+pub(crate) fn goes_to(what: &What, shards: u16, shard: u16) -> bool
     requires { 1 ≤ shards }
     ensures { result ≡ goes_to shards shard what.now }
 {

@@ -1,0 +1,71 @@
+ghost use Rattle.std.specs.Prelude.{◌≡◌, ◌≤◌, [], length, OnOk, OnErr};
+ghost use Rattle.stream_base.specs.declared.limits.TheConstants.{JOURNAL_MAX};
+ghost use Rattle.mail_lane.specs.Lane.{IsSenderOf, with_message};
+
+use mail_lane::{Back, Mail, Sender};
+use std::marker::Model;
+use std::sync::Wait;
+use stream_base::{Entry, NoMemory};
+
+// A sender of a lane, which counts what it has sent. Contracts see the sender.
+#[derive(Drop)]
+pub(crate) struct Outbox {
+    sender: Sender<Entry>,
+    count: u64,
+}
+
+impl Model for Outbox {
+    ghost use Rattle.std.specs.Prelude.{◌≡◌, length};
+    ghost use Rattle.stream_base.specs.declared.entry.Entry.{Entry};
+    ghost use Rattle.mail_lane.specs.Lane.{SenderState};
+
+    ghost Value = { SenderState Entry };
+
+    ghost view = { λ o. o.sender };
+
+    ghost invariant = { λ o. o.count ≡ length o.sender.sent };
+}
+
+impl Outbox {
+    pub(crate) fn new(sender: Sender<Entry>) -> Outbox
+        requires { sender.sent ≡ [] }
+        ensures { result ≡ sender }
+    {
+        Outbox { sender, count: 0 }
+    }
+
+    // How many entries it has sent.
+    pub(crate) fn count(&self) -> u64
+        ensures { result ≡ length (self.now).sent }
+    {
+        self.count
+    }
+
+    pub(crate) fn into_sender(self) -> Sender<Entry>
+        ensures { result ≡ self }
+    {
+        let Outbox { sender, count: _ } = self;
+        sender
+    }
+
+    // Sends one entry more. A lane takes no more than one above what a journal holds.
+    pub(crate) fn send<R: Wait>(
+        &mut self,
+        rt: &R,
+        mail: &Mail<Entry>,
+        entry: Entry,
+    ) -> Result<(), NoMemory>
+        requires own { IsSenderOf mail.now self.old }
+        requires few { length (self.old).sent ≤ JOURNAL_MAX }
+        ensures sent { OnOk result (self.new ≡ with_message self.old entry) }
+        ensures unsent { OnErr result (self.new ≡ self.old) }
+    {
+        match mail.send(rt, &mut self.sender, entry) {
+            Ok(()) => {
+                self.count += 1;
+                Ok(())
+            }
+            Err(Back { message: _ }) => Err(NoMemory),
+        }
+    }
+}

@@ -1,0 +1,77 @@
+ghost use Rattle.std.specs.Prelude.{◌≡◌, ◌≤◌, ◌<◌, ◌++◌, ℕ, List, [], ◌∷◌};
+ghost use Rattle.stream_base.specs.Limits.{Definitions};
+ghost use Rattle.stream_base.specs.declared.entry.Entry.{Entry};
+ghost use Rattle.fan_in.specs.Owning.{IsOwner, OwnsAfter};
+
+use crate::outcome::Outcome;
+use agg_laws::Steps;
+use shard_core::{ApplyFault, Shard};
+use source_feed::FeedFault;
+use std::thread::Threads;
+use stream_base::{Entry, Gate};
+
+// The owner of a shard: it applies the entries of the shard's lane, and notes of each source whether
+// one of its entries was refused, or was left once memory had run out.
+#[derive(Drop)]
+pub(crate) struct Owner {
+    pub(crate) number: u16,
+    pub(crate) sources: u16,
+    pub(crate) shard: Shard,
+    pub(crate) notes: [Outcome; 16],
+    // Whether memory ran out. Nothing is applied then.
+    pub(crate) stopped: bool,
+    // Whether an entry came that no feed sends.
+    pub(crate) stray: bool,
+}
+
+impl Owner {
+    pub(crate) fn new(shard: Shard, number: u16, sources: u16) -> Owner
+        requires few { number < 16 }
+        requires few_sources { sources ≤ 16 }
+        requires alike { shard.sources ≡ sources }
+        requires blank { shard.journal ≡ [] }
+        ensures is { IsOwner result }
+        ensures nothing { OwnsAfter shard.defs sources number [] result }
+    {
+        Owner {
+            number,
+            sources,
+            shard,
+            notes: [Outcome::Done; 16],
+            stopped: false,
+            stray: false,
+        }
+    }
+
+    // Applies an entry, unless memory ran out before. The gate is passed with 16 and the number of
+    // the shard.
+    pub(crate) fn take_in<G: Gate, R: Threads>(&mut self, rt: &R, gate: &G, entry: &Entry)
+        requires is { IsOwner self.old }
+        ensures is { IsOwner self.new }
+        ensures after { (d : Definitions) (sources k : ℕ) (got : List Entry)
+            → OwnsAfter d sources k got self.old
+            → OwnsAfter d sources k (got ++ entry.now ∷ []) self.new }
+    {
+        if self.stray || entry.source >= self.sources || !entry.is_within_limits() {
+            self.stray = true;
+            return;
+        }
+        let source = usize::from(entry.source);
+        if self.stopped {
+            self.notes[source] = Outcome::Fault(FeedFault::NoMemory);
+            return;
+        }
+        gate.pass(16 + self.number);
+        match self.shard.apply(entry, &mut Steps::<()>::start(rt)) {
+            Ok(_) => {}
+            Err(ApplyFault::Ended) => self.stray = true,
+            Err(ApplyFault::Full) => {
+                self.notes[source] = Outcome::Full { shard: self.number };
+            }
+            Err(ApplyFault::NoMemory) => {
+                self.stopped = true;
+                self.notes[source] = Outcome::Fault(FeedFault::NoMemory);
+            }
+        }
+    }
+}

@@ -1,0 +1,41 @@
+ghost use Rattle.std.specs.Prelude.{◌≡◌};
+ghost use Rattle.fan_in.specs.Posts.{OwnsLane};
+
+use crate::owner::Owner;
+use crate::plan::Plan;
+use mail_lane::{Mail, Receiver};
+use std::sync::Wait;
+use std::sync::atomic::{AtomicU64, Ordering};
+use std::thread;
+use std::thread::Threads;
+use stream_base::{Entry, Gate};
+
+// The work on one shard: the receiver of its lane, and its owner.
+#[derive(Drop)]
+pub(crate) struct OwnerJob {
+    pub(crate) receiver: Receiver<Entry>,
+    pub(crate) owner: Owner,
+}
+
+// Takes entries and applies them, until the lane was empty after all feeds had ended.
+pub(crate) fn own_lane<G: Gate, R: Threads + Wait>(
+    rt: &R,
+    gate: &G,
+    plan: &Plan,
+    mail: &Mail<Entry>,
+    ended: &AtomicU64,
+    job: &mut OwnerJob,
+)
+    requires owns { OwnsLane plan.now.defs plan.now.sources job.old.owner.number mail.now job.old }
+    ensures owns { OwnsLane plan.now.defs plan.now.sources job.old.owner.number mail.now job.new }
+{
+    'looks: for _ in rt.forever() {
+        let all_ended = ended.load(Ordering::SeqCst) == u64::from(plan.sources);
+        match mail.take(rt, &mut job.receiver) {
+            Some(entry) => job.owner.take_in(rt, gate, &entry),
+            None if all_ended => return,
+            None => thread::yield_now(),
+        }
+    }
+    unreachable!()
+}

@@ -1,0 +1,93 @@
+ghost use Rattle.std.specs.Prelude.{◌≡◌, ◌≤◌, ◌<◌, ◌+◌, ℕ, [], All, length, IfOk, OnOk};
+ghost use Rattle.mail_lane.specs.Lane.{AreSendersOf};
+ghost use Rattle.fan_in.specs.Posts.{GainBoxes, IsPost};
+
+use crate::outbox::Outbox;
+use crate::owner::Owner;
+use crate::owner_job::OwnerJob;
+use crate::plan::Plan;
+use mail_lane::{Mail, Sender};
+use shard_core::Shard;
+use std::alloc::Global;
+use stream_base::{Entry, NoMemory};
+
+// The lanes of all shards, the owner of each, and for each source a row of senders, one of each lane.
+#[derive(Drop)]
+pub(crate) struct Post {
+    pub(crate) lanes: Vec<Mail<Entry>>,
+    pub(crate) owners: Vec<OwnerJob>,
+    pub(crate) rows: Vec<Vec<Outbox>>,
+}
+
+// Opens a lane for each shard, with a sender for each source.
+pub(crate) fn open_post(alloc: Global, plan: &Plan) -> Result<Post, NoMemory>
+    requires some_sources { 1 ≤ plan.now.sources }
+    requires few_sources { plan.now.sources ≤ 16 }
+    requires few_shards { plan.now.shards ≤ 16 }
+    ensures shards { IfOk result (λ post. length post.lanes.items ≡ plan.now.shards) }
+    ensures open { IfOk result (λ post. IsPost plan.now.defs plan.now.sources
+        post.lanes.items post.owners.items post.rows.items) }
+{
+    let mut post = Post {
+        lanes: Vec::new(alloc),
+        owners: Vec::new(alloc),
+        rows: empty_rows(alloc, plan.sources)?,
+    };
+    for k in 0..plan.shards {
+        open_lane(alloc, plan, k, &mut post)?;
+    }
+    Ok(post)
+}
+
+// A row for each source, with no sender yet.
+fn empty_rows(alloc: Global, sources: u16) -> Result<Vec<Vec<Outbox>>, NoMemory>
+    ensures many { IfOk result (λ rows. length rows.items ≡ sources) }
+    ensures none { IfOk result (λ rows. All (λ row. row.items ≡ []) rows.items) }
+{
+    let mut rows = Vec::new(alloc);
+    for _i in 0..sources {
+        rows.push(Vec::new(alloc))?;
+    }
+    Ok(rows)
+}
+
+// Opens one lane more.
+fn open_lane(alloc: Global, plan: &Plan, number: u16, post: &mut Post) -> Result<(), NoMemory>
+    requires some_sources { 1 ≤ plan.now.sources }
+    requires few_sources { plan.now.sources ≤ 16 }
+    requires few { number < 16 }
+    requires next { number ≡ length post.old.lanes.items }
+    requires open { IsPost plan.now.defs plan.now.sources
+        post.old.lanes.items post.old.owners.items post.old.rows.items }
+    ensures one_more { OnOk result
+        (length post.new.lanes.items ≡ length post.old.lanes.items + 1) }
+    ensures open { OnOk result (IsPost plan.now.defs plan.now.sources
+        post.new.lanes.items post.new.owners.items post.new.rows.items) }
+{
+    let shard = Shard::new(alloc, plan.defs.copy(alloc)?, plan.sources)?;
+    let (mail, receiver, senders) = Mail::new(alloc, plan.sources)?;
+    hand_outboxes(&mail, senders, post.rows.as_mut_slice())?;
+    let owner = Owner::new(shard, number, plan.sources);
+    post.lanes.push(mail)?;
+    post.owners.push(OwnerJob { receiver, owner })?;
+    Ok(())
+}
+
+// Hands each row the sender of its source.
+fn hand_outboxes(
+    mail: &Mail<Entry>,
+    mut senders: Vec<Sender<Entry>>,
+    rows: &mut [Vec<Outbox>],
+) -> Result<(), NoMemory>
+    requires senders { AreSendersOf mail.now senders.items }
+    requires unsent { All (λ sender. sender.sent ≡ []) senders.items }
+    requires one_each { length rows.old ≡ length senders.items }
+    ensures many { length rows.new ≡ length rows.old }
+    ensures rows { OnOk result (GainBoxes mail.now rows.old rows.new) }
+{
+    let _lane = mail;
+    for i in 0..rows.len() {
+        rows[i].push(Outbox::new(senders.remove(0)))?;
+    }
+    Ok(())
+}
