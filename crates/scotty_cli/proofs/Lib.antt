@@ -1,5 +1,10 @@
-pub mod Feedings
-pub mod Answering
-pub mod Sourced
-pub mod Told
 pub mod WordFacts
+pub mod Told
+pub mod Counting
+pub mod Calling
+pub mod Settlings
+pub mod Opened
+pub mod Gathers
+pub mod Ends
+pub mod Filled
+pub mod Answering

@@ -1,21 +1,38 @@
 -- What the tests of the words say of a list of words.
-use Rattle.std.proofs.Common.{◌≡◌, ℕ, ◌-◌, ◌^◌, ◌<◌, ◌≤◌, ◌↔◌, Bool, true, false, List, [], ◌∷◌, length, map, take, drop, get_or, refl, subst, ap, ◌∙◌, arith, rules, decimal, codes, All, IsTrue, Ok, Result, inl}
+use Rattle.std.proofs.Common.{◌≡◌, ℕ, ◌-◌, ◌^◌, ◌<◌, ◌≤◌, ◌↔◌, Bool, true, false, List, [], ◌∷◌, length, map, take, drop, get_or, refl, sym, subst, ap, ◌∙◌, arith, rules, decimal, codes, All, IsTrue, Ok, Err, Result, inl, inr}
 use Rattle.std.specs.Bool.{MatchBool}
 use Rattle.std.specs.List.{AllWithin, HoldsAt}
 use Rattle.std.specs.Str.Parse.{ParsesUnsigned}
 use Rattle.std.proofs.Math.ListN.{get_or-map}
 use Rattle.std.proofs.lemmas.List.{length-map, length-drop, take_all}
 use Rattle.std.proofs.lemmas.List.Elements.{All-map, All-cons, All-nil}
-use Rattle.std.proofs.lemmas.Fmt.{parse-decimal, decimal_digit}
+use Rattle.std.proofs.lemmas.Fmt.{parse-decimal, decimal_injective}
 use Rattle.emission_text.specs.declared.report_form.ReportForm.{ReportForm}
 use Rattle.emission_text.specs.declared.report_form.ReportForm.TheVariants.{One, Two}
-use Rattle.scotty_cli.specs.Words.{turns, way_word, run_word, IsRunWord, IsCommand, IsPlainRun, IsMade, IsName, IsNumberWithin, IsRun, IsRunOn, IsWay, AreSources}
+use Rattle.scotty_cli.specs.Words.{Run, Way, turns, mail, way_word, run_word, run_by_turns, IsRunWord, IsCommand, IsMade, IsName, IsNumberWithin, IsRun, IsRunOf, IsTurnRun, IsUnbuilt, IsWay, AreSources}
 
 -- a number that is written within the bounds is what `parse` returns
 pub reads_within : {E : Type 0} (least most : ℕ) (word : List ℕ) (r : Result ℕ E) → most < 2 ^ 64 → ParsesUnsigned 64 10 word r → IsNumberWithin least most word → (n : ℕ) × (r ≡ Ok n) × (least ≤ n) × (n ≤ most) × (word ≡ decimal n)
 reads_within least most word r fits p w =
     let high : w.number ≤ most = w.at_most in
     (w.number, parse-decimal 64 w.number word r (omega arith) (omega arith) w.spelled p, w.at_least, w.at_most, w.spelled)
+
+-- a number that `parse` returned, and that isn't written within the bounds
+pub not_within : {E : Type 0} (least most : ℕ) (word : List ℕ) (r : Result ℕ E) (number : ℕ) → most < 2 ^ 64 → ParsesUnsigned 64 10 word r → r ≡ Ok number → (word ≡ decimal number → least ≤ number → number ≤ most → ⊥) → IsNumberWithin least most word → ⊥
+not_within {E = E} least most word r number fits p is none w =
+    let (n, read, low, high, spelled) = reads_within least most word r fits p w in
+    let same : n ≡ number = ok_inj r n number read is in
+    none (spelled ∙ ap decimal same) (omega (arith, low, same)) (omega (arith, high, same))
+  where
+    ok_inj : (x : Result ℕ E) (a b : ℕ) → x ≡ Ok a → x ≡ Ok b → a ≡ b
+    ok_inj x a b h k = cc
+
+-- where `parse` returned no number, none is written within the bounds
+pub never_within : {E : Type 0} (least most : ℕ) (word : List ℕ) (r : Result ℕ E) (e : E) → most < 2 ^ 64 → ParsesUnsigned 64 10 word r → r ≡ Err e → IsNumberWithin least most word → ⊥
+never_within {E = E} least most word r e fits p is w = no r (reads_within least most word r fits p w).0 (reads_within least most word r fits p w).1 is
+  where
+    no : (x : Result ℕ E) (n : ℕ) → x ≡ Ok n → x ≡ Err e → ⊥
+    no x n h k = cc
 
 All-unmap : {X Y : Type 0} (P : Y → Type 0) (f : X → Y) (xs : List X) → All P (map f xs) → All (λ x. P (f x)) xs
 All-unmap P f xs a k d l =
@@ -28,11 +45,6 @@ names_told f xs true h = (λ t. All-map IsName f xs (λ k d l. h k d (omega arit
 names_told f [] false h = (λ t. search rules, λ a. absurd (omega (arith, h.1)))
 names_told f (x ∷ xs) false h =
     (λ t. search rules, λ a. let y : 0 < length (f (get_or (x ∷ xs) h.0 x)) = All-unmap IsName f (x ∷ xs) a h.0 x h.1 in let n : length (f (get_or (x ∷ xs) h.0 x)) ≡ 0 = h.2 x in absurd (omega arith))
-
--- the texts of five items
-pub five : {X : Type 0} (f : X → List ℕ) (xs : List X) (a b c d e : X) → length xs ≡ 5 → a ≡ get_or xs 0 a → b ≡ get_or xs 1 b → c ≡ get_or xs 2 c → d ≡ get_or xs 3 d → e ≡ get_or xs 4 e → map f xs ≡ f a ∷ f b ∷ f c ∷ f d ∷ f e ∷ []
-five f (u ∷ v ∷ w ∷ x ∷ y ∷ []) a b c d e l p q r s t = cc
-five f xs a b c d e l p q r s t = absurd (omega arith)
 
 -- the texts of six items
 pub six : {X : Type 0} (f : X → List ℕ) (xs : List X) (a b c d e g : X) → length xs ≡ 6 → a ≡ get_or xs 0 a → b ≡ get_or xs 1 b → c ≡ get_or xs 2 c → d ≡ get_or xs 3 d → e ≡ get_or xs 4 e → g ≡ get_or xs 5 g → map f xs ≡ f a ∷ f b ∷ f c ∷ f d ∷ f e ∷ f g ∷ []
@@ -67,64 +79,28 @@ made_way ws a b c d e g spelled made = (made.way, cc)
 
 -- the words of a run, put together, and its sources
 pub run_words : (ws : List (List ℕ)) (a b c d : List ℕ) (es : List (List ℕ)) → ws ≡ a ∷ b ∷ c ∷ d ∷ es → IsRunWord a → IsName b → IsNumberWithin 1 16 c → IsWay d → AreSources es → IsRun ws
-run_words ws a b c d es spelled h defs shards way sources = record {
-  run = record { form = h.0; defs = b; shards = shards.number; way = way.0; sources = es };
-  spelled = cc;
-  defs_name = defs;
-  some_shards = shards.at_least;
-  few_shards = shards.at_most;
-  some_sources = sources.0;
-  few_sources = sources.1;
-  source_names = sources.2;
-}
+run_words ws a b c d es spelled h defs shards way sources = (
+  record { form = h.0; defs = b; shards = shards.number; way = way.0; sources = es },
+  record {
+    spelled = cc;
+    defs_name = defs;
+    some_shards = shards.at_least;
+    few_shards = shards.at_most;
+    some_sources = sources.0;
+    few_sources = sources.1;
+    source_names = sources.2;
+  },
+)
 
 pub run_sources : (ws : List (List ℕ)) (a b c d : List ℕ) (es : List (List ℕ)) → ws ≡ a ∷ b ∷ c ∷ d ∷ es → IsRun ws → AreSources es
-run_sources ws a b c d es spelled run =
-    let words = run.spelled in
-    let same : run.run.sources ≡ es = cc in
-    subst (λ (ys : List (List ℕ)). AreSources ys) same (run.some_sources, run.few_sources, run.source_names)
+run_sources ws a b c d es spelled (run, is) =
+    let words = is.spelled in
+    let same : run.sources ≡ es = cc in
+    subst (λ (ys : List (List ℕ)). AreSources ys) same (is.some_sources, is.few_sources, is.source_names)
 
 -- what is taken behind the first n items is all of the rest
 pub take-all_of : {X : Type 0} (n : ℕ) (xs : List X) → take (length xs - n) (drop n xs) ≡ drop n xs
 take-all_of n xs = let e : length (drop n xs) ≡ length xs - n = length-drop n xs in take_all (length xs - n) (drop n xs) (omega arith)
-
-one_item : (xs : List (List ℕ)) → length xs ≡ 1 → xs ≡ get_or xs 0 [] ∷ []
-one_item (x ∷ []) l = refl
-one_item [] l = absurd (omega arith)
-one_item (x ∷ y ∷ xs) l = absurd (omega arith)
-
--- the words of a run of one shard and one source by turns are spelled by `plain_words`
-pub plain_is_spelled : (words : List (List ℕ)) → IsPlainRun words → (form : ReportForm) × (defs : List ℕ) × (source : List ℕ) × IsRunOn words form defs source
-plain_is_spelled words p =
-    let run = p.0.run in
-    let one : decimal run.shards ≡ codes "1" = ap decimal p.1 ∙ decimal_digit 1 (omega arith) in
-    let way : way_word run.way ≡ codes "turns" = ap way_word p.2 in
-    let sources : run.sources ≡ get_or run.sources 0 [] ∷ [] = one_item run.sources p.3 in
-    let spelled : words ≡ run_word run.form ∷ run.defs ∷ decimal run.shards ∷ way_word run.way ∷ run.sources = p.0.spelled in
-    (run.form, run.defs, get_or run.sources 0 [], record { spelled = cc; defs_name = p.0.defs_name; source_name = p.0.source_names 0 [] (omega arith) })
-
--- and the other way round
-pub spelled_is_plain : (words : List (List ℕ)) (form : ReportForm) (defs source : List ℕ) → IsRunOn words form defs source → IsPlainRun words
-spelled_is_plain words form defs source run =
-    let one : decimal 1 ≡ codes "1" = decimal_digit 1 (omega arith) in (
-      record {
-        run = record { form = form; defs = defs; shards = 1; way = turns; sources = source ∷ [] };
-        spelled = rw one run.spelled;
-        defs_name = run.defs_name;
-        some_shards = omega arith;
-        few_shards = omega arith;
-        some_sources = omega arith;
-        few_sources = omega arith;
-        source_names = All-cons IsName source [] run.source_name (All-nil IsName);
-      },
-      refl,
-      refl,
-      refl,
-    )
-
--- the words of the run that is built are a command
-pub run_is_command : (words : List (List ℕ)) (form : ReportForm) (defs source : List ℕ) → IsRunOn words form defs source → IsCommand words
-run_is_command words form defs source named = inl (spelled_is_plain words form defs source named).0
 
 -- the first words of the two forms differ
 form_told : (form other : ReportForm) → run_word form ≡ run_word other → form ≡ other
@@ -133,10 +109,92 @@ form_told One Two h = cc
 form_told Two One h = cc
 form_told Two Two h = refl
 
--- words tell one run at most
-pub one_run : (words : List (List ℕ)) (form other : ReportForm) (a b c d : List ℕ) → IsRunOn words form a b → IsRunOn words other c d → (form ≡ other) × (a ≡ c) × (b ≡ d)
-one_run words form other a b c d first second =
+-- and so do the words of the two ways
+way_told : (way other : Way) → way_word way ≡ way_word other → way ≡ other
+way_told turns turns h = refl
+way_told turns mail h = cc
+way_told mail turns h = cc
+way_told mail mail h = refl
+
+-- words are those of one run at most
+pub one_run : (words : List (List ℕ)) (run other : Run) → IsRunOf words run → IsRunOf words other → run ≡ other
+one_run words run other first second =
     let one = first.spelled in
     let two = second.spelled in
-    let word : run_word form ≡ run_word other = cc in
-    (form_told form other word, cc, cc)
+    let form : run.form ≡ other.form = form_told run.form other.form cc in
+    let few = first.few_shards in
+    let many = second.few_shards in
+    let shards : run.shards ≡ other.shards = decimal_injective run.shards other.shards (omega arith) (omega arith) cc in
+    let way : run.way ≡ other.way = way_told run.way other.way cc in
+    let defs : run.defs ≡ other.defs = cc in
+    let sources : run.sources ≡ other.sources = cc in
+    λ i. record { form = form i; defs = defs i; shards = shards i; way = way i; sources = sources i }
+
+-- no run is a made run
+run_not_made : (form : ReportForm) → run_word form ≡ codes "made" → ⊥
+run_not_made One h = let first : 114 ≡ 109 = ap (λ (w : List ℕ). get_or w 0 0) h in omega (arith, first)
+run_not_made Two h = let first : 114 ≡ 109 = ap (λ (w : List ℕ). get_or w 0 0) h in omega (arith, first)
+
+ways_differ : turns ≡ mail → ⊥
+ways_differ h = absurd cc
+
+-- a run by turns is a command
+pub turn_is_command : (words : List (List ℕ)) (run : Run) → IsTurnRun words run → IsCommand words
+turn_is_command words run turn = inl (run, turn.is_run)
+
+-- a run by turns is built
+pub turn_is_built : (words : List (List ℕ)) (run : Run) → IsTurnRun words run → IsUnbuilt words → ⊥
+turn_is_built words run turn (inl (other, is, by_mail)) =
+    let same : other.way ≡ run.way = ap (λ (r : Run). r.way) (one_run words other run is turn.is_run) in
+    ways_differ (sym (turn.by_turns) ∙ sym same ∙ by_mail)
+turn_is_built words run turn (inr made) =
+    let one = (turn.is_run).spelled in
+    let two = made.spelled in
+    run_not_made run.form cc
+
+-- a command that is no run by turns isn't built
+pub other_is_unbuilt : (words : List (List ℕ)) → IsCommand words → ((run : Run) → IsTurnRun words run → ⊥) → IsUnbuilt words
+other_is_unbuilt words (inl (run, is)) none = by run.way refl
+  where
+    by : (way : Way) → run.way ≡ way → IsUnbuilt words
+    by turns h = absurd (none run record { is_run = is; by_turns = h })
+    by mail h = inl (run, is, h)
+other_is_unbuilt words (inr made) none = inr made
+
+-- the words of a run by turns, put together
+pub turn_words : (ws : List (List ℕ)) (form : ReportForm) (a b c d : List ℕ) (es : List (List ℕ)) (shards : ℕ) → ws ≡ a ∷ b ∷ c ∷ d ∷ es → a ≡ run_word form → IsName b → c ≡ decimal shards → 1 ≤ shards → shards ≤ 16 → d ≡ codes "turns" → AreSources es
+    → IsTurnRun ws (run_by_turns form b shards es)
+turn_words ws form a b c d es shards spelled word defs number some few way sources = record {
+  is_run = record {
+    spelled = cc;
+    defs_name = defs;
+    some_shards = some;
+    few_shards = few;
+    some_sources = sources.0;
+    few_sources = sources.1;
+    source_names = sources.2;
+  };
+  by_turns = refl;
+}
+
+-- what the words of a run by turns are, taken apart
+pub turn_parts : (ws : List (List ℕ)) (a b c d : List ℕ) (es : List (List ℕ)) → ws ≡ a ∷ b ∷ c ∷ d ∷ es → (run : Run) → IsTurnRun ws run → IsRunWord a × IsName b × IsNumberWithin 1 16 c × (d ≡ codes "turns") × AreSources es
+turn_parts ws a b c d es spelled run turn =
+    let is = turn.is_run in
+    let words = is.spelled in
+    let first : a ≡ run_word run.form = cc in
+    let defs : run.defs ≡ b = cc in
+    let number : c ≡ decimal run.shards = cc in
+    let way : d ≡ way_word run.way = cc in
+    let sources : run.sources ≡ es = cc in (
+      (run.form, first),
+      subst IsName defs is.defs_name,
+      record { number = run.shards; at_least = is.some_shards; at_most = is.few_shards; spelled = number },
+      way ∙ ap way_word turn.by_turns,
+      subst (λ (ys : List (List ℕ)). AreSources ys) sources (is.some_sources, is.few_sources, is.source_names),
+    )
+
+-- what isn't built is a command
+pub unbuilt_is_command : (words : List (List ℕ)) → IsUnbuilt words → IsCommand words
+unbuilt_is_command words (inl (run, is, by_mail)) = inl (run, is)
+unbuilt_is_command words (inr made) = inr made

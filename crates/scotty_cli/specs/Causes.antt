@@ -1,21 +1,26 @@
--- Why the files of a run of one source stop it, by what they tell, and by the counts of failed opens and reads.
-use Rattle.std.specs.Prelude.{◌≡◌, ◌<◌, ◌⊎◌, ℕ, List, length, Option, Some, None, Result, Ok, Err, Vec, ⊤}
+-- Why the files of a run stop it, by what they tell, and by the counts of failed opens and reads.
+use Rattle.std.specs.Prelude.{◌≡◌, ◌≤◌, ◌<◌, ◌⊎◌, ℕ, List, [], length, map, Option, Some, None, Result, Ok, Err, Vec, slice_index_or, ⊤}
 use Rattle.std.specs.declared.alloc.Global.{Global}
 use Rattle.source_feed.specs.declared.whole_fault.WholeFault.{WholeFault}
 use Rattle.source_feed.specs.declared.whole_fault.WholeFault.TheVariants.{Read as WholeRead, TooLong as WholeTooLong, NoMemory as WholeMemory}
 use Rattle.stream_base.specs.Limits.{Definitions}
 use Rattle.stream_base.specs.Outside.{Rose}
+use Rattle.stream_base.specs.Model.Routes.{IsLawful}
+use Rattle.stream_base.specs.declared.entry.Entry.{Entry}
 use Rattle.stream_base.specs.declared.limits.TheConstants.{JOURNAL_MAX}
 use Rattle.shard_core.specs.Shard.{Sharded}
 use Rattle.source_feed.specs.FileFeedState.{source_stream}
-use Rattle.source_feed.specs.Stream.{Stream, bad_record, too_long}
+use Rattle.source_feed.specs.Stream.{Refusal, Stream, bad_record, too_long}
 use Rattle.window_defs.specs.Reading.{reading_of}
 use Rattle.window_defs.specs.declared.defs_fault.DefsFault.{DefsFault}
 use Rattle.window_defs.specs.declared.defs_fault.DefsFault.TheVariants.{Long, Toml, Shape, Limit, Many}
 use Rattle.window_defs.specs.declared.defs_fault.DefsFault.TheVariants.{NoMemory as NoRoom}
+use Rattle.emission_text.specs.Report.{AreAlike}
 use Rattle.emission_text.specs.declared.fault.Fault.{Fault}
 use Rattle.emission_text.specs.declared.fault.Fault.TheVariants.{Usage, Unbuilt, Defs, Unopened, Row, Read, FullSource, FullShard, NoMemory}
-use Rattle.scotty_cli.specs.Outside.{Counts, WhereTold}
+use Rattle.scotty_cli.specs.Called.{count_routed}
+use Rattle.scotty_cli.specs.Outside.{Counts, Telling, WhereTold}
+use Rattle.scotty_cli.specs.Words.{Run}
 
 -- the refusal is the reading of the definitions, unless memory ran out
 abbrev pub RefusesDefs : Option (List ℕ) → DefsFault → Type 0
@@ -38,59 +43,77 @@ StopsAtDefs told counts (FullSource source) = ⊥
 StopsAtDefs told counts (FullShard shard) = ⊥
 StopsAtDefs told counts NoMemory = ⊤
 
--- the stream of the one source, by its bytes
-abbrev pub stream_in : Definitions → List ℕ → Stream
-stream_in d bytes = source_stream 0 d.every d.disorder bytes
-
--- a stream without refusal has more entries than a journal holds
-pub record IsOverfull (stream : Stream) : Type 0 where
-  pub unrefused : stream.refusal ≡ None
-  pub many : JOURNAL_MAX < length stream.entries
-
--- why the one source stops a run: it can't be opened or read, it is too long, a record is refused, or its entries are too many for a journal
-abbrev pub StopsAtSource : Definitions → Option (List ℕ) → Counts → Fault → Type 0
-StopsAtSource d told counts Usage = ⊥
-StopsAtSource d told counts Unbuilt = ⊥
-StopsAtSource d told counts (Defs fault) = ⊥
-StopsAtSource d told counts (Unopened place) = (place ≡ Some 0) × Rose counts.opens.before counts.opens.after
-StopsAtSource d told counts (Row source number why) =
-    (source ≡ 0) × WhereTold told (λ bytes. (stream_in d bytes).refusal ≡ Some (bad_record number why))
-StopsAtSource d told counts (Read place) = (place ≡ Some 0) × Rose counts.reads.before counts.reads.after
-StopsAtSource d told counts (FullSource source) =
-    (source ≡ 0) × WhereTold told (λ bytes. (stream_in d bytes).refusal ≡ Some too_long)
-StopsAtSource d told counts (FullShard shard) = (shard ≡ 0) × WhereTold told (λ bytes. IsOverfull (stream_in d bytes))
-StopsAtSource d told counts NoMemory = ⊤
-
 -- the definitions of a run are those that the file's bytes spell
 abbrev pub AreDefsOf : Option (List ℕ) → Definitions → Type 0
 AreDefsOf told d = WhereTold told (λ bytes. reading_of bytes ≡ Ok d)
 
--- the journal is all of a stream
-pub record IsWholeJournal (stream : Stream) (shard : Sharded) : Type 0 where
-  pub unrefused : stream.refusal ≡ None
-  pub entries : shard.journal ≡ stream.entries
+-- the stream of the source of this number, by its bytes
+abbrev pub stream_at : Definitions → ℕ → List ℕ → Stream
+stream_at d source bytes = source_stream source d.every d.disorder bytes
 
--- the shard of a run: it has these definitions and one source, and its journal holds the source's entries
-pub record IsShardOf (d : Definitions) (told : Option (List ℕ)) (shard : Sharded) : Type 0 where
-  pub defs : shard.defs ≡ d
-  pub sources : shard.sources ≡ 1
-  pub journal : WhereTold told (λ bytes. IsWholeJournal (stream_in d bytes) shard)
+-- the bytes of the source of this number, where they are told
+abbrev pub told_at : Telling → List (List ℕ) → ℕ → Option (List ℕ)
+told_at told sources source = told (slice_index_or sources source [])
 
--- the shard of the files of these names, which a run reads
-pub record IsShardOfFiles (definitions source : Option (List ℕ)) (shard : Sharded) : Type 0 where
+-- no source below this one is refused, where its bytes are told
+abbrev pub NoneRefusedBelow : Telling → Definitions → List (List ℕ) → ℕ → Type 0
+NoneRefusedBelow told d sources source =
+    (i : ℕ) → i < source → WhereTold (told_at told sources i) (λ bytes. (stream_at d i bytes).refusal ≡ None)
+
+-- this source is the first that is refused, and this is its refusal, where the bytes are told
+pub record IsFirstRefused (told : Telling) (d : Definitions) (sources : List (List ℕ)) (source : ℕ) (refusal : Refusal) : Type 0 where
+  pub inside : source < length sources
+  pub refused : WhereTold (told_at told sources source) (λ bytes. (stream_at d source bytes).refusal ≡ Some refusal)
+  pub below : NoneRefusedBelow told d sources source
+
+-- these are the entries of all sources, in their order, and each tells its bytes
+pub record AreEntriesOf (told : Telling) (d : Definitions) (sources : List (List ℕ)) (all : List (List Entry)) : Type 0 where
+  pub many : length all ≡ length sources
+  pub each : (i : ℕ) → i < length sources → (bytes : List ℕ) × (told_at told sources i ≡ Some bytes) × (slice_index_or all i [] ≡ (stream_at d i bytes).entries)
+
+-- no source is refused, and more of their entries go to this shard than a journal holds, where the bytes are told
+pub record IsOverfull (told : Telling) (d : Definitions) (run : Run) (k : ℕ) : Type 0 where
+  pub inside : k < run.shards
+  pub unrefused : NoneRefusedBelow told d run.sources (length run.sources)
+  pub many : (all : List (List Entry)) → AreEntriesOf told d run.sources all → JOURNAL_MAX < count_routed run.shards all k
+
+-- why the sources of a run stop it: one can't be opened; the first in trouble can't be read, is too long, or has a refused record; or too many entries go to a shard
+abbrev pub StopsAtSources : Telling → Run → Definitions → Counts → Fault → Type 0
+StopsAtSources told run d counts Usage = ⊥
+StopsAtSources told run d counts Unbuilt = ⊥
+StopsAtSources told run d counts (Defs fault) = ⊥
+StopsAtSources told run d counts (Unopened None) = ⊥
+StopsAtSources told run d counts (Unopened (Some source)) = (source < length run.sources) × Rose counts.opens.before counts.opens.after
+StopsAtSources told run d counts (Row source number why) = IsFirstRefused told d run.sources source (bad_record number why)
+StopsAtSources told run d counts (Read None) = ⊥
+StopsAtSources told run d counts (Read (Some source)) =
+    (source < length run.sources) × Rose counts.reads.before counts.reads.after × NoneRefusedBelow told d run.sources source
+StopsAtSources told run d counts (FullSource source) = IsFirstRefused told d run.sources source too_long
+StopsAtSources told run d counts (FullShard k) = IsOverfull told d run k
+StopsAtSources told run d counts NoMemory = ⊤
+
+-- the shards of a run: they have its definitions and sources, no source is refused, and their journals are lawful for the sources' entries, where the bytes are told
+pub record AreShardsOf (told : Telling) (run : Run) (d : Definitions) (shards : List Sharded) : Type 0 where
+  pub alike : AreAlike d (length run.sources) shards
+  pub unrefused : NoneRefusedBelow told d run.sources (length run.sources)
+  pub lawful : (all : List (List Entry)) → AreEntriesOf told d run.sources all → IsLawful run.shards all (map (λ s. s.journal) shards)
+  pub few : length shards ≤ 16
+
+-- the shards of the files that a run names
+pub record AreShardsOfFiles (told : Telling) (run : Run) (shards : List Sharded) : Type 0 where
   pub d : Definitions
-  pub read : AreDefsOf definitions d
-  pub filled : IsShardOf d source shard
+  pub read : AreDefsOf (told run.defs) d
+  pub filled : AreShardsOf told run d shards
 
--- the definitions were accepted, and the source stops the run
-pub record StopsBehindDefs (definitions source : Option (List ℕ)) (counts : Counts) (fault : Fault) : Type 0 where
+-- the definitions were accepted, and the sources stop the run
+pub record StopsBehindDefs (told : Telling) (run : Run) (counts : Counts) (fault : Fault) : Type 0 where
   pub d : Definitions
-  pub read : AreDefsOf definitions d
-  pub cause : StopsAtSource d source counts fault
+  pub read : AreDefsOf (told run.defs) d
+  pub cause : StopsAtSources told run d counts fault
 
--- why the files of a run stop it: the definitions do, or they are accepted and the source does
-abbrev pub StopsAtFiles : Option (List ℕ) → Option (List ℕ) → Counts → Fault → Type 0
-StopsAtFiles definitions source counts fault = StopsAtDefs definitions counts fault ⊎ StopsBehindDefs definitions source counts fault
+-- why the files of a run stop it: the definitions do, or they are accepted and the sources do
+abbrev pub StopsAtFiles : Telling → Run → Counts → Fault → Type 0
+StopsAtFiles told run counts fault = StopsAtDefs (told run.defs) counts fault ⊎ StopsBehindDefs told run counts fault
 
 -- why bytes that were read are refused as definitions
 abbrev pub StopsAtBytes : List ℕ → Fault → Type 0

@@ -1,6 +1,6 @@
 pub mod Words
 pub mod Outside
-pub mod Feeding
+pub mod Opening
 pub mod Statuses
 pub mod Causes
 pub mod Settling

@@ -52,9 +52,8 @@ pub record Run : Type 0 where
 abbrev pub words_of : Run → List (List ℕ)
 words_of run = run_word run.form ∷ run.defs ∷ decimal run.shards ∷ way_word run.way ∷ run.sources
 
--- the words of a run: names are nonempty, and there are 1 to 16 shards and sources
-pub record IsRun (words : List (List ℕ)) : Type 0 where
-  pub run : Run
+-- the words are those of this run: names are nonempty, and there are 1 to 16 shards and sources
+pub record IsRunOf (words : List (List ℕ)) (run : Run) : Type 0 where
   pub spelled : words ≡ words_of run
   pub defs_name : IsName run.defs
   pub some_shards : 1 ≤ run.shards
@@ -62,6 +61,10 @@ pub record IsRun (words : List (List ℕ)) : Type 0 where
   pub some_sources : 1 ≤ length run.sources
   pub few_sources : length run.sources ≤ 16
   pub source_names : All IsName run.sources
+
+-- the words are those of a run
+abbrev pub IsRun : List (List ℕ) → Type 0
+IsRun words = (run : Run) × IsRunOf words run
 
 -- the words of a made run: a seed, 1 to 1,000,000 tuples, 1 to 16 sources and shards, and how feeds hand on
 pub record IsMade (words : List (List ℕ)) : Type 0 where
@@ -83,25 +86,20 @@ pub record IsMade (words : List (List ℕ)) : Type 0 where
 abbrev pub IsCommand : List (List ℕ) → Type 0
 IsCommand words = IsRun words ⊎ IsMade words
 
--- the run of one shard and one source by turns, which is what is built
-abbrev pub plain_run : ReportForm → List ℕ → List ℕ → Run
-plain_run form defs source =
-    record { form = form; defs = defs; shards = 1; way = turns; sources = source ∷ [] }
+-- the run of these definitions, shards and sources whose feeds take turns
+abbrev pub run_by_turns : ReportForm → List ℕ → ℕ → List (List ℕ) → Run
+run_by_turns form defs shards sources =
+    record { form = form; defs = defs; shards = shards; way = turns; sources = sources }
 
--- how it is spelled
-abbrev pub plain_words : ReportForm → List ℕ → List ℕ → List (List ℕ)
-plain_words form defs source = run_word form ∷ defs ∷ codes "1" ∷ codes "turns" ∷ source ∷ []
+-- the words are those of this run, and its feeds take turns: such runs are built
+pub record IsTurnRun (words : List (List ℕ)) (run : Run) : Type 0 where
+  pub is_run : IsRunOf words run
+  pub by_turns : run.way ≡ turns
 
--- the words are those of such a run, over files of these names
-pub record IsRunOn (words : List (List ℕ)) (form : ReportForm) (defs source : List ℕ) : Type 0 where
-  pub spelled : words ≡ plain_words form defs source
-  pub defs_name : IsName defs
-  pub source_name : IsName source
+-- the words are those of a run whose feeds send mail
+abbrev pub IsMailRun : List (List ℕ) → Type 0
+IsMailRun words = (run : Run) × IsRunOf words run × (run.way ≡ mail)
 
--- the words are those of no run that is built
-abbrev pub IsNoPlainRun : List (List ℕ) → Type 0
-IsNoPlainRun words = (form : ReportForm) (defs source : List ℕ) → ¬ (IsRunOn words form defs source)
-
--- the words are those of a run of one shard and one source, by turns
-abbrev pub IsPlainRun : List (List ℕ) → Type 0
-IsPlainRun words = (r : IsRun words) × (r.run.shards ≡ 1) × (r.run.way ≡ turns) × (length r.run.sources ≡ 1)
+-- the words are those of a command that isn't built: a run by mail, or a made run
+abbrev pub IsUnbuilt : List (List ℕ) → Type 0
+IsUnbuilt words = IsMailRun words ⊎ IsMade words

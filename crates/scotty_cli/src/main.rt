@@ -5,12 +5,13 @@
 #![tactic(auto)]
 
 mod definitions;
-mod feeding;
+mod gathering;
+mod opening;
 mod real_files;
 mod real_sink;
 mod real_source;
-mod running;
 mod scotty;
+mod settling;
 mod status;
 #[cfg(test)]
 mod tests;

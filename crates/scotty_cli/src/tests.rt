@@ -1,10 +1,13 @@
 mod base;
 mod causes;
 mod former;
+mod gates;
 mod idle;
 mod late;
 mod long;
 mod outside;
+mod shards;
+mod sources;
 mod windows;
 mod words;
 
@@ -12,6 +15,7 @@ use crate::scotty::scotty;
 use crate::status::Status;
 use std::alloc::{AllocError, Global};
 use std::process::Abort;
+use std::sync::Wait;
 use std::test::Fail;
 use std::thread::Threads;
 use stream_base::{MemFile, MemFiles, MemSink, OpenGate};
@@ -64,7 +68,7 @@ fn sink_of(alloc: Global, room: u64) -> Result<MemSink, Fail> {
     Ok(MemSink::new(alloc, room, Vec::new(alloc), 8)?)
 }
 
-fn run<R: Threads>(
+fn run<R: Threads + Wait + Sync>(
     rt: &R,
     alloc: Global,
     words: &[&str],
@@ -77,7 +81,7 @@ fn run<R: Threads>(
 }
 
 // A run of these words over these files ends with this status, and has written this text.
-fn ends<R: Abort + Threads>(
+fn ends<R: Abort + Threads + Wait + Sync>(
     rt: &R,
     alloc: Global,
     words: &[&str],
@@ -93,7 +97,7 @@ fn ends<R: Abort + Threads>(
 }
 
 // These words, with these definitions and records, end with this status and have written this text.
-fn answers<R: Abort + Threads>(
+fn answers<R: Abort + Threads + Wait + Sync>(
     rt: &R,
     alloc: Global,
     words: &[&str],
@@ -114,7 +118,7 @@ struct Case {
 }
 
 // These words write the report of each case.
-fn reports<R: Abort + Threads>(
+fn reports<R: Abort + Threads + Wait + Sync>(
     rt: &R,
     alloc: Global,
     words: &[&str],

@@ -1,19 +1,19 @@
 //! The words of the command line, those after the program's name: which of them are commands, and
-//! which are the run of one shard and one source by turns.
-ghost use Rattle.std.specs.Prelude.{◌≡◌, ◌↔◌, ℕ, List, map, decimal, string_bytes, All, IsTrue, IfSome, IfNone};
-ghost use Rattle.emission_text.specs.declared.report_form.ReportForm.{ReportForm};
-ghost use Rattle.scotty_cli.specs.Words.{IsCommand, IsMade, IsName, IsNoPlainRun, IsNumberWithin, IsPlainRun, IsRun, IsRunOn, IsRunWord, IsWay, AreSources, run_word};
+//! which are runs whose feeds take turns.
+ghost use Rattle.std.specs.Prelude.{◌≡◌, ◌≤◌, ◌↔◌, ℕ, List, map, decimal, string_bytes, All, IsTrue, IfSome, IfNone};
+ghost use Rattle.scotty_cli.specs.Words.{IsCommand, IsMade, IsName, IsNumberWithin, IsRun, IsRunOf, IsRunWord, IsTurnRun, IsUnbuilt, IsWay, AreSources, Run, run_by_turns, run_word};
 
 use emission_text::ReportForm;
 use itoa::Buffer;
 
-/// A run of one shard and one source by turns: the form of its report, and the names of its
-/// definitions and its source.
-#[derive(Clone, Copy, Debug)]
-pub struct PlainRun<'a> {
+/// A run whose feeds take turns: the form of its report, the name of its definitions, how many
+/// shards there are, and the names of its sources.
+#[derive(Clone, Copy)]
+pub struct TurnRun<'a> {
     pub form: ReportForm,
     pub defs: &'a str,
-    pub source: &'a str,
+    pub shards: u16,
+    pub sources: &'a [String],
 }
 
 /// Whether the words are those of a command: `run`, `run2`, or `made`.
@@ -23,21 +23,23 @@ pub fn is_command(words: &[String]) -> bool
     is_run(words) || is_made(words)
 }
 
-/// The run of one shard and one source by turns, if the words are those of one.
-pub fn plain_run(words: &[String]) -> Option<PlainRun<'_>>
-    ensures found { IfSome result (λ p.
-        IsRunOn (map string_bytes words.now) p.form p.defs.now p.source.now) }
-    ensures none { IfNone result (IsNoPlainRun (map string_bytes words.now)) }
+/// The run by turns of these words, if they are those of one.
+pub fn turn_run(words: &[String]) -> Option<TurnRun<'_>>
+    ensures found { IfSome result (λ r. IsTurnRun (map string_bytes words.now)
+        (run_by_turns r.form r.defs.now r.shards (map string_bytes r.sources.now))) }
+    ensures none { IfNone result ((run : Run) → ¬ (IsTurnRun (map string_bytes words.now) run)) }
 {
     match words {
-        [run, defs, shards, way, source] => {
+        [run, defs, shards, way, sources @ ..] => {
             let form = run_form(run.as_str())?;
-            let plain = says(shards.as_str(), "1") && says(way.as_str(), "turns");
-            if plain && is_name(defs.as_str()) && is_name(source.as_str()) {
-                Some(PlainRun {
+            let shards = number_within(shards.as_str(), 1, 16)?;
+            let named = is_name(defs.as_str()) && are_sources(sources);
+            if says(way.as_str(), "turns") && named {
+                Some(TurnRun {
                     form,
                     defs: defs.as_str(),
-                    source: source.as_str(),
+                    shards: shards as u16,
+                    sources,
                 })
             } else {
                 None
@@ -47,17 +49,16 @@ pub fn plain_run(words: &[String]) -> Option<PlainRun<'_>>
     }
 }
 
-/// The runs of one shard and one source by turns are those that `plain_words` spells; each is a
-/// command.
-#[tactic(auto, using(crate::proofs::WordFacts::plain_is_spelled))]
-pub fn plain_words_spell_the_plain_runs()
-    ensures spelled { (words : List (List ℕ)) → IsPlainRun words
-        → (form : ReportForm) × (defs : List ℕ) × (source : List ℕ)
-        × IsRunOn words form defs source }
-    ensures plain { (words : List (List ℕ)) (form : ReportForm) (defs source : List ℕ)
-        → IsRunOn words form defs source → IsPlainRun words }
-    ensures command { (words : List (List ℕ)) (form : ReportForm) (defs source : List ℕ)
-        → IsRunOn words form defs source → IsCommand words }
+/// Words are those of one run at most. A command is a run by turns, or it isn't built, and never
+/// both.
+pub fn commands_are_told_apart_by_their_words()
+    ensures one_run { (words : List (List ℕ)) (run other : Run) → IsRunOf words run
+        → IsRunOf words other → run ≡ other }
+    ensures command { (words : List (List ℕ)) (run : Run) → IsTurnRun words run → IsCommand words }
+    ensures other { (words : List (List ℕ)) (run : Run) → IsTurnRun words run
+        → ¬ (IsUnbuilt words) }
+    ensures either { (words : List (List ℕ)) → IsCommand words
+        → ((run : Run) → ¬ (IsTurnRun words run)) → IsUnbuilt words }
 {}
 
 // The form that the first word of a run tells.
@@ -147,13 +148,27 @@ fn is_way(word: &str) -> bool
     word == "turns" || word == "mail"
 }
 
-// Decimal, with no sign and no leading zero.
 fn is_number_within(word: &str, least: u64, most: u64) -> bool
     ensures { IsTrue result ↔ IsNumberWithin least most word.now }
 {
+    number_within(word, least, most).is_some()
+}
+
+// The number within these bounds that the word spells: decimal, with no sign and no leading zero.
+fn number_within(word: &str, least: u64, most: u64) -> Option<u64>
+    ensures spelled { IfSome result (λ n. word.now ≡ decimal n) }
+    ensures within { IfSome result (λ n. (least ≤ n) × (n ≤ most)) }
+    ensures none { IfNone result (¬ (IsNumberWithin least most word.now)) }
+{
     match word.parse::<u64>() {
-        Ok(number) => is_spelled(word, number) && least <= number && number <= most,
-        Err(_) => false,
+        Ok(number) => {
+            if is_spelled(word, number) && least <= number && number <= most {
+                Some(number)
+            } else {
+                None
+            }
+        }
+        Err(_) => None,
     }
 }
 

@@ -1,0 +1,205 @@
+use super::{DEFS, ends, file, run, sink_of};
+use crate::status::Status;
+use std::alloc::{AllocError, Global};
+use std::process::Abort;
+use std::sync::Wait;
+use std::test::Fail;
+use std::thread::Threads;
+use stream_base::{MemFile, MemSink};
+
+const RUN_TWO: [&str; 6] = ["run", "d", "2", "turns", "s0", "s1"];
+
+// Definitions, and two sources with the numbers of their reads that fail.
+fn two_sources(
+    alloc: Global,
+    first: (&str, Vec<u64>),
+    second: (&str, Vec<u64>),
+) -> Result<[MemFile; 3], AllocError> {
+    Ok([
+        file(alloc, "d", DEFS.as_bytes(), Vec::new(alloc))?,
+        file(alloc, "s0", first.0.as_bytes(), first.1)?,
+        file(alloc, "s1", second.0.as_bytes(), second.1)?,
+    ])
+}
+
+// A run of these words has written a report with these lines, in whatever order.
+fn reports_lines<R: Abort + Threads + Wait + Sync>(
+    rt: &R,
+    alloc: Global,
+    words: &[&str],
+    files: &[MemFile],
+    lines: &[&str],
+) -> Result<(), Fail> {
+    let mut sink = sink_of(alloc, 60_000)?;
+    let ended = run(rt, alloc, words, files, &mut sink)?;
+    let text = str::from_utf8(sink.bytes())?;
+    assert_eq!(rt; ended, Status::Done, "{text}");
+    let mut told = Vec::new(alloc);
+    for line in text.lines() {
+        told.push(line)?;
+    }
+    told.sort()?;
+    let mut wanted = Vec::from_slice(alloc, lines)?;
+    wanted.sort()?;
+    assert_eq!(rt; told.as_slice(), wanted.as_slice(), "{text}");
+    Ok(())
+}
+
+// The ends of both sources stand in both shards, in an order that the schedule decides, and what
+// they complete stands under the later one.
+#[test]
+fn two_sources_fill_two_shards(rt: HostRuntime) -> Result<(), Fail> {
+    let none = || Vec::new(rt.alloc());
+    let files = two_sources(
+        rt.alloc(),
+        ("t,1,5,b\n", none()),
+        ("t,1,7,a\nt,3,1,b\n", none()),
+    )?;
+    let lines = [
+        "shard 0",
+        "j 0 t 1 5 b",
+        "j 1 t 3 1 b",
+        "j 0 e",
+        "j 1 e",
+        "+ 0 0 10 2 6 b",
+        "shard 1",
+        "j 1 t 1 7 a",
+        "j 0 e",
+        "j 1 e",
+        "+ 0 0 10 1 7 a",
+        "end",
+    ];
+    reports_lines(&rt, rt.alloc(), &RUN_TWO, &files, &lines)
+}
+
+#[test]
+fn a_name_given_twice_is_two_sources(rt: HostRuntime) -> Result<(), Fail> {
+    let none = || Vec::new(rt.alloc());
+    let files = two_sources(rt.alloc(), ("t,1,5,a\n", none()), ("", none()))?;
+    let words = ["run", "d", "1", "turns", "s0", "s0"];
+    let lines = [
+        "shard 0",
+        "j 0 t 1 5 a",
+        "j 1 t 1 5 a",
+        "j 0 e",
+        "j 1 e",
+        "+ 0 0 10 2 10 a",
+        "end",
+    ];
+    reports_lines(&rt, rt.alloc(), &words, &files, &lines)
+}
+
+#[test]
+fn sixteen_sources_fill_a_shard(rt: HostRuntime) -> Result<(), Fail> {
+    let none = || Vec::new(rt.alloc());
+    let files = two_sources(rt.alloc(), ("", none()), ("", none()))?;
+    let words = [
+        "run", "d", "1", "turns", "s0", "s1", "s0", "s1", "s0", "s1", "s0", "s1", "s0", "s1", "s0",
+        "s1", "s0", "s1", "s0", "s1",
+    ];
+    let lines = [
+        "shard 0", "j 0 e", "j 1 e", "j 2 e", "j 3 e", "j 4 e", "j 5 e", "j 6 e", "j 7 e", "j 8 e",
+        "j 9 e", "j 10 e", "j 11 e", "j 12 e", "j 13 e", "j 14 e", "j 15 e", "end",
+    ];
+    reports_lines(&rt, rt.alloc(), &words, &files, &lines)
+}
+
+// Whatever is met first in time, the first source in trouble is answered.
+#[test]
+fn the_first_source_in_trouble_is_answered(rt: HostRuntime) -> Result<(), Fail> {
+    let alloc = rt.alloc();
+    let none = || Vec::new(alloc);
+    let bad_second = two_sources(alloc, ("w,1\n", none()), ("w,1\nq,1\n", none()))?;
+    let unread = two_sources(
+        alloc,
+        ("w,1\n", vec![in alloc; 0u64]?),
+        ("w,1\nq,1\n", none()),
+    )?;
+    let both_bad = two_sources(alloc, ("w,1\nw,2\nw,3\nt,1,5\n", none()), ("q\n", none()))?;
+    let late = two_sources(
+        alloc,
+        ("w,1\nq,1\n", none()),
+        ("w,1\n", vec![in alloc; 0u64]?),
+    )?;
+    for (files, status, line) in [
+        (&bad_second, Status::BadRow, "fault row 1 2 kind\n"),
+        (&unread, Status::ReadFault, "fault read 0\n"),
+        (&both_bad, Status::BadRow, "fault row 0 4 fields\n"),
+        (&late, Status::BadRow, "fault row 0 2 kind\n"),
+    ] {
+        ends(&rt, alloc, &RUN_TWO, files, status, line)?;
+    }
+    Ok(())
+}
+
+#[test]
+fn each_file_that_refuses_to_open_is_named(rt: HostRuntime) -> Result<(), Fail> {
+    let none = || Vec::new(rt.alloc());
+    let lines = ["fault open defs\n", "fault open 0\n", "fault open 1\n"];
+    for refused in 0..lines.len() {
+        let mut files = two_sources(rt.alloc(), ("w,1\n", none()), ("w,1\n", none()))?;
+        for later in refused..files.len() {
+            files[later].refuse = true;
+        }
+        let line = lines[refused];
+        ends(&rt, rt.alloc(), &RUN_TWO, &files, Status::OpenFault, line)?;
+    }
+    Ok(())
+}
+
+#[test]
+fn all_sources_are_opened_before_one_is_read(rt: HostRuntime) -> Result<(), Fail> {
+    let alloc = rt.alloc();
+    let mut files = two_sources(
+        alloc,
+        ("q,1\n", vec![in alloc; 0u64]?),
+        ("w,1\n", Vec::new(alloc)),
+    )?;
+    files[2].refuse = true;
+    let line = "fault open 1\n";
+    ends(&rt, alloc, &RUN_TWO, &files, Status::OpenFault, line)
+}
+
+// In pieces of eight bytes a source of nineteen bytes takes three reads, and one that finds the end.
+#[test]
+fn each_failed_read_is_named_by_its_source(rt: HostRuntime) -> Result<(), Fail> {
+    let rows = "t,1,5,a\nt,4,7,a\nw,10\n";
+    let alloc = rt.alloc();
+    for failing in 0..4u64 {
+        let calls = || vec![in alloc; failing];
+        let none = || Vec::new(alloc);
+        let first = two_sources(alloc, (rows, calls()?), (rows, none()))?;
+        let second = two_sources(alloc, (rows, none()), (rows, calls()?))?;
+        let both = two_sources(alloc, (rows, calls()?), (rows, calls()?))?;
+        for (files, line) in [
+            (&first, "fault read 0\n"),
+            (&second, "fault read 1\n"),
+            (&both, "fault read 0\n"),
+        ] {
+            ends(&rt, alloc, &RUN_TWO, files, Status::ReadFault, line)?;
+        }
+    }
+    Ok(())
+}
+
+// The report has 98 bytes in each schedule, so it takes thirteen writes of eight bytes.
+#[test]
+fn each_failed_write_is_answered(rt: HostRuntime) -> Result<(), Fail> {
+    let none = || Vec::new(rt.alloc());
+    let files = two_sources(rt.alloc(), ("t,1,5,b\n", none()), ("t,1,5,a\n", none()))?;
+    let bytes = 98;
+    for failing in 0..14u64 {
+        let calls = vec![in rt.alloc(); failing]?;
+        let mut sink = MemSink::new(rt.alloc(), 400, calls, 8)?;
+        let status = run(&rt, rt.alloc(), &RUN_TWO, &files, &mut sink)?;
+        let written = 8 * failing as usize;
+        if written < bytes {
+            assert_eq!(rt; status, Status::WriteFault, "write {failing}");
+            assert_eq!(rt; sink.bytes().len(), written, "write {failing}");
+        } else {
+            assert_eq!(rt; status, Status::Done, "write {failing}");
+            assert_eq!(rt; sink.bytes().len(), bytes, "write {failing}");
+        }
+    }
+    Ok(())
+}
