@@ -12,6 +12,7 @@ const LOOKS: u64 = 50_000_000;
 
 // How often each of these has passed: source 0 and 1 before an offer, and within a turn of shard 0
 // and 1; and how many holds were left by the limit of looks.
+#[derive(Drop)]
 struct Passes {
     of_first: AtomicU64,
     of_second: AtomicU64,
@@ -48,6 +49,7 @@ fn count(counter: &AtomicU64) -> u64 {
 }
 
 // Holds the first entry of source 0 until source 1 has come to its second.
+#[derive(Drop)]
 struct FirstWaits {
     passes: Passes,
 }
@@ -66,6 +68,7 @@ impl Gate for FirstWaits {
 
 // Holds the first turns of two shards until each has begun, and the second entry of each source
 // until a turn of its shard has begun.
+#[derive(Drop)]
 struct ShardsMeet {
     passes: Passes,
 }

@@ -22,26 +22,34 @@ fn two_sources(
     ])
 }
 
-// A run of these words has written a report with these lines, in whatever order.
+// How often the line stands in the text.
+fn times(text: &str, line: &str) -> usize {
+    let mut many = 0usize;
+    for told in text.lines() {
+        if told == line {
+            many = many.saturating_add(1);
+        }
+    }
+    many
+}
+
+// A run of these words has written a report of so many lines; these stand in it so often.
 fn reports_lines<R: Abort + Threads + Wait + Sync>(
     rt: &R,
     alloc: Global,
     words: &[&str],
     files: &[MemFile],
-    lines: &[&str],
+    many: usize,
+    lines: &[(&str, usize)],
 ) -> Result<(), Fail> {
     let mut sink = sink_of(alloc, 60_000)?;
     let ended = run(rt, alloc, words, files, &mut sink)?;
     let text = str::from_utf8(sink.bytes())?;
     assert_eq!(rt; ended, Status::Done, "{text}");
-    let mut told = Vec::new(alloc);
-    for line in text.lines() {
-        told.push(line)?;
+    assert_eq!(rt; text.lines().count(), many, "{text}");
+    for (line, wanted) in lines {
+        assert_eq!(rt; times(text, line), *wanted, "{line}");
     }
-    told.sort()?;
-    let mut wanted = Vec::from_slice(alloc, lines)?;
-    wanted.sort()?;
-    assert_eq!(rt; told.as_slice(), wanted.as_slice(), "{text}");
     Ok(())
 }
 
@@ -56,20 +64,18 @@ fn two_sources_fill_two_shards(rt: HostRuntime) -> Result<(), Fail> {
         ("t,1,7,a\nt,3,1,b\n", none()),
     )?;
     let lines = [
-        "shard 0",
-        "j 0 t 1 5 b",
-        "j 1 t 3 1 b",
-        "j 0 e",
-        "j 1 e",
-        "+ 0 0 10 2 6 b",
-        "shard 1",
-        "j 1 t 1 7 a",
-        "j 0 e",
-        "j 1 e",
-        "+ 0 0 10 1 7 a",
-        "end",
+        ("shard 0", 1),
+        ("j 0 t 1 5 b", 1),
+        ("j 1 t 3 1 b", 1),
+        ("+ 0 0 10 2 6 b", 1),
+        ("shard 1", 1),
+        ("j 1 t 1 7 a", 1),
+        ("+ 0 0 10 1 7 a", 1),
+        ("j 0 e", 2),
+        ("j 1 e", 2),
+        ("end", 1),
     ];
-    reports_lines(&rt, rt.alloc(), &RUN_TWO, &files, &lines)
+    reports_lines(&rt, rt.alloc(), &RUN_TWO, &files, 12, &lines)
 }
 
 #[test]
@@ -78,15 +84,15 @@ fn a_name_given_twice_is_two_sources(rt: HostRuntime) -> Result<(), Fail> {
     let files = two_sources(rt.alloc(), ("t,1,5,a\n", none()), ("", none()))?;
     let words = ["run", "d", "1", "turns", "s0", "s0"];
     let lines = [
-        "shard 0",
-        "j 0 t 1 5 a",
-        "j 1 t 1 5 a",
-        "j 0 e",
-        "j 1 e",
-        "+ 0 0 10 2 10 a",
-        "end",
+        ("shard 0", 1),
+        ("j 0 t 1 5 a", 1),
+        ("j 1 t 1 5 a", 1),
+        ("j 0 e", 1),
+        ("j 1 e", 1),
+        ("+ 0 0 10 2 10 a", 1),
+        ("end", 1),
     ];
-    reports_lines(&rt, rt.alloc(), &words, &files, &lines)
+    reports_lines(&rt, rt.alloc(), &words, &files, 7, &lines)
 }
 
 #[test]
@@ -98,10 +104,14 @@ fn sixteen_sources_fill_a_shard(rt: HostRuntime) -> Result<(), Fail> {
         "s1", "s0", "s1", "s0", "s1",
     ];
     let lines = [
-        "shard 0", "j 0 e", "j 1 e", "j 2 e", "j 3 e", "j 4 e", "j 5 e", "j 6 e", "j 7 e", "j 8 e",
-        "j 9 e", "j 10 e", "j 11 e", "j 12 e", "j 13 e", "j 14 e", "j 15 e", "end",
+        ("shard 0", 1),
+        ("j 0 e", 1),
+        ("j 7 e", 1),
+        ("j 8 e", 1),
+        ("j 15 e", 1),
+        ("end", 1),
     ];
-    reports_lines(&rt, rt.alloc(), &words, &files, &lines)
+    reports_lines(&rt, rt.alloc(), &words, &files, 18, &lines)
 }
 
 // Whatever is met first in time, the first source in trouble is answered.
