@@ -11,6 +11,8 @@ mod counts;
 #[cfg(test)]
 mod queues;
 #[cfg(test)]
+mod slices;
+#[cfg(test)]
 mod trees;
 
 // Definitions files.
