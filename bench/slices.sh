@@ -118,5 +118,5 @@ for round in 1 2 3 4 5; do
 done
 for late in 0 10; do
     echo "$late $(middle "store$late") $(middle "plain$late")" |
-        awk '{ printf "%s: store %.1f ms, plain %.1f ms, ratio %.2f\n", $1 > 0 ? "one in ten late" : "in order", $2 / 1000, $3 / 1000, $2 / $3 }'
+        awk '{ printf "%s: store %.1f ms, plain %.1f ms, ratio %.2f\n", ($1 > 0 ? "one in ten late" : "in order"), $2 / 1000, $3 / 1000, $2 / $3 }'
 done
