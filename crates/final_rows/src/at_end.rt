@@ -9,12 +9,12 @@ ghost use Rattle.stream_base.specs.declared.entry.Entry.{Entry};
 ghost use Rattle.final_rows.specs.AtEnd.{AreUntied, KeepAll, rows_of_shard, rows_of_shards};
 
 /// In lawful journals of which nothing is dropped, where each source has its end and no key has two
-/// tuples of one time, the rows that stand in a shard are exactly the final rows of its keys, in their
-/// order; those of all shards are the final rows, each once. So they are one and the same for any
-/// number of shards and in every schedule. The final rows are ordered by the bytes of their keys, then
-/// by window, start and end.
+/// tuples of one time, the rows that stand in a shard are exactly the final rows of its keys, in
+/// their order; those of all shards are the final rows, each once. So they are one and the same for
+/// any number of shards and in every schedule. The final rows are ordered by the bytes of their
+/// keys, then by window, start and end.
 pub fn rows_at_the_end_are_the_final_rows()
-    ensures of_a_shard { (d : Definitions) (shards : ℕ) (sources journals : List (List Entry)) (k : ℕ)
+    ensures of_a_shard { (d : Definitions) (shards k : ℕ) (sources journals : List (List Entry))
         → AreUntied sources → KeepAll d.lateness shards sources journals → k < shards
         → standing_rows d (length sources) (slice_index_or journals k [])
         ≡ rows_of_shard shards k (final_rows d sources) }

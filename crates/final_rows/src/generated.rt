@@ -9,10 +9,10 @@ ghost use Rattle.source_feed.specs.Generated.{made_definitions, made_sources};
 ghost use Rattle.source_feed.specs.declared.made_feed.TheConstants.{MADE_ROWS_MAX};
 ghost use Rattle.final_rows.specs.AtEnd.{AreUntied, KeepAll, rows_of_shards};
 
-/// Of the generated sources each has its end, no two tuples have one time, and in lawful journals of
-/// them nothing is dropped: within a source a tuple lies less than 128 behind each earlier one. So
-/// under their definitions the rows that stand at the end are one and the same for any number of
-/// shards and in every schedule.
+/// Of the generated sources each has its end, no two tuples have one time, and in lawful journals
+/// of them nothing is dropped, since within a source a tuple lies less than 128 behind each earlier
+/// one. So under their definitions the rows that stand at the end are one and the same for any
+/// number of shards and in every schedule.
 pub fn generated_sources_have_one_result()
     ensures untied { (seed rows sources : ℕ) → rows ≤ MADE_ROWS_MAX
         → AreUntied (made_sources seed rows sources) }
