@@ -55,7 +55,13 @@ impl MailFeeds {
             (F.faults start) (F.faults end.feed)) }
         ensures named { IfOk result (λ g. (i : ℕ) (e : FeedEnd F) → i < plan.now.sources
             → NamesOneOf plan.now.shards (slice_index_or g.ends.items i e).outcome) }
-        ensures shards { IfOk result (λ g. length g.shards.items ≡ plan.now.shards) }
+        ensures shards { IfOk result (λ g. (g.shards.items ≡ [])
+            ⊎ (length g.shards.items ≡ plan.now.shards)) }
+        ensures none { IfOk result (λ g. g.shards.items ≡ [] → (i : ℕ) (e : FeedEnd F)
+            → i < plan.now.sources → IsFault (slice_index_or g.ends.items i e).outcome) }
+
+        // Shards are handed back always.
+        ensures all_shards { IfOk result (λ g. length g.shards.items ≡ plan.now.shards) }
         ensures alike { IfOk result (λ g. (k : ℕ) (s : Sharded) → k < length g.shards.items
             → IsGathered plan.now.defs plan.now.sources (slice_index_or g.shards.items k s)) }
         ensures parts { IfOk result (λ g. (k i : ℕ) (s : Sharded) (f : F) (e : FeedEnd F)

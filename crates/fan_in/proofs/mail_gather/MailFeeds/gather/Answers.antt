@@ -1,4 +1,4 @@
-use Rattle.std.proofs.Common.{sym, subst, ap, ◌∙◌, ◌≡◌, ◌<◌, length, get_or, arith, IfSome}
+use Rattle.std.proofs.Common.{sym, subst, ap, ◌∙◌, ◌≡◌, ◌<◌, length, get_or, arith, inr, IfSome}
 use Rattle.fan_in.specs.Gathering.{NamesOneOf}
 use Rattle.fan_in.specs.Sending.{AreFrom, HaveSentParts}
 use Rattle.fan_in.specs.Settling.{Follows}
@@ -58,6 +58,12 @@ returns-in-Ok-clause-named g c i e l =
     let follows = rw lent at c.settle_all.ensures.follows in
     let feeds = rw lent at c.settle_all.ensures.feeds in
     rw w (subst (λ n. NamesOneOf n (get_or done i e).outcome) c.in-Ok.ensures.shards (named_follows _ _ _ (follows i e le)))
+
+pub returns-in-Ok-clause-shards : goal.returns-in-Ok-clause-shards
+returns-in-Ok-clause-shards g c = inr (c.settle_all.ensures.many ∙ c.in-Ok.ensures.shards)
+
+pub returns-in-Ok-clause-none : goal.returns-in-Ok-clause-none
+returns-in-Ok-clause-none g c none i e l = let n = ap length none in absurd (omega (arith, c.settle_all.ensures.many, c.in-Ok.ensures.shards, c.requires.some_shards))
 
 pub returns-in-Ok-clause-alike : goal.returns-in-Ok-clause-alike
 returns-in-Ok-clause-alike g c k s l = (c.settle_all.ensures.settled k s l).gathered
