@@ -1,0 +1,22 @@
+-- What a tree with a finger is in contracts, and what it keeps.
+use Rattle.std.specs.Prelude.{◌≡◌, ℕ, suc, true, List}
+use Rattle.fiba_arena.specs.declared.root.Root.{Root}
+use Rattle.fiba_arena.specs.Stores.{Store}
+use Rattle.fiba_arena.specs.Trees.{plain}
+use Rattle.fiba_arena.specs.Arena.{IsArena}
+use Rattle.fiba_finger.specs.Edges.{edge}
+
+-- its pairs, for how many more there is room, and its height
+pub record Fingers (M : Type 0) : Type 0 where
+  pub pairs : List (ℕ × M)
+  pub spare : ℕ
+  pub height : ℕ
+
+-- the finger is the leaf on the right edge, if there is one
+abbrev pub IsFinger : {M : Type 0} → Store M → Root → ℕ → Type 0
+IsFinger store root finger = (below : ℕ) → root.height ≡ suc below → finger ≡ edge (plain store) below root.at
+
+-- the tree is sound, with aggregates that leave out the children on the edges, and the finger stands at its end
+pub record IsFingered {M : Type 0} (IsValue : M → Type 0) (empty : M) (op : M → M → M) (store : Store M) (root : Root) (count limit finger : ℕ) : Type 0 where
+  pub arena : IsArena IsValue empty op store root true true count limit
+  pub last : IsFinger store root finger

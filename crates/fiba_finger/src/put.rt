@@ -1,0 +1,93 @@
+ghost use Rattle.std.specs.Prelude.{◌≡◌, ◌≤◌, ◌<◌, ◌+◌, ◌*◌, ◌^◌, false, true};
+ghost use Rattle.agg_laws.specs.Pairs.{AreRising, has_key};
+ghost use Rattle.fiba_arena.specs.Arena.{pairs_in};
+ghost use Rattle.fiba_arena.specs.Changes.{is_first};
+ghost use Rattle.fiba_arena.specs.Roots.{CanChange, IsTree};
+ghost use Rattle.fiba_arena.specs.declared.change.Change.TheVariants.{Insert};
+ghost use Rattle.fiba_finger.specs.Climbs.{IsPut, distance};
+ghost use Rattle.fiba_finger.specs.Fingers.{IsFinger};
+
+use crate::climb::climb;
+use crate::climbed::Climbed;
+use crate::edge::{right_place, rightmost};
+use crate::grown::Grown;
+use crate::raise::raise;
+use agg_laws::{Monoid, Probes, Steps};
+use fiba_arena::{Change, Item, Nodes, Root, change_root};
+
+/// A tree after an insertion, its last leaf, and what the insertion did.
+#[derive(Clone, Copy)]
+pub struct Put {
+    pub root: Root,
+    pub finger: usize,
+    pub grown: Grown,
+}
+
+/// Puts an item into a tree, from its last leaf.
+pub fn put_near<M: Monoid, L>(
+    nodes: &mut Nodes<M>,
+    root: Root,
+    finger: usize,
+    item: Item<M>,
+    probes: &mut Probes,
+    steps: &mut Steps<L>,
+) -> Put
+    requires can { CanChange M.is_value M.empty M.op nodes.old root true true (Insert item) }
+    requires rising { AreRising (pairs_in nodes.old root) }
+    requires absent { has_key item.key (pairs_in nodes.old root) ≡ false }
+    requires finger { IsFinger nodes.old root finger }
+    requires levels { root.height + 1 < 2 ^ 32 }
+    ensures put { IsPut M.is_value M.empty M.op nodes.old nodes.new root result.root item }
+    ensures finger { IsFinger nodes.new result.root result.finger }
+    ensures near { 2 ^ result.grown.climbs ≤ distance item.key (pairs_in nodes.old root) + 1 }
+    ensures climbs { result.grown.climbs ≤ root.height }
+    ensures splits { result.grown.splits ≤ root.height }
+    ensures probes { probes.old ≤ probes.new }
+    ensures cost { steps.new ≤ steps.old + 8
+        + (8 * result.grown.climbs + 11 * result.grown.splits) }
+{
+    let change = Change::Insert(item);
+    if root.height == 0 {
+        let place = right_place(true);
+        let root = change_root(nodes, root, place, change, probes, steps).root;
+        let finger = end_of(nodes, root, probes);
+        let grown = Grown {
+            splits: 0,
+            climbs: 0,
+        };
+        return Put {
+            root,
+            finger,
+            grown,
+        };
+    }
+    let from = Climbed {
+        at: finger,
+        below: 0,
+    };
+    let near = climb(nodes, root, from, item.key, probes);
+    let raised = raise(nodes, root, near, change, probes, steps);
+    let top = raised.top;
+    let is_root = top.below + 1 == raised.root.height;
+    let grown = Grown {
+        splits: raised.splits,
+        climbs: near.below,
+    };
+    Put {
+        root: raised.root,
+        finger: rightmost(nodes, top.at, top.below, is_root, probes),
+        grown,
+    }
+}
+
+/// The last leaf of a tree.
+pub fn end_of<M: Monoid>(nodes: &Nodes<M>, root: Root, probes: &mut Probes) -> usize
+    requires { IsTree M.is_value M.empty M.op nodes.now root true true }
+    ensures finger { IsFinger nodes.now root result }
+    ensures probes { probes.old ≤ probes.new }
+{
+    if root.height == 0 {
+        return 0;
+    }
+    rightmost(nodes, root.at, root.height - 1, true, probes)
+}

@@ -1,0 +1,218 @@
+ghost use Rattle.std.specs.Prelude.{◌≡◌, ◌≤◌, ◌<◌, ◌+◌, ◌-◌, ◌*◌, ◌^◌, ◌↔◌, [], length, None, IsTrue, false};
+ghost use Rattle.agg_laws.specs.Laws.{total};
+ghost use Rattle.agg_laws.specs.Pairs.{AreRising, has_key, inserted, replaced, within, values_of, value_at, without};
+ghost use Rattle.fiba_finger.specs.Climbs.{distance};
+
+use crate::edge::right_place;
+use crate::grown::Grown;
+use crate::put::{end_of, put_near};
+use agg_laws::{AggTree, Monoid, Probes, Steps};
+use fiba_arena::{Bound, Change, Item, Nodes, Root, change_root, first_item, fold_span};
+use std::alloc::Global;
+use std::marker::Model;
+use stream_base::NoMemory;
+
+/// A tree of partial aggregates with a finger at its last leaf.
+///
+/// Its reach is its height. `insert_near` works from the finger, so what it does grows with the
+/// logarithm of the distance from the end and with the nodes that it splits. Contracts see its
+/// pairs, for how many more there is room, and its height.
+#[derive(Drop)]
+pub struct FingerTree<M: Monoid> {
+    nodes: Nodes<M>,
+    root: Root,
+    finger: usize,
+    count: u64,
+    limit: u64,
+}
+
+impl<M: Monoid> Model for FingerTree<M> {
+    ghost use Rattle.std.specs.Prelude.{◌-◌};
+    ghost use Rattle.fiba_arena.specs.Arena.{pairs_in};
+    ghost use Rattle.fiba_finger.specs.Fingers.{Fingers, IsFingered};
+
+    ghost Value = { Fingers M };
+
+    ghost view = { λ t. record {
+      pairs = pairs_in t.nodes t.root;
+      spare = t.limit - t.count;
+      height = t.root.height;
+    } };
+
+    ghost invariant = { λ t. IsFingered M.is_value M.empty M.op t.nodes t.root
+        t.count t.limit t.finger };
+}
+
+impl<M: Monoid> FingerTree<M> {
+    /// Puts a value under a key that isn't there, and answers how many nodes it split and how many
+    /// levels it climbed from the last leaf: at most the logarithm of how many pairs have a greater
+    /// key. Uses one spare.
+    pub fn insert_near<L>(
+        &mut self,
+        key: u64,
+        value: M,
+        probes: &mut Probes,
+        steps: &mut Steps<L>,
+    ) -> Grown
+        requires absent { has_key key self.old.pairs ≡ false }
+        requires room { 1 ≤ self.old.spare }
+        ensures inserted { self.new.pairs ≡ inserted key value self.old.pairs }
+        ensures rising { AreRising self.new.pairs }
+        ensures bounded { 2 ^ self.new.height ≤ length self.new.pairs + 1 }
+        ensures spare { self.new.spare + 1 ≡ self.old.spare }
+        ensures reach { self.new.height ≤ self.old.height + 1 }
+        ensures near { 2 ^ result.climbs ≤ distance key self.old.pairs + 1 }
+        ensures splits { result.splits ≤ self.old.height }
+        ensures probes { probes.old ≤ probes.new }
+        ensures cost { steps.new ≤ steps.old + 8 + 32 * (result.climbs + result.splits) }
+    {
+        value.vouch();
+        let item = Item { key, value };
+        let put = put_near(&mut self.nodes, self.root, self.finger, item, probes, steps);
+        self.root = put.root;
+        self.finger = put.finger;
+        self.count += 1;
+        put.grown
+    }
+}
+
+impl<M: Monoid> AggTree<M> for FingerTree<M> {
+    ghost pairs = { λ t. t.pairs };
+
+    ghost spare = { λ t. t.spare };
+
+    ghost reach = { λ t. t.height };
+
+    ghost bounded = { λ reach count. 2 ^ reach ≤ count + 1 };
+
+    fn fresh(alloc: Global) -> FingerTree<M> {
+        FingerTree {
+            nodes: Nodes::new(alloc),
+            root: Root { at: 0, height: 0 },
+            finger: 0,
+            count: 0,
+            limit: 0,
+        }
+    }
+
+    fn reserve(&mut self, room: u64) -> Result<(), NoMemory> {
+        let Some(limit) = self.count.checked_add(room) else {
+            return Err(NoMemory);
+        };
+        self.nodes.reserve(limit)?;
+        if self.limit < limit {
+            self.limit = limit;
+        }
+        Ok(())
+    }
+
+    /// Puts a value under a key that isn't there, as `insert_near` does. Uses one spare. At most
+    /// `64 * (height + 2)` steps.
+    fn insert<L>(&mut self, key: u64, value: M, probes: &mut Probes, steps: &mut Steps<L>)
+        requires absent { has_key key self.old.pairs ≡ false }
+        requires room { 1 ≤ self.old.spare }
+        ensures inserted { self.new.pairs ≡ inserted key value self.old.pairs }
+        ensures rising { AreRising self.new.pairs }
+        ensures bounded { 2 ^ self.new.height ≤ length self.new.pairs + 1 }
+        ensures spare { self.new.spare + 1 ≡ self.old.spare }
+        ensures reach { self.new.height ≤ self.old.height + 1 }
+        ensures probes { probes.old ≤ probes.new }
+        ensures cost { steps.new ≤ steps.old + 64 * (self.old.height + 2) }
+    {
+        let _grown = self.insert_near(key, value, probes, steps);
+    }
+
+    /// Puts another value under a key that is there. At most `16 * (height + 2)` steps.
+    fn set<L>(&mut self, key: u64, value: M, probes: &mut Probes, steps: &mut Steps<L>)
+        requires { IsTrue (has_key key self.old.pairs) }
+        ensures replaced { self.new.pairs ≡ replaced key value self.old.pairs }
+        ensures rising { AreRising self.new.pairs }
+        ensures bounded { 2 ^ self.new.height ≤ length self.new.pairs + 1 }
+        ensures spare { self.old.spare ≤ self.new.spare }
+        ensures reach { self.new.height ≤ self.old.height }
+        ensures probes { probes.old ≤ probes.new }
+        ensures cost { steps.new ≤ steps.old + 16 * (self.old.height + 2) }
+    {
+        value.vouch();
+        let change = Change::Set(Item { key, value });
+        let place = right_place(true);
+        let changed = change_root(&mut self.nodes, self.root, place, change, probes, steps);
+        self.root = changed.root;
+        self.finger = end_of(&self.nodes, self.root, probes);
+    }
+
+    /// Takes out the pair with this key and gives its value, `None` exactly where there is none. At
+    /// most `64 * (height + 2)` steps.
+    fn remove<L>(&mut self, key: u64, probes: &mut Probes, steps: &mut Steps<L>) -> Option<M>
+        ensures value { result ≡ value_at key self.old.pairs }
+        ensures none { (result ≡ None) ↔ (has_key key self.old.pairs ≡ false) }
+        ensures rest { self.new.pairs ≡ without key self.old.pairs }
+        ensures rising { AreRising self.new.pairs }
+        ensures bounded { 2 ^ self.new.height ≤ length self.new.pairs + 1 }
+        ensures spare { self.old.spare ≤ self.new.spare }
+        ensures reach { self.new.height ≤ self.old.height }
+        ensures probes { probes.old ≤ probes.new }
+        ensures cost { steps.new ≤ steps.old + 64 * (self.old.height + 2) }
+    {
+        let change = Change::Remove(key);
+        let place = right_place(true);
+        let changed = change_root(&mut self.nodes, self.root, place, change, probes, steps);
+        self.root = changed.root;
+        self.finger = end_of(&self.nodes, self.root, probes);
+        let item = changed.taken?;
+        self.count -= 1;
+        Some(item.value)
+    }
+
+    fn first_key(&self) -> Option<u64> {
+        if self.root.height == 0 {
+            return None;
+        }
+        let place = right_place(true);
+        Some(first_item(&self.nodes, self.root.at, self.root.height - 1, place).key)
+    }
+
+    /// The values with `low <= key < high` combined in the order of keys, from the unit. At most
+    /// one step for each, and at most `16 * (height + 2)`.
+    fn fold_range<L>(&self, low: u64, high: u64, probes: &mut Probes, steps: &mut Steps<L>) -> M
+        ensures value { result ≡ total M.empty M.op (values_of (within low high self.now.pairs)) }
+        ensures rising { AreRising self.now.pairs }
+        ensures one_each { steps.new ≤ steps.old + length (within low high self.now.pairs) }
+        ensures probes { probes.old ≤ probes.new }
+        ensures cost { steps.new ≤ steps.old + 16 * (self.now.height + 2) }
+    {
+        let root = self.root;
+        if high <= low {
+            return M::unit();
+        }
+        let place = right_place(true);
+        let (from, to) = (Bound::Key(low), Bound::Key(high));
+        let sum = M::unit();
+        fold_span(
+            &self.nodes,
+            root.at,
+            root.height,
+            place,
+            from,
+            to,
+            sum,
+            probes,
+            steps,
+        )
+    }
+
+    fn len(&self) -> u64 {
+        self.count
+    }
+
+    /// How many levels of nodes lie below each other: 0 exactly where the tree is empty. It is what
+    /// the bounds on steps go by.
+    fn height(&self) -> u32
+        ensures empty { self.now.pairs ≡ [] → result ≡ 0 }
+        ensures bound { 2 ^ result ≤ length self.now.pairs + 1 }
+        ensures reach { result ≡ self.now.height }
+        ensures levels { result + 1 < 2 ^ 32 }
+    {
+        self.root.height
+    }
+}
