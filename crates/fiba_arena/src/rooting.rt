@@ -94,6 +94,8 @@ pub fn plant<M: Monoid, L>(
     requires levels { below + 2 < 2 ^ 32 }
     ensures planted { IsPlanted M.is_value M.empty M.op nodes.old nodes.new at below
         place.left place.right (listed open.now.slots) open.now.last result }
+    ensures height { 1 ≤ length (listed open.now.slots)
+        → result.height ≡ below + 1 + (length (listed open.now.slots) - 3) }
     ensures spare { nodes.old.spare ≤ nodes.new.spare + 2 * (result.height - (below + 1)) }
     ensures probes { probes.old ≤ probes.new }
     ensures cost { steps.new ≤ steps.old + 8 + 3 * (length (listed open.now.slots) - 3) }

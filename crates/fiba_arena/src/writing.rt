@@ -1,4 +1,4 @@
-ghost use Rattle.std.specs.Prelude.{◌≡◌, ◌≤◌, ◌<◌, ◌+◌, ◌*◌, suc, false, None, Some, IsSome, length};
+ghost use Rattle.std.specs.Prelude.{◌≡◌, ◌≤◌, ◌<◌, ◌+◌, ◌-◌, ◌*◌, suc, false, None, Some, IsSome, length};
 ghost use Rattle.fiba_arena.specs.Rows.{listed};
 ghost use Rattle.fiba_arena.specs.Stores.{look};
 ghost use Rattle.fiba_arena.specs.Trees.{HasUp, IsClosed, IsLoose, KidsAt, IsOpened, IsWritten, Moves, TreesAt, only, plain, row_times, times, ups};
@@ -133,6 +133,7 @@ pub fn close<M: Monoid, L>(
     ensures closed { IsClosed M.is_value M.empty M.op nodes.old nodes.new at height
         place.left place.right (listed open.now.slots) open.now.last
         (listed result.slots) result.last }
+    ensures split { length (listed result.slots) ≡ length (listed open.now.slots) - 3 }
     ensures spare { nodes.old.spare ≤ nodes.new.spare + 1 }
     ensures probes { probes.old ≤ probes.new }
     ensures cost { steps.new ≤ steps.old + 8 }
