@@ -22,7 +22,7 @@ abbrev pub left_at : Bool → ℕ → Bool
 left_at left zero = left
 left_at left (suc d) = false
 
-left_same : (d : ℕ) → left_at false d ≡ false
+pub left_same : (d : ℕ) → left_at false d ≡ false
 left_same zero = refl
 left_same (suc d) = refl
 
@@ -30,11 +30,11 @@ some_node : {M : Type 0} (o : Option (Plain M)) → vacancy o ≡ 0 → (n : Pla
 some_node None e = absurd (omega arith)
 some_node (Some n) e = (n, refl)
 
-all_first : {X : Type 0} (P : X → Type 0) (xs ys : List X) → All P (xs ++ ys) → All P xs
+pub all_first : {X : Type 0} (P : X → Type 0) (xs ys : List X) → All P (xs ++ ys) → All P xs
 all_first P [] ys h = All-nil P
 all_first P (x ∷ xs) ys h = All-cons P x xs (All-head P x (xs ++ ys) h) (all_first P xs ys (All-tail P x (xs ++ ys) h))
 
-all_second : {X : Type 0} (P : X → Type 0) (xs ys : List X) → All P (xs ++ ys) → All P ys
+pub all_second : {X : Type 0} (P : X → Type 0) (xs ys : List X) → All P (xs ++ ys) → All P ys
 all_second P [] ys h = h
 all_second P (x ∷ xs) ys h = all_second P xs ys (All-tail P x (xs ++ ys) h)
 
@@ -70,7 +70,7 @@ module _ {M : Type 0} where
   before_item_all P f (x ∷ xs) (suc j) s is a =
       before_item_all P f xs j s is (All-tail P (pair_of x.item) (before f xs (length xs)) (all_second P (f x.kid) (pair_of x.item ∷ before f xs (length xs)) a))
 
-  past_end : (slots : List (Slot M)) (s : Slot M) → slice_get slots (length slots) ≡ Some s → ⊥
+  pub past_end : (slots : List (Slot M)) (s : Slot M) → slice_get slots (length slots) ≡ Some s → ⊥
   past_end [] s is = cc
   past_end (x ∷ xs) s is = past_end xs s is
 

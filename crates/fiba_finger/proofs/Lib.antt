@@ -1,2 +1,4 @@
 pub mod Edges
 pub mod Climbing
+pub mod Regrown
+pub mod Raising

@@ -1,0 +1,76 @@
+-- Each node that is opened stands on the edge, under the one that is opened next.
+use Rattle.std.proofs.Common.{◌≡◌, ◌≤◌, ◌<◌, ◌+◌, ◌-◌, suc, true, Some, IsSome, arith, refl, sym, subst, ◌∙◌}
+use Rattle.fiba_arena.specs.Rows.{listed}
+use Rattle.fiba_arena.specs.Stores.{look}
+use Rattle.fiba_arena.proofs.Opened.{is_there}
+use Rattle.fiba_finger.proofs.Edges.{left_at}
+use Rattle.fiba_finger.proofs.Raising.{above, above_stays, begins, can_above, can_here, ends, goes_on, left_is, nested, parent_is, planted, room, room_top}
+use Rattle.fiba_finger.proofs.raise.raise.Goals as goal
+
+pub get-up-requires : goal.get-up-requires
+get-up-requires g c =
+    let m = g.M.Monoid in
+    is_there m.is_value m.empty m.op c.args.nodes.now (suc c.args.from.below) (left_at true (c.args.root.height - 1 - c.args.from.below)) true c.args.from.at (omega arith) (can_here m.is_value m.empty m.op c.args.nodes.now c.args.root c.args.from.at c.args.from.below c.args.change c.requires.can).sound
+
+pub apply-applied-requires : goal.apply-applied-requires
+apply-applied-requires g c =
+    let m = g.M.Monoid in
+    let left = c.right_place-place.ensures.left ∙ left_is c.args.root.height c.args.from.below c.requires.can.edge.within in
+    rw (left, c.right_place-place.ensures.right) (can_here m.is_value m.empty m.op c.args.nodes.now c.args.root c.args.from.at c.args.from.below c.args.change c.requires.can)
+
+pub loop-below-init : goal.loop-below-init
+loop-below-init g c =
+    let m = g.M.Monoid in
+    (begins m.is_value m.empty m.op c.args.nodes.now c.args.root c.args.from.at c.args.from.below c.args.change c.requires.can c.apply-applied.new.nodes c.right_place-place.result.left c.right_place-place.result.right c.get-up.result c.apply-applied.result.taken (listed c.apply-applied.result.open.slots) c.apply-applied.result.open.last c.right_place-place.ensures.left c.right_place-place.ensures.right c.get-up.ensures.found c.apply-applied.ensures.applied (c.apply-applied.ensures.some (omega (arith, c.requires.grows))), omega (arith, c.saturating_sub-inner.ensures, c.spare.ensures, c.spare-spare.ensures, c.apply-applied.ensures.spare), omega (arith, c.get-up.ensures.rises, c.apply-applied.ensures.probes), c.apply-applied.ensures.cost)
+
+pub returns-then-len-lt4-clause-raised : goal.returns-then-len-lt4-clause-raised
+returns-then-len-lt4-clause-raised g c =
+    let m = g.M.Monoid in
+    let inner : c.loop-below.below + 1 < c.args.root.height = omega (arith, c.loop-below-test.true) in
+    ends m.is_value m.empty m.op c.args.nodes.now c.loop-below.nodes c.args.root c.loop-below.at c.loop-below.below c.args.change c.loop-below.up (listed c.loop-below.open.slots) c.loop-below.open.last c.loop-below.invariant.0 inner c.write.new.nodes c.right_place.result.left c.right_place.result.right c.right_place.ensures.left c.right_place.ensures.right c.write.ensures.written c.write.ensures.moves c.write.ensures.spare c.write.ensures.up
+
+pub unwrap-parent-requires : goal.unwrap-parent-requires
+unwrap-parent-requires g c =
+    let m = g.M.Monoid in
+    let inner : c.loop-below.below + 1 < c.args.root.height = omega (arith, c.loop-below-test.true) in
+    subst (λ o. IsSome o) (sym (parent_is m.is_value m.empty m.op c.args.nodes.now c.loop-below.nodes c.args.root c.loop-below.at c.loop-below.below c.args.change c.loop-below.up (listed c.loop-below.open.slots) c.loop-below.open.last c.loop-below.invariant.0 inner)) refl
+
+pub get-node-requires : goal.get-node-requires
+get-node-requires g c =
+    let m = g.M.Monoid in
+    let inner : c.loop-below.below + 1 < c.args.root.height = omega (arith, c.loop-below-test.true) in
+    let same : c.unwrap-parent.result ≡ above m.is_value m.empty m.op c.args.nodes.now c.loop-below.nodes c.args.root c.loop-below.at c.loop-below.below c.args.change c.loop-below.up (listed c.loop-below.open.slots) c.loop-below.open.last c.loop-below.invariant.0 inner = let e = sym c.unwrap-parent.ensures ∙ parent_is m.is_value m.empty m.op c.args.nodes.now c.loop-below.nodes c.args.root c.loop-below.at c.loop-below.below c.args.change c.loop-below.up (listed c.loop-below.open.slots) c.loop-below.open.last c.loop-below.invariant.0 inner in cc in
+    let p = above m.is_value m.empty m.op c.args.nodes.now c.loop-below.nodes c.args.root c.loop-below.at c.loop-below.below c.args.change c.loop-below.up (listed c.loop-below.open.slots) c.loop-below.open.last c.loop-below.invariant.0 inner in
+    let old = is_there m.is_value m.empty m.op c.args.nodes.now (suc (c.loop-below.below + 1)) (left_at true (c.args.root.height - 1 - (c.loop-below.below + 1))) true p (omega arith) (can_here m.is_value m.empty m.op c.args.nodes.now c.args.root p (c.loop-below.below + 1) c.args.change (can_above m.is_value m.empty m.op c.args.nodes.now c.loop-below.nodes c.args.root c.loop-below.at c.loop-below.below c.args.change c.loop-below.up (listed c.loop-below.open.slots) c.loop-below.open.last c.loop-below.invariant.0 inner)).sound in
+    subst (λ k. IsSome (look c.loop-below.nodes k)) (sym same) (subst (λ o. IsSome o) (sym (above_stays m.is_value m.empty m.op c.args.nodes.now c.loop-below.nodes c.args.root c.loop-below.at c.loop-below.below c.args.change c.loop-below.up (listed c.loop-below.open.slots) c.loop-below.open.last c.loop-below.invariant.0 inner)) old)
+
+pub settle-open-requires-clause-nested : goal.settle-open-requires-clause-nested
+settle-open-requires-clause-nested g c =
+    let m = g.M.Monoid in
+    let inner : c.loop-below.below + 1 < c.args.root.height = omega (arith, c.loop-below-test.true) in
+    let same : c.unwrap-parent.result ≡ above m.is_value m.empty m.op c.args.nodes.now c.loop-below.nodes c.args.root c.loop-below.at c.loop-below.below c.args.change c.loop-below.up (listed c.loop-below.open.slots) c.loop-below.open.last c.loop-below.invariant.0 inner = let e = sym c.unwrap-parent.ensures ∙ parent_is m.is_value m.empty m.op c.args.nodes.now c.loop-below.nodes c.args.root c.loop-below.at c.loop-below.below c.args.change c.loop-below.up (listed c.loop-below.open.slots) c.loop-below.open.last c.loop-below.invariant.0 inner in cc in
+    nested m.is_value m.empty m.op c.args.nodes.now c.loop-below.nodes c.args.root c.loop-below.at c.loop-below.below c.args.change c.loop-below.up (listed c.loop-below.open.slots) c.loop-below.open.last c.loop-below.invariant.0 inner c.unwrap-parent.result same c.get-node.result c.get-node.ensures.found (listed c.opened-row.result.slots) c.opened-row.result.last c.opened-row.ensures.slots c.opened-row.ensures.last c.len-in-loop-below.result c.right_place-place-in-loop-below.result.left c.right_place-place-in-loop-below.result.right c.len-in-loop-below.ensures.len c.right_place-place-in-loop-below.ensures.left c.right_place-place-in-loop-below.ensures.right
+
+pub settle-open-requires-clause-room : goal.settle-open-requires-clause-room
+settle-open-requires-clause-room g c =
+    let m = g.M.Monoid in
+    let inner : c.loop-below.below + 1 < c.args.root.height = omega (arith, c.loop-below-test.true) in
+    let same : c.unwrap-parent.result ≡ above m.is_value m.empty m.op c.args.nodes.now c.loop-below.nodes c.args.root c.loop-below.at c.loop-below.below c.args.change c.loop-below.up (listed c.loop-below.open.slots) c.loop-below.open.last c.loop-below.invariant.0 inner = let e = sym c.unwrap-parent.ensures ∙ parent_is m.is_value m.empty m.op c.args.nodes.now c.loop-below.nodes c.args.root c.loop-below.at c.loop-below.below c.args.change c.loop-below.up (listed c.loop-below.open.slots) c.loop-below.open.last c.loop-below.invariant.0 inner in cc in
+    room m.is_value m.empty m.op c.args.nodes.now c.loop-below.nodes c.args.root c.loop-below.at c.loop-below.below c.args.change c.loop-below.up (listed c.loop-below.open.slots) c.loop-below.open.last c.loop-below.invariant.0 inner c.unwrap-parent.result same c.get-node.result c.get-node.ensures.found (listed c.opened-row.result.slots) c.opened-row.result.last c.opened-row.ensures.slots c.opened-row.ensures.last
+
+pub loop-below-preserved : goal.loop-below-preserved
+loop-below-preserved g c =
+    let m = g.M.Monoid in
+    let inner : c.loop-below.below + 1 < c.args.root.height = omega (arith, c.loop-below-test.true) in
+    let same : c.unwrap-parent.result ≡ above m.is_value m.empty m.op c.args.nodes.now c.loop-below.nodes c.args.root c.loop-below.at c.loop-below.below c.args.change c.loop-below.up (listed c.loop-below.open.slots) c.loop-below.open.last c.loop-below.invariant.0 inner = let e = sym c.unwrap-parent.ensures ∙ parent_is m.is_value m.empty m.op c.args.nodes.now c.loop-below.nodes c.args.root c.loop-below.at c.loop-below.below c.args.change c.loop-below.up (listed c.loop-below.open.slots) c.loop-below.open.last c.loop-below.invariant.0 inner in cc in
+    (goes_on m.is_value m.empty m.op c.args.nodes.now c.loop-below.nodes c.args.root c.loop-below.at c.loop-below.below c.args.change c.loop-below.up (listed c.loop-below.open.slots) c.loop-below.open.last c.loop-below.invariant.0 inner c.unwrap-parent.result same c.get-node.result c.get-node.ensures.found (listed c.opened-row.result.slots) c.opened-row.result.last c.opened-row.ensures.slots c.opened-row.ensures.last c.settle-open.new.nodes c.len-in-loop-below.result c.right_place-place-in-loop-below.result.left c.right_place-place-in-loop-below.result.right (listed c.settle-open.result.slots) c.settle-open.result.last c.len-in-loop-below.ensures.len c.right_place-place-in-loop-below.ensures.left c.right_place-place-in-loop-below.ensures.right c.settle-open.ensures.settled (c.settle-open.ensures.kept c.loop-below.invariant.0.some), c.loop-below.invariant.1, omega (arith, c.loop-below.invariant.2, c.get-node.ensures.rises, c.settle-open.ensures.probes), omega (arith, c.loop-below.invariant.3, c.settle-open.ensures.cost))
+
+pub plant-grown-requires-clause-room : goal.plant-grown-requires-clause-room
+plant-grown-requires-clause-room g c =
+    let m = g.M.Monoid in
+    room_top m.is_value m.empty m.op c.args.nodes.now c.loop-below.nodes c.args.root c.loop-below.at c.loop-below.below c.args.change c.loop-below.up (listed c.loop-below.open.slots) c.loop-below.open.last c.loop-below.invariant.0 (c.args.root.height - 1) refl (omega (arith, c.loop-below-test.false, c.loop-below.auto.below-end))
+
+pub returns-clause-raised : goal.returns-clause-raised
+returns-clause-raised g c =
+    let m = g.M.Monoid in
+    planted m.is_value m.empty m.op c.args.nodes.now c.loop-below.nodes c.args.root c.loop-below.at c.loop-below.below c.args.change c.loop-below.up (listed c.loop-below.open.slots) c.loop-below.open.last c.loop-below.invariant.0 (c.args.root.height - 1) refl (omega (arith, c.loop-below-test.false, c.loop-below.auto.below-end)) c.plant-grown.new.nodes c.plant-grown.result c.right_place-2.result.left c.right_place-2.result.right c.right_place-2.ensures.left c.right_place-2.ensures.right c.plant-grown.ensures.planted (omega (arith, c.plant-grown.ensures.height c.loop-below.invariant.0.some))
