@@ -62,6 +62,7 @@ impl<M: Monoid> FingerTree<M> {
         ensures spare { self.new.spare + 1 ≡ self.old.spare }
         ensures reach { self.new.height ≤ self.old.height + 1 }
         ensures near { 2 ^ result.climbs ≤ distance key self.old.pairs + 1 }
+        ensures climbs { result.climbs ≤ self.old.height }
         ensures splits { result.splits ≤ self.old.height }
         ensures probes { probes.old ≤ probes.new }
         ensures cost { steps.new ≤ steps.old + 8 + 32 * (result.climbs + result.splits) }

@@ -1,0 +1,25 @@
+-- The change puts an item in the place of another, since some pair has the key.
+use Rattle.std.proofs.Common.{true, ap, ◌∙◌, arith}
+use Rattle.agg_laws.specs.Pairs.{has_key, replaced}
+use Rattle.fiba_arena.proofs.Tops.{arena_replaced}
+use Rattle.fiba_finger.proofs.tree.FingerTreeAggTree.set.Goals as goal
+
+pub invariant_of-self : goal.invariant_of-self
+invariant_of-self g c =
+    let m = g.M.Monoid in
+    let view = ap (λ v. v.pairs) c.self.view_is in
+    let changed = rw (c.right_place-place.ensures.left, c.right_place-place.ensures.right) at c.change_root-changed.ensures.changed in
+    record { arena = (arena_replaced m.is_value m.empty m.op true true c.self.inside.nodes c.change_root-changed.new.nodes c.self.inside.root c.change_root-changed.result.root c.self.inside.count c.self.inside.limit c.self.invariant.arena (omega (arith, c.self.ranges)) (record { key = c.args.key; value = c.args.value }) c.change_root-changed.result.taken (ap (has_key c.args.key) view ∙ c.requires) changed).0; last = c.end_of-self-inside.ensures.finger }
+
+pub returns-clause-replaced : goal.returns-clause-replaced
+returns-clause-replaced g c =
+    let m = g.M.Monoid in
+    let view = ap (λ v. v.pairs) c.self.view_is in
+    let changed = rw (c.right_place-place.ensures.left, c.right_place-place.ensures.right) at c.change_root-changed.ensures.changed in
+    (arena_replaced m.is_value m.empty m.op true true c.self.inside.nodes c.change_root-changed.new.nodes c.self.inside.root c.change_root-changed.result.root c.self.inside.count c.self.inside.limit c.self.invariant.arena (omega (arith, c.self.ranges)) (record { key = c.args.key; value = c.args.value }) c.change_root-changed.result.taken (ap (has_key c.args.key) view ∙ c.requires) changed).1 ∙ ap (replaced c.args.key c.args.value) view
+
+pub returns-clause-rising : goal.returns-clause-rising
+returns-clause-rising g c = let a = invariant_of-self g c in a.arena.rising
+
+pub returns-clause-bounded : goal.returns-clause-bounded
+returns-clause-bounded g c = let a = invariant_of-self g c in a.arena.tall
