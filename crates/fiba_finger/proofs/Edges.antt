@@ -1,5 +1,5 @@
 -- The right edge of a tree: its nodes, their parents, and what stands before them.
-use Rattle.std.proofs.Common.{◌≡◌, ◌≢◌, ◌≤◌, ◌<◌, ◌+◌, ◌-◌, ◌++◌, ℕ, zero, suc, Bool, true, false, List, [], ◌∷◌, Option, None, Some, length, refl, sym, ap, subst, ◌∙◌, arith, append_assoc}
+use Rattle.std.proofs.Common.{◌≡◌, ◌≤◌, ◌<◌, ◌+◌, ◌-◌, ◌++◌, ℕ, zero, suc, Bool, true, false, List, [], ◌∷◌, Option, None, Some, length, refl, sym, ap, subst, ◌∙◌, arith, append_assoc}
 use Rattle.std.specs.Prelude.{slice_get}
 use Rattle.std.specs.List.{All}
 use Rattle.std.proofs.lemmas.List.Elements.{All-head, All-tail, All-cons, All-nil}
@@ -7,7 +7,7 @@ use Rattle.fiba_arena.specs.declared.slot.Slot.{Slot}
 use Rattle.fiba_arena.specs.declared.change.Change.{Change}
 use Rattle.fiba_arena.specs.Rows.{Plain}
 use Rattle.fiba_arena.specs.Stores.{Store}
-use Rattle.fiba_arena.specs.Trees.{HasUp, IsAt, IsLinked, KidsAt, Look, pair_of, pairs_at, plain, ups, vacancy, woven}
+use Rattle.fiba_arena.specs.Trees.{HasUp, IsAt, IsLinked, KidsAt, Look, pair_of, pairs_at, plain, ups, vacancy}
 use Rattle.fiba_arena.specs.Kids.{before, behind, kid_of, left_of, right_of}
 use Rattle.fiba_arena.specs.Changes.{IsRank, stands_before}
 use Rattle.fiba_arena.proofs.Sound.{node_of, pairs_of, there}

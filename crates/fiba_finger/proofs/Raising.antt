@@ -1,6 +1,5 @@
 -- Nodes on the right edge are opened and closed again, one above the other.
-use Rattle.std.proofs.Common.{◌≡◌, ◌≢◌, ◌≤◌, ◌<◌, ◌==◌, ◌+◌, ◌-◌, ◌++◌, ℕ, zero, suc, Bool, true, false, List, [], ◌∷◌, Option, None, Some, length, refl, sym, ap, subst, ◌∙◌, arith, inl, inr}
-use Rattle.std.specs.Prelude.{slice_get}
+use Rattle.std.proofs.Common.{◌≡◌, ◌≤◌, ◌<◌, ◌==◌, ◌+◌, ◌-◌, ◌++◌, ℕ, zero, suc, Bool, true, false, List, Option, Some, length, refl, sym, ap, subst, ◌∙◌, arith, inl, inr}
 use Rattle.std.specs.List.{All}
 use Rattle.std.specs.Option.{option_map}
 use Rattle.std.proofs.lemmas.Bool.{cases_eq}
@@ -13,18 +12,18 @@ use Rattle.fiba_arena.specs.declared.item.Item.{Item}
 use Rattle.fiba_arena.specs.declared.change.Change.{Change}
 use Rattle.fiba_arena.specs.Rows.{Plain, last_of, plain_node, slots_of}
 use Rattle.fiba_arena.specs.Stores.{Store, look}
-use Rattle.fiba_arena.specs.Trees.{IsAt, IsOpened, IsWritten, Look, Moves, only, pairs_at, plain, row_times, size, tally, times, ups, vacancy, weigh, woven}
+use Rattle.fiba_arena.specs.Trees.{IsAt, IsOpened, IsWritten, Look, Moves, only, pairs_at, plain, row_times, size, times, ups, woven}
 use Rattle.fiba_arena.specs.Kids.{before, kid_of, left_of, right_of}
 use Rattle.fiba_arena.specs.Nested.{IsNested, IsSettled}
 use Rattle.fiba_arena.specs.Changes.{Applies, CanApply, IsApplied, stands_before}
-use Rattle.fiba_arena.specs.Roots.{CanChange, IsChanged, IsPlanted, IsTree}
+use Rattle.fiba_arena.specs.Roots.{CanChange, IsChanged, IsPlanted}
 use Rattle.fiba_arena.proofs.Sound.{moves-then, only_self, weight_of}
 use Rattle.fiba_arena.proofs.Nesting.{few_slots}
 use Rattle.fiba_arena.proofs.Kids.{tally-around}
 use Rattle.fiba_arena.proofs.Below.{descended, kid_nested, kid_room}
 use Rattle.fiba_arena.proofs.Planting.{applied_room}
 use Rattle.fiba_finger.specs.Edges.{ahead, edge}
-use Rattle.fiba_finger.specs.Climbs.{CanRaise, IsOnEdge, IsRaised}
+use Rattle.fiba_finger.specs.Climbs.{CanRaise, IsRaised}
 use Rattle.fiba_finger.proofs.Edges.{Opens, ahead_suc, ahead_zero, all_first, all_second, edge_more, edge_suc, edge_up, edge_zero, kid_of_end, left_at, left_of_end, opens, past_end, rank_end, right_of_end}
 use Rattle.fiba_finger.proofs.Regrown.{IsRegrown, can_edge, lifted}
 

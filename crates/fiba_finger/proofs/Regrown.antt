@@ -1,9 +1,7 @@
 -- A tree one of whose nodes on the right edge changed, with all that is above it as it was.
-use Rattle.std.proofs.Common.{◌≡◌, ◌≢◌, ◌≤◌, ◌<◌, ◌||◌, ◌+◌, ◌-◌, ◌++◌, ℕ, zero, suc, Bool, true, false, cond, List, [], ◌∷◌, Option, None, Some, length, refl, sym, ap, subst, ◌∙◌, arith, append_assoc}
-use Rattle.std.specs.Prelude.{slice_get}
+use Rattle.std.proofs.Common.{◌≡◌, ◌≤◌, ◌<◌, ◌||◌, ◌+◌, ◌++◌, ℕ, zero, suc, Bool, true, false, cond, List, [], ◌∷◌, Option, Some, length, refl, sym, ap, subst, ◌∙◌, arith, append_assoc}
 use Rattle.std.specs.List.{All}
 use Rattle.std.specs.Option.{option_map}
-use Rattle.std.proofs.lemmas.List.Elements.{All-nil}
 use Rattle.agg_laws.specs.Laws.{total}
 use Rattle.agg_laws.specs.Pairs.{values_of}
 use Rattle.fiba_arena.specs.declared.slot.Slot.{Slot}
@@ -11,9 +9,9 @@ use Rattle.fiba_arena.specs.declared.item.Item.{Item}
 use Rattle.fiba_arena.specs.declared.change.Change.{Change}
 use Rattle.fiba_arena.specs.Rows.{Plain, plain_node}
 use Rattle.fiba_arena.specs.Stores.{Store, look}
-use Rattle.fiba_arena.specs.Trees.{HasUp, IsAt, IsLinked, IsNode, KidsAt, Look, Moves, only, pair_of, pairs_at, plain, shown, size, tally, times, ups, vacancy, weigh}
-use Rattle.fiba_arena.specs.Kids.{OthersAt, before, behind, kid_of, left_of, others, right_of}
-use Rattle.fiba_arena.specs.Changes.{Applies, CanApply, IsPassed, IsRank, incoming, pairs_of, stands_before, stands_behind}
+use Rattle.fiba_arena.specs.Trees.{HasUp, IsAt, IsLinked, IsNode, KidsAt, Look, Moves, only, pair_of, pairs_at, plain, shown, size, times, ups, vacancy, weigh}
+use Rattle.fiba_arena.specs.Kids.{OthersAt, before, left_of, others, right_of}
+use Rattle.fiba_arena.specs.Changes.{Applies, CanApply, incoming, pairs_of, stands_before}
 use Rattle.fiba_arena.proofs.Frames.{Keeps, same_tree}
 use Rattle.fiba_arena.proofs.Sound.{node_of, only_self, tree_of, weight_of}
 use Rattle.fiba_arena.proofs.Kids.{kids-around, tally-around}

@@ -1,6 +1,6 @@
 -- The parent's last item tells whether the key lies in the tree of the node.
-use Rattle.std.proofs.Common.{◌≡◌, ◌≤◌, ◌<◌, ◌-◌, ◌+◌, ◌∙◌, suc, true, Some, IsSome, length, subst, sym, arith, refl}
-use Rattle.fiba_arena.specs.Rows.{listed, last_of}
+use Rattle.std.proofs.Common.{◌≡◌, ◌≤◌, ◌<◌, ◌-◌, ◌+◌, ◌∙◌, suc, true, IsSome, length, subst, sym, arith, refl}
+use Rattle.fiba_arena.specs.Rows.{listed}
 use Rattle.fiba_arena.specs.Stores.{look}
 use Rattle.fiba_arena.proofs.Opened.{is_there}
 use Rattle.fiba_finger.proofs.Edges.{left_at}

@@ -1,11 +1,11 @@
 -- The last child is sound, and the edge goes on there.
-use Rattle.std.proofs.Common.{◌≡◌, ◌-◌, true, false, suc, Some, sym, ap, subst, ◌∙◌, refl, arith}
+use Rattle.std.proofs.Common.{◌≡◌, ◌-◌, true, false, suc, sym, ap, subst, ◌∙◌, arith}
 use Rattle.std.specs.Option.{option_map}
 use Rattle.fiba_arena.specs.Rows.{plain_node}
 use Rattle.fiba_arena.specs.Trees.{IsAt, plain}
 use Rattle.fiba_arena.proofs.Opened.{is_there}
 use Rattle.fiba_finger.specs.Edges.{edge}
-use Rattle.fiba_finger.proofs.Edges.{edge_last, edge_suc, edge_zero, kid_sound}
+use Rattle.fiba_finger.proofs.Edges.{edge_last, edge_suc, kid_sound}
 use Rattle.fiba_finger.proofs.edge.+rightmost.Goals as goal
 
 pub returns-then-below-eq0-clause-leaf : goal.returns-then-below-eq0-clause-leaf

@@ -1,5 +1,5 @@
 -- Each node that is opened stands on the edge, under the one that is opened next.
-use Rattle.std.proofs.Common.{◌≡◌, ◌≤◌, ◌<◌, ◌+◌, ◌-◌, suc, true, Some, IsSome, arith, refl, sym, subst, ◌∙◌}
+use Rattle.std.proofs.Common.{◌≡◌, ◌<◌, ◌+◌, ◌-◌, suc, true, IsSome, arith, refl, sym, subst, ◌∙◌}
 use Rattle.fiba_arena.specs.Rows.{listed}
 use Rattle.fiba_arena.specs.Stores.{look}
 use Rattle.fiba_arena.proofs.Opened.{is_there}
