@@ -30,6 +30,7 @@ pub fn apply<M: Monoid, L>(
         place.left place.right change result.taken (listed result.open.slots) result.open.last }
     ensures some { 1 ≤ growth change → 1 ≤ length (listed result.open.slots) }
     ensures spare { nodes.old.spare ≤ nodes.new.spare + below }
+    ensures grows { 1 ≤ growth change → nodes.new.spare ≤ nodes.old.spare }
     ensures probes { probes.old ≤ probes.new }
     ensures cost { steps.new ≤ steps.old + 8 * below }
 {

@@ -96,7 +96,8 @@ pub fn plant<M: Monoid, L>(
         place.left place.right (listed open.now.slots) open.now.last result }
     ensures height { 1 ≤ length (listed open.now.slots)
         → result.height ≡ below + 1 + (length (listed open.now.slots) - 3) }
-    ensures spare { nodes.old.spare ≤ nodes.new.spare + 2 * (result.height - (below + 1)) }
+    ensures spare { 1 ≤ length (listed open.now.slots)
+        → nodes.new.spare + 2 * (length (listed open.now.slots) - 3) ≡ nodes.old.spare }
     ensures probes { probes.old ≤ probes.new }
     ensures cost { steps.new ≤ steps.old + 8 + 3 * (length (listed open.now.slots) - 3) }
 {

@@ -1,4 +1,4 @@
-ghost use Rattle.std.specs.Prelude.{◌≡◌, ◌≤◌, ◌<◌, ◌+◌, length};
+ghost use Rattle.std.specs.Prelude.{◌≡◌, ◌≤◌, ◌<◌, ◌+◌, ◌-◌, length};
 ghost use Rattle.fiba_arena.specs.Rows.{listed};
 ghost use Rattle.fiba_arena.specs.Nested.{IsFilled, IsNested, IsSettled};
 
@@ -33,6 +33,8 @@ pub fn settle<M: Monoid, L>(
     ensures kept { 1 ≤ length (listed nest.now.child.slots)
         → length (listed nest.now.row.slots) ≤ length (listed result.slots) }
     ensures spare { nodes.old.spare ≤ nodes.new.spare + 1 }
+    ensures taken { 1 ≤ length (listed nest.now.child.slots)
+        → nodes.new.spare + (length (listed nest.now.child.slots) - 3) ≡ nodes.old.spare }
     ensures probes { probes.old ≤ probes.new }
     ensures cost { steps.new ≤ steps.old + 8 }
 {
@@ -63,6 +65,8 @@ fn filled<M: Monoid>(
         (listed result.row.slots) result.row.last result.at
         (listed result.child.slots) result.child.last }
     ensures same { 1 ≤ length (listed nest.now.child.slots) → result ≡ nest.now }
+    ensures still { 1 ≤ length (listed nest.now.child.slots)
+        → nodes.new.spare ≡ nodes.old.spare }
     ensures spare { nodes.old.spare ≤ nodes.new.spare }
     ensures probes { probes.old ≤ probes.new }
 {

@@ -134,7 +134,7 @@ pub fn close<M: Monoid, L>(
         place.left place.right (listed open.now.slots) open.now.last
         (listed result.slots) result.last }
     ensures split { length (listed result.slots) ≡ length (listed open.now.slots) - 3 }
-    ensures spare { nodes.old.spare ≤ nodes.new.spare + 1 }
+    ensures spare { nodes.new.spare + length (listed result.slots) ≡ nodes.old.spare }
     ensures probes { probes.old ≤ probes.new }
     ensures cost { steps.new ≤ steps.old + 8 }
 {

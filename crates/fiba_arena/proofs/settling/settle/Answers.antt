@@ -23,3 +23,9 @@ returns-clause-kept g c some =
     let long = ap length c.spliced.ensures.slots in
     let row = length-spliced (listed full.row.slots) full.at (listed c.close-closed.result.slots) c.close-closed.result.last in
     omega (arith, same, long, row)
+
+pub returns-clause-taken : goal.returns-clause-taken
+returns-clause-taken g c some =
+    let same = ap (λ n. length (listed n.child.slots)) (c.filled-nest.ensures.same some) in
+    let still = c.filled-nest.ensures.still some in
+    omega (arith, same, still, c.close-closed.ensures.split, c.close-closed.ensures.spare)
