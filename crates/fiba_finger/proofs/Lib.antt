@@ -2,3 +2,4 @@ pub mod Edges
 pub mod Climbing
 pub mod Regrown
 pub mod Raising
+pub mod Sprouting

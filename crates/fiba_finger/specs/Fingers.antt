@@ -2,15 +2,20 @@
 use Rattle.std.specs.Prelude.{◌≡◌, ℕ, suc, true, List}
 use Rattle.fiba_arena.specs.declared.root.Root.{Root}
 use Rattle.fiba_arena.specs.Stores.{Store}
-use Rattle.fiba_arena.specs.Trees.{plain}
+use Rattle.fiba_arena.specs.Trees.{plain, size}
 use Rattle.fiba_arena.specs.Arena.{IsArena}
 use Rattle.fiba_finger.specs.Edges.{edge}
 
--- its pairs, for how many more there is room, and its height
+-- its pairs, for how many more there is room, its height, and how many nodes it has
 pub record Fingers (M : Type 0) : Type 0 where
   pub pairs : List (ℕ × M)
   pub spare : ℕ
   pub height : ℕ
+  pub nodes : ℕ
+
+-- how many nodes the tree at a root has
+abbrev pub nodes_in : {M : Type 0} → Store M → Root → ℕ
+nodes_in store root = size (plain store) root.height root.at
 
 -- the finger is the leaf on the right edge, if there is one
 abbrev pub IsFinger : {M : Type 0} → Store M → Root → ℕ → Type 0

@@ -1,4 +1,4 @@
-ghost use Rattle.std.specs.Prelude.{◌≡◌, ◌≤◌, ◌<◌, ◌+◌, ◌*◌, ◌^◌, false, true};
+ghost use Rattle.std.specs.Prelude.{◌≡◌, ◌≤◌, ◌<◌, ◌+◌, ◌-◌, ◌*◌, ◌^◌, false, true};
 ghost use Rattle.agg_laws.specs.Pairs.{AreRising, has_key};
 ghost use Rattle.fiba_arena.specs.Arena.{pairs_in};
 ghost use Rattle.fiba_arena.specs.Changes.{is_first};
@@ -42,6 +42,8 @@ pub fn put_near<M: Monoid, L>(
     ensures near { 2 ^ result.grown.climbs ≤ distance item.key (pairs_in nodes.old root) + 1 }
     ensures climbs { result.grown.climbs ≤ root.height }
     ensures splits { result.grown.splits ≤ root.height }
+    ensures taken { nodes.new.spare + (result.grown.splits + (result.root.height - root.height))
+        ≡ nodes.old.spare }
     ensures probes { probes.old ≤ probes.new }
     ensures cost { steps.new ≤ steps.old + 8
         + (8 * result.grown.climbs + 11 * result.grown.splits) }

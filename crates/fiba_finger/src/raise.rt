@@ -25,6 +25,8 @@ pub fn raise<M: Monoid, L>(
     ensures raised { IsRaised M.is_value M.empty M.op nodes.old nodes.new root result.root
         result.top.at result.top.below change }
     ensures splits { result.splits ≤ root.height }
+    ensures taken { nodes.new.spare + (result.splits + (result.root.height - root.height))
+        ≡ nodes.old.spare }
     ensures probes { probes.old ≤ probes.new }
     ensures cost { steps.new ≤ steps.old + 8 * from.below + 8 + 11 * result.splits }
 {
@@ -39,16 +41,8 @@ pub fn raise<M: Monoid, L>(
         let top = Climbed { at, below };
         let splits = inner + (below - from.below);
         if open.slots.len() < 4 {
-            write(
-                nodes,
-                at,
-                &open,
-                below,
-                right_place(false),
-                up,
-                probes,
-                steps,
-            );
+            let edge = right_place(false);
+            write(nodes, at, &open, below, edge, up, probes, steps);
             return Raised { root, top, splits };
         }
         let parent = up.unwrap();
@@ -66,13 +60,8 @@ pub fn raise<M: Monoid, L>(
     }
     let below = root.height - 1;
     let grown = plant(nodes, at, below, right_place(true), &open, probes, steps);
-    let top = Climbed {
-        at: grown.at,
-        below: grown.height - 1,
-    };
-    Raised {
-        root: grown,
-        top,
-        splits: inner + (below - from.below) + (grown.height - root.height),
-    }
+    let splits = inner + (below - from.below) + (grown.height - root.height);
+    let (root, at, below) = (grown, grown.at, grown.height - 1);
+    let top = Climbed { at, below };
+    Raised { root, top, splits }
 }

@@ -16,7 +16,8 @@ use stream_base::NoMemory;
 ///
 /// Its reach is its height. `insert_near` works from the finger, so what it does grows with the
 /// logarithm of the distance from the end and with the nodes that it splits. Contracts see its
-/// pairs, for how many more there is room, and its height.
+/// pairs, for how many more there is room, its height, and how many nodes it has: each split makes
+/// one more, and so does each level of height.
 #[derive(Drop)]
 pub struct FingerTree<M: Monoid> {
     nodes: Nodes<M>,
@@ -29,7 +30,7 @@ pub struct FingerTree<M: Monoid> {
 impl<M: Monoid> Model for FingerTree<M> {
     ghost use Rattle.std.specs.Prelude.{◌-◌};
     ghost use Rattle.fiba_arena.specs.Arena.{pairs_in};
-    ghost use Rattle.fiba_finger.specs.Fingers.{Fingers, IsFingered};
+    ghost use Rattle.fiba_finger.specs.Fingers.{Fingers, IsFingered, nodes_in};
 
     ghost Value = { Fingers M };
 
@@ -37,6 +38,7 @@ impl<M: Monoid> Model for FingerTree<M> {
       pairs = pairs_in t.nodes t.root;
       spare = t.limit - t.count;
       height = t.root.height;
+      nodes = nodes_in t.nodes t.root;
     } };
 
     ghost invariant = { λ t. IsFingered M.is_value M.empty M.op t.nodes t.root
@@ -64,6 +66,8 @@ impl<M: Monoid> FingerTree<M> {
         ensures near { 2 ^ result.climbs ≤ distance key self.old.pairs + 1 }
         ensures climbs { result.climbs ≤ self.old.height }
         ensures splits { result.splits ≤ self.old.height }
+        ensures split { self.new.nodes ≡ self.old.nodes + result.splits
+            + (self.new.height - self.old.height) }
         ensures probes { probes.old ≤ probes.new }
         ensures cost { steps.new ≤ steps.old + 8 + 32 * (result.climbs + result.splits) }
     {

@@ -4,6 +4,7 @@ use Rattle.fiba_arena.specs.Trees.{IsAt, plain}
 use Rattle.fiba_finger.specs.Edges.{edge}
 use Rattle.fiba_finger.proofs.Edges.{edge_parts, edge_sound, left_at}
 use Rattle.fiba_finger.proofs.Raising.{left_is}
+use Rattle.fiba_finger.proofs.Sprouting.{sprout_taken}
 use Rattle.fiba_finger.proofs.put.put_near.Goals as goal
 
 pub rightmost-requires : goal.rightmost-requires
@@ -26,3 +27,9 @@ returns-clause-finger g c b e =
     let r = c.raise-raised.ensures.raised in
     let d = root.height - 1 - below in
     c.rightmost.ensures.leaf ∙ ap (edge (plain new) below) (sym r.edge.stands) ∙ sym (edge_parts (plain new) b d below root.at (omega (arith, r.edge.within, e)))
+
+pub returns-then-root-eq0-clause-taken : goal.returns-then-root-eq0-clause-taken
+returns-then-root-eq0-clause-taken g c =
+    let m = g.M.Monoid in
+    let changed = rw (c.right_place-place.ensures.left, c.right_place-place.ensures.right) at c.change_root.ensures.changed in
+    sprout_taken m.is_value m.empty m.op c.args.nodes.now c.change_root.new.nodes c.args.root c.change_root.result.root c.args.item c.change_root.result.taken c.if-root-eq0.true changed

@@ -21,13 +21,13 @@ apply-applied-requires g c =
 pub loop-below-init : goal.loop-below-init
 loop-below-init g c =
     let m = g.M.Monoid in
-    (begins m.is_value m.empty m.op c.args.nodes.now c.args.root c.args.from.at c.args.from.below c.args.change c.requires.can c.apply-applied.new.nodes c.right_place-place.result.left c.right_place-place.result.right c.get-up.result c.apply-applied.result.taken (listed c.apply-applied.result.open.slots) c.apply-applied.result.open.last c.right_place-place.ensures.left c.right_place-place.ensures.right c.get-up.ensures.found c.apply-applied.ensures.applied (c.apply-applied.ensures.some (omega (arith, c.requires.grows))), omega (arith, c.saturating_sub-inner.ensures, c.spare.ensures, c.spare-spare.ensures, c.apply-applied.ensures.spare), omega (arith, c.get-up.ensures.rises, c.apply-applied.ensures.probes), c.apply-applied.ensures.cost)
+    (begins m.is_value m.empty m.op c.args.nodes.now c.args.root c.args.from.at c.args.from.below c.args.change c.requires.can c.apply-applied.new.nodes c.right_place-place.result.left c.right_place-place.result.right c.get-up.result c.apply-applied.result.taken (listed c.apply-applied.result.open.slots) c.apply-applied.result.open.last c.right_place-place.ensures.left c.right_place-place.ensures.right c.get-up.ensures.found c.apply-applied.ensures.applied (c.apply-applied.ensures.some (omega (arith, c.requires.grows))), omega (arith, c.saturating_sub-inner.ensures, c.spare.ensures, c.spare-spare.ensures, c.apply-applied.ensures.spare), omega (arith, c.get-up.ensures.rises, c.apply-applied.ensures.probes), c.apply-applied.ensures.cost, omega (arith, c.saturating_sub-inner.ensures, c.spare.ensures, c.spare-spare.ensures, c.apply-applied.ensures.grows (omega (arith, c.requires.grows))))
 
 pub returns-then-len-lt4-clause-raised : goal.returns-then-len-lt4-clause-raised
 returns-then-len-lt4-clause-raised g c =
     let m = g.M.Monoid in
     let inner : c.loop-below.below + 1 < c.args.root.height = omega (arith, c.loop-below-test.true) in
-    ends m.is_value m.empty m.op c.args.nodes.now c.loop-below.nodes c.args.root c.loop-below.at c.loop-below.below c.args.change c.loop-below.up (listed c.loop-below.open.slots) c.loop-below.open.last c.loop-below.invariant.0 inner c.write.new.nodes c.right_place.result.left c.right_place.result.right c.right_place.ensures.left c.right_place.ensures.right c.write.ensures.written c.write.ensures.moves c.write.ensures.spare c.write.ensures.up
+    ends m.is_value m.empty m.op c.args.nodes.now c.loop-below.nodes c.args.root c.loop-below.at c.loop-below.below c.args.change c.loop-below.up (listed c.loop-below.open.slots) c.loop-below.open.last c.loop-below.invariant.0 inner c.write.new.nodes c.right_place-edge.result.left c.right_place-edge.result.right c.right_place-edge.ensures.left c.right_place-edge.ensures.right c.write.ensures.written c.write.ensures.moves c.write.ensures.spare c.write.ensures.up
 
 pub unwrap-parent-requires : goal.unwrap-parent-requires
 unwrap-parent-requires g c =
@@ -63,7 +63,7 @@ loop-below-preserved g c =
     let m = g.M.Monoid in
     let inner : c.loop-below.below + 1 < c.args.root.height = omega (arith, c.loop-below-test.true) in
     let same : c.unwrap-parent.result ≡ above m.is_value m.empty m.op c.args.nodes.now c.loop-below.nodes c.args.root c.loop-below.at c.loop-below.below c.args.change c.loop-below.up (listed c.loop-below.open.slots) c.loop-below.open.last c.loop-below.invariant.0 inner = let e = sym c.unwrap-parent.ensures ∙ parent_is m.is_value m.empty m.op c.args.nodes.now c.loop-below.nodes c.args.root c.loop-below.at c.loop-below.below c.args.change c.loop-below.up (listed c.loop-below.open.slots) c.loop-below.open.last c.loop-below.invariant.0 inner in cc in
-    (goes_on m.is_value m.empty m.op c.args.nodes.now c.loop-below.nodes c.args.root c.loop-below.at c.loop-below.below c.args.change c.loop-below.up (listed c.loop-below.open.slots) c.loop-below.open.last c.loop-below.invariant.0 inner c.unwrap-parent.result same c.get-node.result c.get-node.ensures.found (listed c.opened-row.result.slots) c.opened-row.result.last c.opened-row.ensures.slots c.opened-row.ensures.last c.settle-open.new.nodes c.len-in-loop-below.result c.right_place-place-in-loop-below.result.left c.right_place-place-in-loop-below.result.right (listed c.settle-open.result.slots) c.settle-open.result.last c.len-in-loop-below.ensures.len c.right_place-place-in-loop-below.ensures.left c.right_place-place-in-loop-below.ensures.right c.settle-open.ensures.settled (c.settle-open.ensures.kept c.loop-below.invariant.0.some), c.loop-below.invariant.1, omega (arith, c.loop-below.invariant.2, c.get-node.ensures.rises, c.settle-open.ensures.probes), omega (arith, c.loop-below.invariant.3, c.settle-open.ensures.cost))
+    (goes_on m.is_value m.empty m.op c.args.nodes.now c.loop-below.nodes c.args.root c.loop-below.at c.loop-below.below c.args.change c.loop-below.up (listed c.loop-below.open.slots) c.loop-below.open.last c.loop-below.invariant.0 inner c.unwrap-parent.result same c.get-node.result c.get-node.ensures.found (listed c.opened-row.result.slots) c.opened-row.result.last c.opened-row.ensures.slots c.opened-row.ensures.last c.settle-open.new.nodes c.len-in-loop-below.result c.right_place-place-in-loop-below.result.left c.right_place-place-in-loop-below.result.right (listed c.settle-open.result.slots) c.settle-open.result.last c.len-in-loop-below.ensures.len c.right_place-place-in-loop-below.ensures.left c.right_place-place-in-loop-below.ensures.right c.settle-open.ensures.settled (c.settle-open.ensures.kept c.loop-below.invariant.0.some), c.loop-below.invariant.1, omega (arith, c.loop-below.invariant.2, c.get-node.ensures.rises, c.settle-open.ensures.probes), omega (arith, c.loop-below.invariant.3, c.settle-open.ensures.cost), (let few = c.loop-below.invariant.0.applied.few in let taken = c.settle-open.ensures.taken c.loop-below.invariant.0.some in omega (arith, few, taken, c.loop-below.invariant.4, c.requires.grows, c.len.ensures.len, c.if-len-lt4.false, c.loop-below.auto.below)))
 
 pub plant-grown-requires-clause-room : goal.plant-grown-requires-clause-room
 plant-grown-requires-clause-room g c =
@@ -73,4 +73,4 @@ plant-grown-requires-clause-room g c =
 pub returns-clause-raised : goal.returns-clause-raised
 returns-clause-raised g c =
     let m = g.M.Monoid in
-    planted m.is_value m.empty m.op c.args.nodes.now c.loop-below.nodes c.args.root c.loop-below.at c.loop-below.below c.args.change c.loop-below.up (listed c.loop-below.open.slots) c.loop-below.open.last c.loop-below.invariant.0 (c.args.root.height - 1) refl (omega (arith, c.loop-below-test.false, c.loop-below.auto.below-end)) c.plant-grown.new.nodes c.plant-grown.result c.right_place-2.result.left c.right_place-2.result.right c.right_place-2.ensures.left c.right_place-2.ensures.right c.plant-grown.ensures.planted (omega (arith, c.plant-grown.ensures.height c.loop-below.invariant.0.some))
+    planted m.is_value m.empty m.op c.args.nodes.now c.loop-below.nodes c.args.root c.loop-below.at c.loop-below.below c.args.change c.loop-below.up (listed c.loop-below.open.slots) c.loop-below.open.last c.loop-below.invariant.0 (c.args.root.height - 1) refl (omega (arith, c.loop-below-test.false, c.loop-below.auto.below-end)) c.plant-grown.new.nodes c.plant-grown.result c.right_place.result.left c.right_place.result.right c.right_place.ensures.left c.right_place.ensures.right c.plant-grown.ensures.planted (omega (arith, c.plant-grown.ensures.height c.loop-below.invariant.0.some))

@@ -28,3 +28,10 @@ returns-clause-rising g c = let a = invariant_of-self g c in a.arena.rising
 
 pub returns-clause-bounded : goal.returns-clause-bounded
 returns-clause-bounded g c = let a = invariant_of-self g c in a.arena.tall
+
+pub returns-clause-split : goal.returns-clause-split
+returns-clause-split g c =
+    let put = c.put_near-put.ensures.put in
+    let height = ap (λ v. v.height) c.self.view_is in
+    let nodes = ap (λ v. v.nodes) c.self.view_is in
+    omega (arith, put.changed.room, c.put_near-put.ensures.taken, height, nodes)
