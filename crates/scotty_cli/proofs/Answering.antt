@@ -1,5 +1,5 @@
 -- The answer to a run by turns, by what became of its files.
-use Rattle.std.proofs.Common.{◌≡◌, ◌≢◌, ◌∙◌, ◌<◌, ◌≤◌, ◌+◌, ◌⊎◌, ℕ, List, [], ◌∷◌, All, length, map, get_or, Option, None, Some, Result, Ok, Err, ap, sym, subst, refl, arith, inl, inr}
+use Rattle.std.proofs.Common.{◌≡◌, ◌∙◌, ◌<◌, ◌≤◌, ◌⊎◌, ℕ, List, [], ◌∷◌, All, length, map, get_or, Option, None, Some, Result, Ok, ap, sym, subst, refl, arith, inl, inr}
 use Rattle.std.proofs.lemmas.List.{get_or-map, length-map, get_or_default}
 use Rattle.std.proofs.lemmas.List.Elements.{All-map}
 use Rattle.stream_base.specs.Limits.{Definitions}
@@ -25,9 +25,9 @@ use Rattle.emission_text.specs.declared.report_form.ReportForm.TheVariants.{One,
 use Rattle.emission_text.proofs.Reports.{report_text-alike}
 use Rattle.emission_text.specs.declared.fault.Fault.{Fault}
 use Rattle.emission_text.specs.declared.fault.Fault.TheVariants.{Usage, Unbuilt, Defs, Unopened, Row, Read, FullSource, FullShard, NoMemory}
-use Rattle.scotty_cli.specs.Answer.{CallsForFault, IsAnswer, IsReportOf, IsReportText, IsStopped, Says}
+use Rattle.scotty_cli.specs.Answer.{CallsForFault, IsAnswer, IsReportText, IsStopped, Says}
 use Rattle.scotty_cli.specs.Called.{Called, by_shards, called_for, count_routed, full_shards, report}
-use Rattle.scotty_cli.specs.Causes.{AreDefsOf, AreEntriesOf, AreShardsOf, AreShardsOfFiles, StopsAtDefs, StopsAtFiles, StopsAtSources}
+use Rattle.scotty_cli.specs.Causes.{AreDefsOf, AreShardsOfFiles, StopsAtDefs, StopsAtFiles, StopsAtSources}
 use Rattle.scotty_cli.specs.Outside.{Counts, Telling}
 use Rattle.scotty_cli.specs.Statuses.{status_of}
 use Rattle.scotty_cli.specs.Words.{Run}
@@ -164,10 +164,3 @@ module _ {K : Type 0} (written : K → Option (List ℕ)) (faults : K → ℕ) (
       subst Answered (sym e) record { text = report_text (form_of run.form) shards; text_is = text_is told run shards files vouched; went_out = done e }
   reports shards files vouched s (inr e) done failed =
       subst Answered (sym e) record { text = report_text (form_of run.form) shards; text_is = text_is told run shards files vouched; failed = failed e }
-
--- the answer to a run is no fault of its words
-pub is_not_usage : {K : Type 0} (written : K → Option (List ℕ)) (faults : K → ℕ) (run : Run) (told : Telling) (counts : Counts) (old new : K) (s : Status) → IsAnswer written faults run told counts old new s → s ≢ status.Usage
-is_not_usage written faults run told counts old new s answer e = subst (IsAnswer written faults run told counts old new) e answer
-
-pub is_not_unbuilt : {K : Type 0} (written : K → Option (List ℕ)) (faults : K → ℕ) (run : Run) (told : Telling) (counts : Counts) (old new : K) (s : Status) → IsAnswer written faults run told counts old new s → s ≢ status.Unbuilt
-is_not_unbuilt written faults run told counts old new s answer e = subst (IsAnswer written faults run told counts old new) e answer

@@ -1,6 +1,6 @@
 -- What the words of a run, and what its files tell, call for.
-use Rattle.std.proofs.Common.{◌≡◌, ◌∙◌, ◌<◌, ◌≤◌, ◌+◌, ◌++◌, ℕ, zero, suc, Bool, true, false, cond, List, [], ◌∷◌, All, Contains, length, filter, map, get_or, Option, None, Some, Result, Ok, Err, ap, sym, subst, refl, arith, append_assoc, append-nil, length-append}
-use Rattle.std.specs.Prelude.{nat_lt, slice_index_or}
+use Rattle.std.proofs.Common.{◌≡◌, ◌∙◌, ◌<◌, ◌≤◌, ◌+◌, ◌++◌, ℕ, zero, suc, Bool, true, false, cond, List, [], ◌∷◌, All, Contains, length, filter, get_or, Option, None, Some, Result, Err, ap, sym, subst, refl, arith, append_assoc, append-nil, length-append}
+use Rattle.std.specs.Prelude.{nat_lt}
 use Rattle.std.specs.Option.{option_map_or}
 use Rattle.std.specs.List.{range_with_len}
 use Rattle.std.proofs.lemmas.Bool.Decides.{nat_tests}
@@ -9,14 +9,13 @@ use Rattle.std.proofs.lemmas.List.Elements.{All-head, All-tail}
 use Rattle.stream_base.specs.Limits.{Definitions}
 use Rattle.stream_base.specs.declared.entry.Entry.{Entry}
 use Rattle.stream_base.specs.declared.limits.TheConstants.{JOURNAL_MAX}
-use Rattle.source_feed.specs.Stream.{Refusal, Stream}
+use Rattle.source_feed.specs.Stream.{Refusal}
 use Rattle.window_defs.specs.Reading.{reading_of}
 use Rattle.window_defs.specs.declared.defs_fault.DefsFault.{DefsFault}
-use Rattle.emission_text.specs.declared.fault.Fault.{Fault}
 use Rattle.emission_text.specs.declared.fault.Fault.TheVariants.{Defs, FullShard}
 use Rattle.scotty_cli.specs.Answer.{CallsForFault}
-use Rattle.scotty_cli.specs.Called.{Called, by_defs, by_refusal, by_shards, by_sources, called_for, count_routed, fault, full, full_shards, refusal_fault, report, unknown}
-use Rattle.scotty_cli.specs.Causes.{AreDefsOf, AreEntriesOf, IsFirstRefused, IsOverfull, NoneRefusedBelow, stream_at, told_at}
+use Rattle.scotty_cli.specs.Called.{Called, by_defs, by_refusal, by_shards, by_sources, called_for, count_routed, full_shards, refusal_fault, report, unknown}
+use Rattle.scotty_cli.specs.Causes.{AreDefsOf, AreEntriesOf, IsFirstRefused, IsOverfull, NoneRefusedBelow, stream_at}
 use Rattle.scotty_cli.specs.Outside.{Telling, WhereTold}
 use Rattle.scotty_cli.specs.Words.{Run}
 

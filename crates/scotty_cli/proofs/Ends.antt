@@ -1,6 +1,5 @@
 -- What the gathering of a run's feeds says of its sources.
-use Rattle.std.proofs.Common.{◌≡◌, ◌∙◌, ◌<◌, ◌≤◌, ◌+◌, ◌⊎◌, ℕ, List, [], ◌∷◌, length, map, get_or, Option, Some, sym, subst, ap, refl, arith, inl, inr, IfSome}
-use Rattle.std.specs.Option.{option_map}
+use Rattle.std.proofs.Common.{◌≡◌, ◌∙◌, ◌<◌, ◌≤◌, ◌⊎◌, ℕ, List, [], length, map, get_or, Option, sym, subst, ap, arith, inl, inr, IfSome}
 use Rattle.std.proofs.lemmas.List.{get_or-map, length-map, get_or_default}
 use Rattle.stream_base.specs.Limits.{Definitions}
 use Rattle.stream_base.specs.Outside.{Rose}
@@ -12,7 +11,6 @@ use Rattle.fan_in.specs.declared.gathered.FeedEnd.{FeedEnd}
 use Rattle.fan_in.specs.declared.outcome.Outcome.{Outcome}
 use Rattle.fan_in.specs.declared.outcome.Outcome.TheVariants.{Done, Fault}
 use Rattle.fan_in.specs.Gathering.{Bears, HoldsPart, IsBack, IsFault, IsGathered, NamesOneOf}
-use Rattle.scotty_cli.specs.Causes.{stream_at, told_at}
 use Rattle.scotty_cli.specs.Opening.{AreUnread}
 use Rattle.scotty_cli.specs.Outside.{Telling}
 use Rattle.scotty_cli.specs.Words.{Run}

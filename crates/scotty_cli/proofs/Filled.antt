@@ -1,5 +1,5 @@
 -- The shards of a run, or what stops its sources, behind definitions that are accepted.
-use Rattle.std.proofs.Common.{◌≡◌, ◌≤◌, ℕ, List, Option, None, Some, Result, Ok, Err, inl, inr, subst}
+use Rattle.std.proofs.Common.{◌≡◌, ◌≤◌, ℕ, List, None, Some, Result, Ok, Err, inr, subst}
 use Rattle.std.specs.Prelude.{IfOk, IfErr}
 use Rattle.stream_base.specs.Limits.{Definitions}
 use Rattle.shard_core.specs.Shard.{Sharded}

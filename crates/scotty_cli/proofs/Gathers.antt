@@ -1,27 +1,25 @@
 -- What became of the sources of a run, by how their feeds were gathered.
-use Rattle.std.proofs.Common.{◌≡◌, ◌∙◌, ◌<◌, ◌≤◌, ◌+◌, ◌++◌, ◌⊎◌, ℕ, List, [], ◌∷◌, All, Contains, length, map, get_or, Option, None, Some, ap, sym, subst, refl, arith, inl, inr, length-append, IfSome}
+use Rattle.std.proofs.Common.{◌≡◌, ◌∙◌, ◌<◌, ◌≤◌, ◌⊎◌, ℕ, List, [], ◌∷◌, All, length, map, get_or, Option, None, Some, ap, sym, subst, arith, inl, inr, length-append, IfSome}
 use Rattle.std.specs.Option.{option_map}
-use Rattle.std.specs.Prelude.{MatchOption}
 use Rattle.std.proofs.lemmas.List.{get_or-map, length-map, get_or_default}
 use Rattle.stream_base.specs.Limits.{Definitions}
 use Rattle.stream_base.specs.Outside.{Rose}
 use Rattle.stream_base.specs.declared.entry.Entry.{Entry}
 use Rattle.stream_base.specs.declared.limits.TheConstants.{JOURNAL_MAX}
-use Rattle.stream_base.specs.Model.Routes.{IsLawful, entries_from, routed}
+use Rattle.stream_base.specs.Model.Routes.{entries_from, routed}
 use Rattle.shard_core.specs.Shard.{Sharded}
-use Rattle.source_feed.specs.Stream.{Refusal, Stream, bad_record, too_long}
+use Rattle.source_feed.specs.Stream.{Stream}
 use Rattle.source_feed.specs.declared.feed_fault.FeedFault.{FeedFault}
 use Rattle.source_feed.specs.declared.feed_fault.FeedFault.TheVariants.{Read as FeedRead, TooLong as FeedTooLong, Row as FeedRow, NoMemory as FeedMemory}
-use Rattle.emission_text.specs.Report.{AreAlike}
 use Rattle.emission_text.specs.declared.fault.Fault.{Fault}
 use Rattle.fan_in.specs.declared.outcome.Outcome.{Outcome}
 use Rattle.fan_in.specs.declared.outcome.Outcome.TheVariants.{Done, Full}
 use Rattle.fan_in.specs.declared.outcome.Outcome.TheVariants.{Fault as Failed}
 use Rattle.fan_in.specs.Gathering.{Bears, HoldsPart, IsFault, IsGathered, NamesOneOf}
 use Rattle.scotty_cli.specs.Called.{count_routed}
-use Rattle.scotty_cli.specs.Causes.{AreEntriesOf, AreShardsOf, IsFirstRefused, IsOverfull, NoneRefusedBelow, StopsAtSources, stream_at, told_at}
-use Rattle.scotty_cli.specs.Outside.{Counts, Telling, WhereTold}
-use Rattle.scotty_cli.specs.Settling.{IsFirstFault, IsFirstFull, IsTrouble, fault_of}
+use Rattle.scotty_cli.specs.Causes.{AreEntriesOf, AreShardsOf, IsOverfull, NoneRefusedBelow, StopsAtSources, stream_at, told_at}
+use Rattle.scotty_cli.specs.Outside.{Counts, Telling}
+use Rattle.scotty_cli.specs.Settling.{IsTrouble, fault_of}
 use Rattle.scotty_cli.specs.Words.{Run}
 use Rattle.scotty_cli.proofs.Counting.{sum_beyond}
 
@@ -53,9 +51,6 @@ if_told o P stream is h = subst (λ (x : Option Stream). IfSome x P) is h
 
 no_fault_done : (o : Outcome) → o ≡ Done → ¬ (IsFault o)
 no_fault_done o is h = subst IsFault is h
-
-no_fault_full : (o : Outcome) (k : ℕ) → o ≡ Full k → ¬ (IsFault o)
-no_fault_full o k is h = subst IsFault is h
 
 module _ (told : Telling) (run : Run) (d : Definitions) (outcomes : List Outcome) (shards : List Sharded) (g : IsGathering told run d outcomes shards) where
   -- where the outcomes below a source are no faults, none of these sources is refused

@@ -1,11 +1,10 @@
 -- Sources that are opened one by one, and given back.
-use Rattle.std.proofs.Common.{◌≡◌, ◌∙◌, ◌<◌, ◌≤◌, ◌+◌, ◌++◌, ◌⊎◌, ℕ, zero, suc, List, [], ◌∷◌, length, map, get_or, string_bytes, Option, sym, subst, ap, refl, arith, inl, inr, ⊎_elim, length-append}
+use Rattle.std.proofs.Common.{◌≡◌, ◌∙◌, ◌<◌, ◌≤◌, ◌+◌, ◌++◌, ℕ, zero, suc, List, [], ◌∷◌, length, get_or, Option, sym, subst, ap, refl, arith, inl, inr, ⊎_elim, length-append}
 use Rattle.std.proofs.lemmas.Bool.{cases_lt}
 use Rattle.std.proofs.lemmas.List.{get_or_append_left, get_or_push}
 use Rattle.stream_base.specs.Limits.{Definitions}
 use Rattle.stream_base.specs.Outside.{Rose}
-use Rattle.source_feed.specs.FileFeedState.{FileFeedState, feed_state}
-use Rattle.fan_in.specs.Gathering.{IsFresh}
+use Rattle.source_feed.specs.FileFeedState.{FileFeedState}
 use Rattle.scotty_cli.specs.Causes.{told_at}
 use Rattle.scotty_cli.specs.Opening.{AreUnread, IsUnread}
 use Rattle.scotty_cli.specs.Outside.{Telling}
@@ -21,9 +20,6 @@ rose_still a b c zero least rose failed quiet = subst (Rose a) (sym (quiet refl)
 rose_still a b c (suc n) least rose failed quiet = rose_since a b c least (failed (omega arith))
 
 module _ {S : Type 0} (rest : S → Option (List ℕ)) (faults : S → ℕ) (told : Telling) (names : List (List ℕ)) (d : Definitions) where
-  pub none_unread : AreUnread rest faults told names d []
-  none_unread i f l = absurd (omega (arith, l))
-
   -- one feed more
   pub unread_more : (feeds : List (FileFeedState S)) (feed : FileFeedState S) (n : ℕ) (name : List ℕ) → length feeds ≡ n → get_or names n [] ≡ name → AreUnread rest faults told names d feeds → IsUnread rest faults (told name) n d feed → AreUnread rest faults told names d (feeds ++ feed ∷ [])
   unread_more feeds feed n name many at h unread i f l =
@@ -37,15 +33,6 @@ module _ {S : Type 0} (rest : S → Option (List ℕ)) (faults : S → ℕ) (tol
       push_length : (xs : List (FileFeedState S)) → length (xs ++ feed ∷ []) ≡ length xs + 1
       push_length [] = refl
       push_length (x ∷ xs) = let later = push_length xs in omega (arith, later)
-
--- a feed that wasn't read can be gathered
-pub fresh_feed : {S : Type 0} (rest : S → Option (List ℕ)) (faults : S → ℕ) (told : Option (List ℕ)) (source : ℕ) (d : Definitions) (feed : FileFeedState S) → IsUnread rest faults told source d feed → IsFresh source (feed_state rest feed)
-fresh_feed rest faults told source d feed h = record {
-  of_source = ap (λ s. s.source) h.state;
-  running = ap (λ s. s.ended) h.state;
-  unanswered = ap (λ s. s.answered) h.state;
-  whole = h.closes;
-}
 
 -- a list that has a place has an element
 pub some_of : {X : Type 0} (xs : List X) (k : ℕ) → k < length xs → X

@@ -1,5 +1,5 @@
 -- The first fault and the least full shard among outcomes, one outcome more.
-use Rattle.std.proofs.Common.{◌≡◌, ◌∙◌, ◌<◌, ◌≤◌, ◌+◌, ◌++◌, ◌⊎◌, ℕ, List, [], ◌∷◌, All, Contains, length, map, take, get_or, Option, None, Some, min, sym, subst, ap, refl, arith, inl, inr, ⊎_elim}
+use Rattle.std.proofs.Common.{◌≡◌, ◌∙◌, ◌<◌, ◌≤◌, ◌+◌, ◌++◌, ℕ, List, [], ◌∷◌, Contains, length, map, take, get_or, Option, None, Some, min, sym, subst, ap, refl, arith, ⊎_elim}
 use Rattle.std.proofs.lemmas.Bool.{cases_lt}
 use Rattle.std.proofs.lemmas.List.{get_or-map, map-append, take_more}
 use Rattle.std.proofs.lemmas.List.Elements.{All-push, All-weaker, Contains-append_left, Contains-append_right}
@@ -8,7 +8,7 @@ use Rattle.fan_in.specs.declared.gathered.FeedEnd.{FeedEnd}
 use Rattle.fan_in.specs.declared.outcome.Outcome.{Outcome}
 use Rattle.fan_in.specs.declared.outcome.Outcome.TheVariants.{Done, Fault, Full}
 use Rattle.fan_in.specs.Gathering.{IsFault}
-use Rattle.scotty_cli.specs.Settling.{AreNoFaults, IsLeastFull, least_with}
+use Rattle.scotty_cli.specs.Settling.{IsLeastFull, least_with}
 
 full_inj : {a b : ℕ} → Full a ≡ Full b → a ≡ b
 full_inj h = cc
@@ -78,12 +78,3 @@ below_more ends i d within none below j o l =
     no_fault Done h faulty = faulty
     no_fault (Full k) h faulty = faulty
     no_fault (Fault f) h faulty = h f refl
-
--- where no outcome is a fault, and none names a full shard, all are done
-pub all_done : (os : List Outcome) → AreNoFaults os → IsLeastFull os None → All (λ o. o ≡ Done) os
-all_done os faults full i o l = by (get_or os i o) (faults i o l) (full i o l)
-  where
-    by : (x : Outcome) → ¬ (IsFault x) → ((k : ℕ) → ¬ (x ≡ Full k)) → x ≡ Done
-    by Done faulty named = refl
-    by (Fault f) faulty named = absurd (faulty tt)
-    by (Full k) faulty named = absurd (named k refl)

@@ -5,11 +5,11 @@ use Rattle.std.specs.List.{AllWithin, HoldsAt}
 use Rattle.std.specs.Str.Parse.{ParsesUnsigned}
 use Rattle.std.proofs.Math.ListN.{get_or-map}
 use Rattle.std.proofs.lemmas.List.{length-map, length-drop, take_all}
-use Rattle.std.proofs.lemmas.List.Elements.{All-map, All-cons, All-nil}
+use Rattle.std.proofs.lemmas.List.Elements.{All-map}
 use Rattle.std.proofs.lemmas.Fmt.{parse-decimal, decimal_injective}
 use Rattle.emission_text.specs.declared.report_form.ReportForm.{ReportForm}
 use Rattle.emission_text.specs.declared.report_form.ReportForm.TheVariants.{One, Two}
-use Rattle.scotty_cli.specs.Words.{Run, Way, turns, mail, way_word, run_word, run_by_turns, IsRunWord, IsCommand, IsMade, IsName, IsNumberWithin, IsRun, IsRunOf, IsTurnRun, IsUnbuilt, IsWay, AreSources}
+use Rattle.scotty_cli.specs.Words.{Run, Way, turns, mail, way_word, run_word, IsRunWord, IsCommand, IsMade, IsName, IsNumberWithin, IsRun, IsRunOf, IsTurnRun, IsUnbuilt, IsWay, AreSources}
 
 -- a number that is written within the bounds is what `parse` returns
 pub reads_within : {E : Type 0} (least most : ℕ) (word : List ℕ) (r : Result ℕ E) → most < 2 ^ 64 → ParsesUnsigned 64 10 word r → IsNumberWithin least most word → (n : ℕ) × (r ≡ Ok n) × (least ≤ n) × (n ≤ most) × (word ≡ decimal n)
@@ -160,41 +160,3 @@ other_is_unbuilt words (inl (run, is)) none = by run.way refl
     by turns h = absurd (none run record { is_run = is; by_turns = h })
     by mail h = inl (run, is, h)
 other_is_unbuilt words (inr made) none = inr made
-
--- the words of a run by turns, put together
-pub turn_words : (ws : List (List ℕ)) (form : ReportForm) (a b c d : List ℕ) (es : List (List ℕ)) (shards : ℕ) → ws ≡ a ∷ b ∷ c ∷ d ∷ es → a ≡ run_word form → IsName b → c ≡ decimal shards → 1 ≤ shards → shards ≤ 16 → d ≡ codes "turns" → AreSources es
-    → IsTurnRun ws (run_by_turns form b shards es)
-turn_words ws form a b c d es shards spelled word defs number some few way sources = record {
-  is_run = record {
-    spelled = cc;
-    defs_name = defs;
-    some_shards = some;
-    few_shards = few;
-    some_sources = sources.0;
-    few_sources = sources.1;
-    source_names = sources.2;
-  };
-  by_turns = refl;
-}
-
--- what the words of a run by turns are, taken apart
-pub turn_parts : (ws : List (List ℕ)) (a b c d : List ℕ) (es : List (List ℕ)) → ws ≡ a ∷ b ∷ c ∷ d ∷ es → (run : Run) → IsTurnRun ws run → IsRunWord a × IsName b × IsNumberWithin 1 16 c × (d ≡ codes "turns") × AreSources es
-turn_parts ws a b c d es spelled run turn =
-    let is = turn.is_run in
-    let words = is.spelled in
-    let first : a ≡ run_word run.form = cc in
-    let defs : run.defs ≡ b = cc in
-    let number : c ≡ decimal run.shards = cc in
-    let way : d ≡ way_word run.way = cc in
-    let sources : run.sources ≡ es = cc in (
-      (run.form, first),
-      subst IsName defs is.defs_name,
-      record { number = run.shards; at_least = is.some_shards; at_most = is.few_shards; spelled = number },
-      way ∙ ap way_word turn.by_turns,
-      subst (λ (ys : List (List ℕ)). AreSources ys) sources (is.some_sources, is.few_sources, is.source_names),
-    )
-
--- what isn't built is a command
-pub unbuilt_is_command : (words : List (List ℕ)) → IsUnbuilt words → IsCommand words
-unbuilt_is_command words (inl (run, is, by_mail)) = inl (run, is)
-unbuilt_is_command words (inr made) = inr made

@@ -1,5 +1,5 @@
 -- What is left stands at its place, and a count rose where the one that is given back had failed.
-use Rattle.std.proofs.Common.{◌≡◌, ◌∙◌, ◌<◌, ℕ, [], ◌∷◌, length, length-append, ap, arith, subst}
+use Rattle.std.proofs.Common.{◌≡◌, ◌∙◌, ◌<◌, [], ◌∷◌, length, length-append, ap, arith, subst}
 use Rattle.stream_base.specs.Outside.{Rose}
 use Rattle.scotty_cli.proofs.Opened.{failed_more, front_less}
 use Rattle.scotty_cli.proofs.gathering.close_ends.Goals as goal

@@ -1,5 +1,5 @@
 -- The sources are opened, gathered and given back; what became of them is the run's answer.
-use Rattle.std.proofs.Common.{◌≡◌, ◌<◌, ℕ, List, length, map, string_bytes, All, arith, sym, subst}
+use Rattle.std.proofs.Common.{◌≡◌, ◌<◌, length, map, string_bytes, All, arith, sym, subst}
 use Rattle.std.proofs.lemmas.List.{length-map}
 use Rattle.fan_in.specs.declared.outcome.Outcome.TheVariants.{Done}
 use Rattle.scotty_cli.specs.Outside.{counts_of}

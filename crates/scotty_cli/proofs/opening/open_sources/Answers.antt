@@ -1,7 +1,6 @@
 -- One source more is opened.
 use Rattle.std.proofs.Common.{◌≡◌, ◌∙◌, ℕ, List, [], ◌∷◌, length, length-append, map, string_bytes, get_or, Option, ap, arith, sym, subst}
 use Rattle.std.proofs.lemmas.List.{get_or-map}
-use Rattle.source_feed.specs.FileFeedState.{FileFeedState}
 use Rattle.scotty_cli.specs.Opening.{AreUnread, IsUnread}
 use Rattle.scotty_cli.proofs.Opened.{unread_more}
 use Rattle.scotty_cli.proofs.opening.open_sources.Goals as goal

@@ -1,4 +1,4 @@
-use Rattle.std.proofs.Common.{List, map, string_bytes, refl}
+use Rattle.std.proofs.Common.{map, string_bytes, refl}
 use Rattle.scotty_cli.specs.Outside.{counts_of}
 use Rattle.scotty_cli.specs.Words.{run_by_turns}
 use Rattle.scotty_cli.proofs.Filled.{shards_of_files, stops_behind}
