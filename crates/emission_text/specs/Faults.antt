@@ -3,12 +3,11 @@ use Rattle.std.specs.Prelude.{ℕ, List, [], ◌∷◌, codes, decimal}
 use Rattle.stream_base.specs.Model.Text.{line_of}
 use Rattle.emission_text.specs.DefsFaults.{defs_words, place_text, why_text}
 use Rattle.emission_text.specs.declared.fault.Fault.{Fault}
-use Rattle.emission_text.specs.declared.fault.Fault.TheVariants.{Usage, Unbuilt, Defs, Unopened, Row, Read, FullSource, FullShard, NoMemory}
+use Rattle.emission_text.specs.declared.fault.Fault.TheVariants.{Usage, Defs, Unopened, Row, Read, FullSource, FullShard, NoMemory}
 
 -- the words of a fault
 abbrev pub fault_words : Fault → List (List ℕ)
 fault_words Usage = codes "usage" ∷ []
-fault_words Unbuilt = codes "unbuilt" ∷ []
 fault_words (Defs fault) = defs_words fault
 fault_words (Unopened place) = codes "open" ∷ place_text (codes "defs") place ∷ []
 fault_words (Row source number why) =

@@ -6,8 +6,6 @@ use window_defs::DefsFault;
 pub enum Fault {
     /// The words of the command line aren't in its grammar.
     Usage,
-    /// The command and its definitions are right, and this program doesn't serve them yet.
-    Unbuilt,
     /// The definitions were refused.
     Defs(DefsFault),
     /// A file couldn't be opened: the source at this place, or the definitions.

@@ -31,7 +31,6 @@ fn put_fault<K: Sink>(fault: &Fault, out: &mut Pending, sink: &mut K) -> Result<
 {
     match fault {
         Fault::Usage => put_pieces(&[b"fault usage\n"], out, sink),
-        Fault::Unbuilt => put_pieces(&[b"fault unbuilt\n"], out, sink),
         Fault::Defs(fault) => put_defs_fault(fault, out, sink),
         Fault::Unopened { place } => put_placed(b"fault open ", b"defs", *place, out, sink),
         Fault::Row {

@@ -1,7 +1,8 @@
 use crate::outcome::Outcome;
 use shard_core::Shard;
 
-/// A feed as it is handed back, with its outcome.
+/// A feed as it is handed back, with its outcome. It can be let go where the feed can.
+#[derive(Drop)]
 pub struct FeedEnd<F> {
     pub feed: F,
     pub outcome: Outcome,
@@ -15,6 +16,7 @@ pub struct Gathered<F> {
 }
 
 /// Memory ran out before any feed was read. The feeds come back as they were.
+#[derive(Drop)]
 pub struct Unstarted<F> {
     pub feeds: Vec<F>,
 }

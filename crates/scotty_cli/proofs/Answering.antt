@@ -24,8 +24,8 @@ use Rattle.emission_text.specs.declared.report_form.ReportForm.{ReportForm}
 use Rattle.emission_text.specs.declared.report_form.ReportForm.TheVariants.{One, Two}
 use Rattle.emission_text.proofs.Reports.{report_text-alike}
 use Rattle.emission_text.specs.declared.fault.Fault.{Fault}
-use Rattle.emission_text.specs.declared.fault.Fault.TheVariants.{Usage, Unbuilt, Defs, Unopened, Row, Read, FullSource, FullShard, NoMemory}
-use Rattle.scotty_cli.specs.Answer.{CallsForFault, IsAnswer, IsReportText, IsStopped, Says}
+use Rattle.emission_text.specs.declared.fault.Fault.TheVariants.{Usage, Defs, Unopened, Row, Read, FullSource, FullShard, NoMemory}
+use Rattle.scotty_cli.specs.Answer.{CallsForFault, IsAnswer, IsReportOf, IsReportText, IsStopped, Says}
 use Rattle.scotty_cli.specs.Called.{Called, by_shards, called_for, count_routed, full_shards, report}
 use Rattle.scotty_cli.specs.Causes.{AreDefsOf, AreShardsOfFiles, StopsAtDefs, StopsAtFiles, StopsAtSources}
 use Rattle.scotty_cli.specs.Outside.{Counts, Telling}
@@ -107,7 +107,6 @@ module _ {K : Type 0} (written : K → Option (List ℕ)) (faults : K → ℕ) (
   at_defs : (f : Fault) → StopsAtDefs (told run.defs) counts f → Says written faults f old new → Answered (status_of f)
   unfolding Answered
   at_defs Usage h said = absurd h
-  at_defs Unbuilt h said = absurd h
   at_defs (Defs Long) h said = stopped (Defs Long) status.BadDefs refl (refused_defs told run Long h) said
   at_defs (Defs Toml) h said = stopped (Defs Toml) status.BadDefs refl (refused_defs told run Toml h) said
   at_defs (Defs (Shape w)) h said = stopped (Defs (Shape w)) status.BadDefs refl (refused_defs told run (Shape w) h) said
@@ -125,7 +124,6 @@ module _ {K : Type 0} (written : K → Option (List ℕ)) (faults : K → ℕ) (
   behind : (d : Definitions) → AreDefsOf (told run.defs) d → (f : Fault) → StopsAtSources told run d counts f → Says written faults f old new → Answered (status_of f)
   unfolding Answered
   behind d read Usage h said = absurd h
-  behind d read Unbuilt h said = absurd h
   behind d read (Defs cause) h said = absurd h
   behind d read (Unopened None) h said = absurd h
   behind d read (Unopened (Some source)) h said = record { rose = h.1; place = Some source; place_is = (h.0, λ bytes t. (d, read bytes t)); said = said }

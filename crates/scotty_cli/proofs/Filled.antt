@@ -4,7 +4,7 @@ use Rattle.std.specs.Prelude.{IfOk, IfErr}
 use Rattle.stream_base.specs.Limits.{Definitions}
 use Rattle.shard_core.specs.Shard.{Sharded}
 use Rattle.emission_text.specs.declared.fault.Fault.{Fault}
-use Rattle.emission_text.specs.declared.fault.Fault.TheVariants.{Usage, Unbuilt, Defs, Unopened, Row, Read, FullSource, FullShard, NoMemory}
+use Rattle.emission_text.specs.declared.fault.Fault.TheVariants.{Usage, Defs, Unopened, Row, Read, FullSource, FullShard, NoMemory}
 use Rattle.scotty_cli.specs.Causes.{AreDefsOf, AreShardsOf, AreShardsOfFiles, StopsAtFiles, StopsAtSources}
 use Rattle.scotty_cli.specs.Outside.{Counts, Telling}
 use Rattle.scotty_cli.specs.Words.{Run}
@@ -14,7 +14,6 @@ use Rattle.scotty_cli.proofs.Opened.{rose_since}
 stops_since : (told : Telling) (run : Run) (d : Definitions) (old now : Counts) → old.opens.after ≡ now.opens.after → old.reads.after ≡ now.reads.after → old.opens.before ≤ now.opens.before → old.reads.before ≤ now.reads.before
     → (fault : Fault) → StopsAtSources told run d now fault → StopsAtSources told run d old fault
 stops_since told run d old now a b o r Usage h = h
-stops_since told run d old now a b o r Unbuilt h = h
 stops_since told run d old now a b o r (Defs fault) h = h
 stops_since told run d old now a b o r (Unopened None) h = h
 stops_since told run d old now a b o r (Unopened (Some source)) h = (h.0, rose_since old.opens.before now.opens.before old.opens.after o (rw a h.1))

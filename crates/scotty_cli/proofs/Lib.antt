@@ -7,4 +7,5 @@ pub mod Opened
 pub mod Gathers
 pub mod Ends
 pub mod Filled
+pub mod Makings
 pub mod Answering

@@ -12,7 +12,7 @@ use Rattle.window_defs.specs.declared.read.TheConstants.{BYTES_MAX}
 use Rattle.window_defs.specs.declared.defs_fault.DefsFault.TheVariants.{Long, Toml, Shape, Limit, Many}
 use Rattle.window_defs.specs.declared.defs_fault.DefsFault.TheVariants.{NoMemory as NoRoom}
 use Rattle.emission_text.specs.declared.fault.Fault.{Fault}
-use Rattle.emission_text.specs.declared.fault.Fault.TheVariants.{Usage, Unbuilt, Defs, Unopened, Row, Read, FullSource, FullShard, NoMemory}
+use Rattle.emission_text.specs.declared.fault.Fault.TheVariants.{Usage, Defs, Unopened, Row, Read, FullSource, FullShard, NoMemory}
 use Rattle.scotty_cli.specs.Causes.{StopsAtBytes, StopsAtDefs, StopsAtReading}
 use Rattle.scotty_cli.specs.Outside.{Counts}
 
@@ -52,7 +52,6 @@ if_err (Err e) P Q h f = f e h
 
 stops_at_bytes : (told : Option (List ℕ)) (counts : Counts) (read : List ℕ) → ((bytes : List ℕ) → told ≡ Some bytes → read ≡ bytes) → (fault : Fault) → StopsAtBytes read fault → StopsAtDefs told counts fault
 stops_at_bytes told counts read is Usage h = h
-stops_at_bytes told counts read is Unbuilt h = h
 stops_at_bytes told counts read is (Defs Long) h = λ bytes t. subst (λ (b : List ℕ). reading_of b ≡ Err Long) (is bytes t) (h read refl)
 stops_at_bytes told counts read is (Defs Toml) h = λ bytes t. subst (λ (b : List ℕ). reading_of b ≡ Err Toml) (is bytes t) (h read refl)
 stops_at_bytes told counts read is (Defs (Shape w)) h = λ bytes t. subst (λ (b : List ℕ). reading_of b ≡ Err (Shape w)) (is bytes t) (h read refl)

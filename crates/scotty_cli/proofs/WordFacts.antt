@@ -9,7 +9,9 @@ use Rattle.std.proofs.lemmas.List.Elements.{All-map}
 use Rattle.std.proofs.lemmas.Fmt.{parse-decimal, decimal_injective}
 use Rattle.emission_text.specs.declared.report_form.ReportForm.{ReportForm}
 use Rattle.emission_text.specs.declared.report_form.ReportForm.TheVariants.{One, Two}
-use Rattle.scotty_cli.specs.Words.{Run, Way, turns, mail, way_word, run_word, IsRunWord, IsCommand, IsMade, IsName, IsNumberWithin, IsRun, IsRunOf, IsTurnRun, IsUnbuilt, IsWay, AreSources}
+use Rattle.scotty_cli.specs.declared.way.Way.{Way}
+use Rattle.scotty_cli.specs.declared.way.Way.TheVariants.{Turns, Mail}
+use Rattle.scotty_cli.specs.Words.{Made, Run, IsMade, IsMadeOf, IsName, IsNumberWithin, IsRun, IsRunOf, run_word, way_word}
 
 -- a number that is written within the bounds is what `parse` returns
 pub reads_within : {E : Type 0} (least most : ℕ) (word : List ℕ) (r : Result ℕ E) → most < 2 ^ 64 → ParsesUnsigned 64 10 word r → IsNumberWithin least most word → (n : ℕ) × (r ≡ Ok n) × (least ≤ n) × (n ≤ most) × (word ≡ decimal n)
@@ -56,48 +58,6 @@ pub four_up : {X : Type 0} (f : X → List ℕ) (xs : List X) (a b c d : X) → 
 four_up f (u ∷ v ∷ w ∷ x ∷ xs) a b c d l p q r s = cc
 four_up f xs a b c d l p q r s = absurd (omega arith)
 
--- the words of a made run, put together, and its last word
-pub made_words : (ws : List (List ℕ)) (a b c d e g : List ℕ) → ws ≡ a ∷ b ∷ c ∷ d ∷ e ∷ g ∷ [] → a ≡ codes "made" → IsNumberWithin 0 (2 ^ 64 - 1) b → IsNumberWithin 1 1000000 c → IsNumberWithin 1 16 d → IsNumberWithin 1 16 e → IsWay g → IsMade ws
-made_words ws a b c d e g spelled h seed rows sources shards way = record {
-  seed = seed.number;
-  rows = rows.number;
-  sources = sources.number;
-  shards = shards.number;
-  way = way.0;
-  spelled = cc;
-  seed_fits = let m : seed.number ≤ 2 ^ 64 - 1 = seed.at_most in omega arith;
-  some_rows = rows.at_least;
-  few_rows = rows.at_most;
-  some_sources = sources.at_least;
-  few_sources = sources.at_most;
-  some_shards = shards.at_least;
-  few_shards = shards.at_most;
-}
-
-pub made_way : (ws : List (List ℕ)) (a b c d e g : List ℕ) → ws ≡ a ∷ b ∷ c ∷ d ∷ e ∷ g ∷ [] → IsMade ws → IsWay g
-made_way ws a b c d e g spelled made = (made.way, cc)
-
--- the words of a run, put together, and its sources
-pub run_words : (ws : List (List ℕ)) (a b c d : List ℕ) (es : List (List ℕ)) → ws ≡ a ∷ b ∷ c ∷ d ∷ es → IsRunWord a → IsName b → IsNumberWithin 1 16 c → IsWay d → AreSources es → IsRun ws
-run_words ws a b c d es spelled h defs shards way sources = (
-  record { form = h.0; defs = b; shards = shards.number; way = way.0; sources = es },
-  record {
-    spelled = cc;
-    defs_name = defs;
-    some_shards = shards.at_least;
-    few_shards = shards.at_most;
-    some_sources = sources.0;
-    few_sources = sources.1;
-    source_names = sources.2;
-  },
-)
-
-pub run_sources : (ws : List (List ℕ)) (a b c d : List ℕ) (es : List (List ℕ)) → ws ≡ a ∷ b ∷ c ∷ d ∷ es → IsRun ws → AreSources es
-run_sources ws a b c d es spelled (run, is) =
-    let words = is.spelled in
-    let same : run.sources ≡ es = cc in
-    subst (λ (ys : List (List ℕ)). AreSources ys) same (is.some_sources, is.few_sources, is.source_names)
-
 -- what is taken behind the first n items is all of the rest
 pub take-all_of : {X : Type 0} (n : ℕ) (xs : List X) → take (length xs - n) (drop n xs) ≡ drop n xs
 take-all_of n xs = let e : length (drop n xs) ≡ length xs - n = length-drop n xs in take_all (length xs - n) (drop n xs) (omega arith)
@@ -111,10 +71,10 @@ form_told Two Two h = refl
 
 -- and so do the words of the two ways
 way_told : (way other : Way) → way_word way ≡ way_word other → way ≡ other
-way_told turns turns h = refl
-way_told turns mail h = cc
-way_told mail turns h = cc
-way_told mail mail h = refl
+way_told Turns Turns h = refl
+way_told Turns Mail h = cc
+way_told Mail Turns h = cc
+way_told Mail Mail h = refl
 
 -- words are those of one run at most
 pub one_run : (words : List (List ℕ)) (run other : Run) → IsRunOf words run → IsRunOf words other → run ≡ other
@@ -130,33 +90,33 @@ one_run words run other first second =
     let sources : run.sources ≡ other.sources = cc in
     λ i. record { form = form i; defs = defs i; shards = shards i; way = way i; sources = sources i }
 
+-- words are those of one made run at most
+pub one_made : (words : List (List ℕ)) (m other : Made) → IsMadeOf words m → IsMadeOf words other → m ≡ other
+one_made words m other first second =
+    let one = first.spelled in
+    let two = second.spelled in
+    let bits = first.seed_fits in
+    let more = second.seed_fits in
+    let some = first.few_rows in
+    let few = second.few_rows in
+    let low = first.few_sources in
+    let high = second.few_sources in
+    let under = first.few_shards in
+    let over = second.few_shards in
+    let seed : m.seed ≡ other.seed = decimal_injective m.seed other.seed bits more cc in
+    let rows : m.rows ≡ other.rows = decimal_injective m.rows other.rows (omega arith) (omega arith) cc in
+    let sources : m.sources ≡ other.sources = decimal_injective m.sources other.sources (omega arith) (omega arith) cc in
+    let shards : m.shards ≡ other.shards = decimal_injective m.shards other.shards (omega arith) (omega arith) cc in
+    let way : m.way ≡ other.way = way_told m.way other.way cc in
+    λ i. record { seed = seed i; rows = rows i; sources = sources i; shards = shards i; way = way i }
+
 -- no run is a made run
 run_not_made : (form : ReportForm) → run_word form ≡ codes "made" → ⊥
 run_not_made One h = let first : 114 ≡ 109 = ap (λ (w : List ℕ). get_or w 0 0) h in omega (arith, first)
 run_not_made Two h = let first : 114 ≡ 109 = ap (λ (w : List ℕ). get_or w 0 0) h in omega (arith, first)
 
-ways_differ : turns ≡ mail → ⊥
-ways_differ h = absurd cc
-
--- a run by turns is a command
-pub turn_is_command : (words : List (List ℕ)) (run : Run) → IsTurnRun words run → IsCommand words
-turn_is_command words run turn = inl (run, turn.is_run)
-
--- a run by turns is built
-pub turn_is_built : (words : List (List ℕ)) (run : Run) → IsTurnRun words run → IsUnbuilt words → ⊥
-turn_is_built words run turn (inl (other, is, by_mail)) =
-    let same : other.way ≡ run.way = ap (λ (r : Run). r.way) (one_run words other run is turn.is_run) in
-    ways_differ (sym (turn.by_turns) ∙ sym same ∙ by_mail)
-turn_is_built words run turn (inr made) =
-    let one = (turn.is_run).spelled in
+pub runs_are_not_made : (words : List (List ℕ)) → IsRun words → IsMade words → ⊥
+runs_are_not_made words (run, is) (m, made) =
+    let one = is.spelled in
     let two = made.spelled in
     run_not_made run.form cc
-
--- a command that is no run by turns isn't built
-pub other_is_unbuilt : (words : List (List ℕ)) → IsCommand words → ((run : Run) → IsTurnRun words run → ⊥) → IsUnbuilt words
-other_is_unbuilt words (inl (run, is)) none = by run.way refl
-  where
-    by : (way : Way) → run.way ≡ way → IsUnbuilt words
-    by turns h = absurd (none run record { is_run = is; by_turns = h })
-    by mail h = inl (run, is, h)
-other_is_unbuilt words (inr made) none = inr made

@@ -6,7 +6,9 @@ use Rattle.stream_base.specs.declared.entry.Entry.{Entry}
 use Rattle.stream_base.specs.Model.Journals.{journals_of}
 use Rattle.stream_base.specs.Model.Routes.{IsLawful}
 use Rattle.stream_base.specs.Model.Text.{report_of}
+use Rattle.stream_base.specs.Model.Final.{final_rows, summary_of}
 use Rattle.source_feed.specs.FileFeedState.{source_stream}
+use Rattle.source_feed.specs.Generated.{made_definitions, made_sources}
 use Rattle.window_defs.specs.Reading.{reading_of}
 use Rattle.emission_text.specs.Faults.{fault_line}
 use Rattle.emission_text.specs.Report.{form_of}
@@ -16,9 +18,9 @@ use Rattle.emission_text.specs.declared.fault.Fault.TheVariants as stop
 use Rattle.scotty_cli.specs.Called.{Called, called_for, fault, full, report, unknown}
 use Rattle.scotty_cli.specs.Outside.{Counts, Telling, WhereTold}
 use Rattle.scotty_cli.specs.Statuses.{status_of}
-use Rattle.scotty_cli.specs.Words.{Run}
+use Rattle.scotty_cli.specs.Words.{Made, Run}
 use Rattle.scotty_cli.specs.declared.status.Status.{Status}
-use Rattle.scotty_cli.specs.declared.status.Status.TheVariants.{Done, Usage, BadDefs, OpenFault, BadRow, ReadFault, Full, NoMemory, WriteFault, Unbuilt}
+use Rattle.scotty_cli.specs.declared.status.Status.TheVariants.{Done, Usage, BadDefs, OpenFault, BadRow, ReadFault, Full, NoMemory, WriteFault}
 
 -- the text is the report of the journals that stand in it, and these hold each source's entries where they belong, once each and in the source's order
 pub record IsReportOf (run : Run) (d : Definitions) (sources : List (List Entry)) (text : List ℕ) : Type 0 where
@@ -58,6 +60,10 @@ MayBeUnopened told run (Some source) = (source < length run.sources) × AreAccep
 abbrev pub MayBeUnread : Telling → Run → Option ℕ → Type 0
 MayBeUnread told run None = ⊤
 MayBeUnread told run (Some source) = (source < length run.sources) × AreAccepted told run × AreUnrefusedBelow told run source
+
+-- the summary of a made run: that of the final rows of its generated sources, which knows of no shard and no schedule
+abbrev pub made_summary : Made → List ℕ
+made_summary m = summary_of m.rows 5 (final_rows made_definitions (made_sources m.seed m.rows m.sources))
 
 module _ {K : Type 0} (written : K → Option (List ℕ)) (faults : K → ℕ) where
   -- the line of a fault was written, or a write failed
@@ -108,4 +114,15 @@ module _ {K : Type 0} (written : K → Option (List ℕ)) (faults : K → ℕ) w
   IsAnswer run told counts old new ReadFault = IsUnread run told counts old new
   IsAnswer run told counts old new NoMemory = Says stop.NoMemory old new
   IsAnswer run told counts old new Usage = ⊥
-  IsAnswer run told counts old new Unbuilt = ⊥
+
+  -- the answer to a made run: the summary of the final rows of its sources was written; with two exceptions: a write failed, by its count, and memory ran out
+  abbrev pub IsMadeAnswer : Made → K → K → Status → Type 0
+  IsMadeAnswer m old new Done = Appends written faults (made_summary m) old new
+  IsMadeAnswer m old new WriteFault = Fails written faults (made_summary m) old new
+  IsMadeAnswer m old new NoMemory = Says stop.NoMemory old new
+  IsMadeAnswer m old new BadDefs = ⊥
+  IsMadeAnswer m old new BadRow = ⊥
+  IsMadeAnswer m old new Full = ⊥
+  IsMadeAnswer m old new OpenFault = ⊥
+  IsMadeAnswer m old new ReadFault = ⊥
+  IsMadeAnswer m old new Usage = ⊥

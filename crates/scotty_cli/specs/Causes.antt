@@ -17,7 +17,7 @@ use Rattle.window_defs.specs.declared.defs_fault.DefsFault.TheVariants.{Long, To
 use Rattle.window_defs.specs.declared.defs_fault.DefsFault.TheVariants.{NoMemory as NoRoom}
 use Rattle.emission_text.specs.Report.{AreAlike}
 use Rattle.emission_text.specs.declared.fault.Fault.{Fault}
-use Rattle.emission_text.specs.declared.fault.Fault.TheVariants.{Usage, Unbuilt, Defs, Unopened, Row, Read, FullSource, FullShard, NoMemory}
+use Rattle.emission_text.specs.declared.fault.Fault.TheVariants.{Usage, Defs, Unopened, Row, Read, FullSource, FullShard, NoMemory}
 use Rattle.scotty_cli.specs.Called.{count_routed}
 use Rattle.scotty_cli.specs.Outside.{Counts, Telling, WhereTold}
 use Rattle.scotty_cli.specs.Words.{Run}
@@ -34,7 +34,6 @@ RefusesDefs told NoRoom = ⊤
 -- why the definitions stop a run: they can't be opened or read, or they are refused
 abbrev pub StopsAtDefs : Option (List ℕ) → Counts → Fault → Type 0
 StopsAtDefs told counts Usage = ⊥
-StopsAtDefs told counts Unbuilt = ⊥
 StopsAtDefs told counts (Defs fault) = RefusesDefs told fault
 StopsAtDefs told counts (Unopened place) = (place ≡ None) × Rose counts.opens.before counts.opens.after
 StopsAtDefs told counts (Row source number why) = ⊥
@@ -80,7 +79,6 @@ pub record IsOverfull (told : Telling) (d : Definitions) (run : Run) (k : ℕ) :
 -- why the sources of a run stop it: one can't be opened; the first in trouble can't be read, is too long, or has a refused record; or too many entries go to a shard
 abbrev pub StopsAtSources : Telling → Run → Definitions → Counts → Fault → Type 0
 StopsAtSources told run d counts Usage = ⊥
-StopsAtSources told run d counts Unbuilt = ⊥
 StopsAtSources told run d counts (Defs fault) = ⊥
 StopsAtSources told run d counts (Unopened None) = ⊥
 StopsAtSources told run d counts (Unopened (Some source)) = (source < length run.sources) × Rose counts.opens.before counts.opens.after
@@ -118,7 +116,6 @@ StopsAtFiles told run counts fault = StopsAtDefs (told run.defs) counts fault �
 -- why bytes that were read are refused as definitions
 abbrev pub StopsAtBytes : List ℕ → Fault → Type 0
 StopsAtBytes bytes Usage = ⊥
-StopsAtBytes bytes Unbuilt = ⊥
 StopsAtBytes bytes (Defs fault) = RefusesDefs (Some bytes) fault
 StopsAtBytes bytes (Unopened place) = ⊥
 StopsAtBytes bytes (Row source number why) = ⊥

@@ -6,3 +6,4 @@ pub mod Causes
 pub mod Settling
 pub mod Called
 pub mod Answer
+pub mod Making

@@ -5,7 +5,7 @@ use Rattle.stream_base.specs.Outside.{Rose}
 use Rattle.source_feed.specs.FeedState.{Closes}
 use Rattle.source_feed.specs.FileFeedState.{FileFeedState, feed_state, state_unread}
 use Rattle.emission_text.specs.declared.fault.Fault.{Fault}
-use Rattle.emission_text.specs.declared.fault.Fault.TheVariants.{Usage, Unbuilt, Defs, Unopened, Row, Read, FullSource, FullShard, NoMemory}
+use Rattle.emission_text.specs.declared.fault.Fault.TheVariants.{Usage, Defs, Unopened, Row, Read, FullSource, FullShard, NoMemory}
 use Rattle.scotty_cli.specs.Causes.{told_at}
 use Rattle.scotty_cli.specs.Outside.{Counts, Telling}
 
@@ -24,7 +24,6 @@ module _ {S : Type 0} (rest : S → Option (List ℕ)) (faults : S → ℕ) wher
 -- why the opening of so many sources stops a run: one can't be opened, or memory ran out
 abbrev pub StopsAtOpening : ℕ → Counts → Fault → Type 0
 StopsAtOpening many counts Usage = ⊥
-StopsAtOpening many counts Unbuilt = ⊥
 StopsAtOpening many counts (Defs fault) = ⊥
 StopsAtOpening many counts (Unopened place) = (source : ℕ) × (place ≡ Some source) × (source < many) × Rose counts.opens.before counts.opens.after
 StopsAtOpening many counts (Row source number why) = ⊥

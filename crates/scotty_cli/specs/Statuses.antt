@@ -6,7 +6,7 @@ use Rattle.window_defs.specs.declared.defs_fault.DefsFault.TheVariants.{NoMemory
 use Rattle.emission_text.specs.declared.fault.Fault.{Fault}
 use Rattle.emission_text.specs.declared.fault.Fault.TheVariants as fault
 use Rattle.scotty_cli.specs.declared.status.Status.{Status}
-use Rattle.scotty_cli.specs.declared.status.Status.TheVariants.{Done, Usage, BadDefs, OpenFault, BadRow, ReadFault, Full, NoMemory, WriteFault, Unbuilt}
+use Rattle.scotty_cli.specs.declared.status.Status.TheVariants.{Done, Usage, BadDefs, OpenFault, BadRow, ReadFault, Full, NoMemory, WriteFault}
 
 -- the code with which the program ends
 abbrev pub code_of : Status → ℕ
@@ -19,7 +19,6 @@ code_of ReadFault = 5
 code_of Full = 6
 code_of NoMemory = 7
 code_of WriteFault = 8
-code_of Unbuilt = 20
 
 -- the status for refused definitions, unless memory ran out
 abbrev pub defs_status : DefsFault → Status
@@ -33,7 +32,6 @@ defs_status NoRoom = NoMemory
 -- the status for a fault
 abbrev pub status_of : Fault → Status
 status_of fault.Usage = Usage
-status_of fault.Unbuilt = Unbuilt
 status_of (fault.Defs cause) = defs_status cause
 status_of (fault.Unopened place) = OpenFault
 status_of (fault.Row source number why) = BadRow

@@ -1,16 +1,14 @@
 -- The words of the command line.
 use Rattle.emission_text.specs.declared.report_form.ReportForm.{ReportForm}
 use Rattle.emission_text.specs.declared.report_form.ReportForm.TheVariants.{One, Two}
+use Rattle.scotty_cli.specs.declared.way.Way.{Way}
+use Rattle.scotty_cli.specs.declared.way.Way.TheVariants.{Turns, Mail}
 use Rattle.std.specs.Prelude.{◌≡◌, ◌≤◌, ◌<◌, ◌^◌, ◌⊎◌, ℕ, List, [], ◌∷◌, length, All, codes, decimal}
 
--- how feeds hand on their entries
-pub data Way : Type 0 where
-  turns : Way
-  mail : Way
-
+-- the word for how feeds hand on their entries
 abbrev pub way_word : Way → List ℕ
-way_word turns = codes "turns"
-way_word mail = codes "mail"
+way_word Turns = codes "turns"
+way_word Mail = codes "mail"
 
 -- the word of a way
 abbrev pub IsWay : List ℕ → Type 0
@@ -66,40 +64,43 @@ pub record IsRunOf (words : List (List ℕ)) (run : Run) : Type 0 where
 abbrev pub IsRun : List (List ℕ) → Type 0
 IsRun words = (run : Run) × IsRunOf words run
 
--- the words of a made run: a seed, 1 to 1,000,000 tuples, 1 to 16 sources and shards, and how feeds hand on
-pub record IsMade (words : List (List ℕ)) : Type 0 where
+-- a made run: its seed, how many tuples, sources and shards there are, and how feeds hand on
+pub record Made : Type 0 where
   pub seed : ℕ
   pub rows : ℕ
   pub sources : ℕ
   pub shards : ℕ
   pub way : Way
-  pub spelled : words ≡ codes "made" ∷ decimal seed ∷ decimal rows ∷ decimal sources ∷ decimal shards ∷ way_word way ∷ []
-  pub seed_fits : seed < 2 ^ 64
-  pub some_rows : 1 ≤ rows
-  pub few_rows : rows ≤ 1000000
-  pub some_sources : 1 ≤ sources
-  pub few_sources : sources ≤ 16
-  pub some_shards : 1 ≤ shards
-  pub few_shards : shards ≤ 16
+
+-- how a made run is spelled
+abbrev pub made_words_of : Made → List (List ℕ)
+made_words_of m = codes "made" ∷ decimal m.seed ∷ decimal m.rows ∷ decimal m.sources ∷ decimal m.shards ∷ way_word m.way ∷ []
+
+-- the words are those of this made run: the seed has 64 bits, and there are 1 to 1,000,000 tuples and 1 to 16 sources and shards
+pub record IsMadeOf (words : List (List ℕ)) (m : Made) : Type 0 where
+  pub spelled : words ≡ made_words_of m
+  pub seed_fits : m.seed < 2 ^ 64
+  pub some_rows : 1 ≤ m.rows
+  pub few_rows : m.rows ≤ 1000000
+  pub some_sources : 1 ≤ m.sources
+  pub few_sources : m.sources ≤ 16
+  pub some_shards : 1 ≤ m.shards
+  pub few_shards : m.shards ≤ 16
+
+-- the words are those of a made run
+abbrev pub IsMade : List (List ℕ) → Type 0
+IsMade words = (m : Made) × IsMadeOf words m
 
 -- the words are those of a command
 abbrev pub IsCommand : List (List ℕ) → Type 0
 IsCommand words = IsRun words ⊎ IsMade words
 
--- the run of these definitions, shards and sources whose feeds take turns
-abbrev pub run_by_turns : ReportForm → List ℕ → ℕ → List (List ℕ) → Run
-run_by_turns form defs shards sources =
-    record { form = form; defs = defs; shards = shards; way = turns; sources = sources }
+-- the run of these definitions, shards and sources
+abbrev pub run_of : ReportForm → List ℕ → ℕ → Way → List (List ℕ) → Run
+run_of form defs shards way sources =
+    record { form = form; defs = defs; shards = shards; way = way; sources = sources }
 
--- the words are those of this run, and its feeds take turns: such runs are built
-pub record IsTurnRun (words : List (List ℕ)) (run : Run) : Type 0 where
-  pub is_run : IsRunOf words run
-  pub by_turns : run.way ≡ turns
-
--- the words are those of a run whose feeds send mail
-abbrev pub IsMailRun : List (List ℕ) → Type 0
-IsMailRun words = (run : Run) × IsRunOf words run × (run.way ≡ mail)
-
--- the words are those of a command that isn't built: a run by mail, or a made run
-abbrev pub IsUnbuilt : List (List ℕ) → Type 0
-IsUnbuilt words = IsMailRun words ⊎ IsMade words
+-- the made run of this seed
+abbrev pub made_of : ℕ → ℕ → ℕ → ℕ → Way → Made
+made_of seed rows sources shards way =
+    record { seed = seed; rows = rows; sources = sources; shards = shards; way = way }

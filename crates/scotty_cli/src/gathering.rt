@@ -3,13 +3,13 @@ ghost use Rattle.std.specs.Prelude.{◌≡◌, ◌≤◌, ◌<◌, ◌+◌, ℕ,
 ghost use Rattle.stream_base.specs.Outside.{Rose};
 ghost use Rattle.scotty_cli.specs.Causes.{AreShardsOf, StopsAtSources};
 ghost use Rattle.scotty_cli.specs.Outside.{counts_of};
-ghost use Rattle.scotty_cli.specs.Words.{run_by_turns};
+ghost use Rattle.scotty_cli.specs.Words.{run_of};
 
 use crate::opening::{close_feeds, open_sources};
 use crate::settling::trouble_of;
-use crate::words::TurnRun;
+use crate::words::RunWords;
 use emission_text::Fault;
-use fan_in::{FeedEnd, Gathered, Plan, TurnFeeds, Unstarted};
+use fan_in::{FeedEnd, Gathered, Plan, Unstarted};
 use shard_core::Shard;
 use source_feed::FileFeed;
 use std::alloc::Global;
@@ -22,7 +22,7 @@ use stream_base::{Defs, Files, Gate};
 pub fn gather_sources<F: Files, G: Gate, R: Threads + Wait + Sync>(
     alloc: Global,
     rt: &R,
-    run: &TurnRun,
+    run: &RunWords,
     files: &mut F,
     defs: Defs,
     gate: &G,
@@ -32,10 +32,10 @@ pub fn gather_sources<F: Files, G: Gate, R: Threads + Wait + Sync>(
     requires some_shards { 1 ≤ run.now.shards }
     requires few_shards { run.now.shards ≤ 16 }
     ensures ok { IfOk result (λ shards. AreShardsOf (F.told files.old)
-        (run_by_turns run.now.form run.now.defs.now run.now.shards
+        (run_of run.now.form run.now.defs.now run.now.shards run.now.way
         (map string_bytes run.now.sources.now)) defs shards.items) }
     ensures stopped { IfErr result (StopsAtSources (F.told files.old)
-        (run_by_turns run.now.form run.now.defs.now run.now.shards
+        (run_of run.now.form run.now.defs.now run.now.shards run.now.way
         (map string_bytes run.now.sources.now)) defs
         (counts_of F.failed_opens F.failed_reads files.old files.new)) }
     ensures opens { F.failed_opens files.old ≤ F.failed_opens files.new }
@@ -51,7 +51,7 @@ pub fn gather_sources<F: Files, G: Gate, R: Threads + Wait + Sync>(
         sources: run.sources.len() as u16,
         shards: run.shards,
     };
-    match TurnFeeds.gather(rt, alloc, &plan, feeds, gate) {
+    match run.way.gather(rt, alloc, &plan, feeds, gate) {
         Ok(Gathered { shards, ends }) => {
             let trouble = trouble_of(&ends);
             close_ends(files, ends);

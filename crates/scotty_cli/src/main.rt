@@ -6,6 +6,7 @@
 
 mod definitions;
 mod gathering;
+mod making;
 mod opening;
 mod real_files;
 mod real_sink;
@@ -15,6 +16,7 @@ mod settling;
 mod status;
 #[cfg(test)]
 mod tests;
+mod way;
 mod words;
 
 use real_files::RealFiles;

@@ -3,27 +3,30 @@ ghost use Rattle.std.specs.Prelude.{◌≡◌, ◌≢◌, ◌≤◌, ◌↔◌, 
 ghost use Rattle.emission_text.specs.Report.{form_of, report_text};
 ghost use Rattle.emission_text.specs.Sending.{Appends, Fails};
 ghost use Rattle.shard_core.specs.Shard.{IsJournal};
-ghost use Rattle.scotty_cli.specs.Answer.{IsAnswer, Says};
+ghost use Rattle.source_feed.specs.declared.made_feed.TheConstants.{MADE_ROWS_MAX};
+ghost use Rattle.scotty_cli.specs.Answer.{IsAnswer, IsMadeAnswer, Says};
 ghost use Rattle.scotty_cli.specs.Causes.{AreShardsOfFiles, StopsAtFiles};
 ghost use Rattle.scotty_cli.specs.Outside.{counts_of};
 ghost use Rattle.scotty_cli.specs.Statuses.{status_of};
-ghost use Rattle.scotty_cli.specs.Words.{IsCommand, IsTurnRun, IsUnbuilt, Run, run_by_turns};
+ghost use Rattle.scotty_cli.specs.Words.{IsCommand, IsMadeOf, IsRun, IsRunOf, Made, Run, made_of, run_of};
 
 use crate::definitions::read_definitions;
 use crate::gathering::gather_sources;
+use crate::making::{make_rows, print_summary};
 use crate::status::{Status, status_of};
-use crate::words::{TurnRun, is_command, turn_run};
+use crate::words::{MadeWords, RunWords, made_of, run_of};
 use emission_text::{Fault, ReportForm, write_fault, write_form};
 use shard_core::Shard;
 use std::alloc::Global;
 use std::sync::Wait;
 use std::thread::Threads;
-use stream_base::{Files, Gate, Sink};
+use stream_base::{Files, Gate, NoMemory, Sink};
 
-/// Runs the command that the words say. A run by turns is answered with the report that its files
-/// call for, or with the first fault in the order of causes; in place of it an open, a read or a
-/// write may have failed, by its count, or memory ran out. It is so in every schedule of the feeds.
-/// Other words are answered with a fault of their own.
+/// Runs the command that the words say. A run is answered with the report that its files call for,
+/// or with the first fault in the order of causes; in place of it an open, a read or a write may have
+/// failed, by its count, or memory ran out. A made run is answered with the summary of its final
+/// rows; in place of it a write may have failed, or memory ran out. It is so in every schedule of the
+/// feeds. Other words are answered with a fault of their own.
 pub fn scotty<F: Files, K: Sink, G: Gate, R: Threads + Wait + Sync>(
     alloc: Global,
     rt: &R,
@@ -32,45 +35,46 @@ pub fn scotty<F: Files, K: Sink, G: Gate, R: Threads + Wait + Sync>(
     sink: &mut K,
     gate: &G,
 ) -> Status
-    ensures answer { (run : Run) → IsTurnRun (map string_bytes words.now) run
+    ensures answer { (run : Run) → IsRunOf (map string_bytes words.now) run
         → IsAnswer K.written K.faults run (F.told files.old)
         (counts_of F.failed_opens F.failed_reads files.old files.new) sink.old sink.new result }
+    ensures made { (m : Made) → IsMadeOf (map string_bytes words.now) m
+        → IsMadeAnswer K.written K.faults m sink.old sink.new result }
     ensures usage { (result ≡ Status.Usage) ↔ ¬ (IsCommand (map string_bytes words.now)) }
-    ensures unbuilt { (result ≡ Status.Unbuilt) ↔ IsUnbuilt (map string_bytes words.now) }
     ensures usage_said { result ≡ Status.Usage
         → Says K.written K.faults Fault.Usage sink.old sink.new }
-    ensures unbuilt_said { result ≡ Status.Unbuilt
-        → Says K.written K.faults Fault.Unbuilt sink.old sink.new }
+    ensures unopened { ¬ (IsRun (map string_bytes words.now)) → files.new ≡ files.old }
     ensures out { F.out files.new ≡ F.out files.old }
 {
-    match turn_run(words) {
-        Some(turns) => run(alloc, rt, &turns, files, sink, gate),
-        None if is_command(words) => print_fault(&Fault::Unbuilt, sink),
-        None => print_fault(&Fault::Usage, sink),
+    match run_of(words) {
+        Some(command) => run(alloc, rt, &command, files, sink, gate),
+        None => match made_of(words) {
+            Some(command) => make(alloc, rt, command, sink, gate),
+            None => print_fault(&Fault::Usage, sink),
+        },
     }
 }
 
-// A run by turns.
 fn run<F: Files, K: Sink, G: Gate, R: Threads + Wait + Sync>(
     alloc: Global,
     rt: &R,
-    turns: &TurnRun,
+    command: &RunWords,
     files: &mut F,
     sink: &mut K,
     gate: &G,
 ) -> Status
-    requires some_sources { 1 ≤ length turns.now.sources.now }
-    requires few_sources { length turns.now.sources.now ≤ 16 }
-    requires some_shards { 1 ≤ turns.now.shards }
-    requires few_shards { turns.now.shards ≤ 16 }
+    requires some_sources { 1 ≤ length command.now.sources.now }
+    requires few_sources { length command.now.sources.now ≤ 16 }
+    requires some_shards { 1 ≤ command.now.shards }
+    requires few_shards { command.now.shards ≤ 16 }
     ensures answer { IsAnswer K.written K.faults
-        (run_by_turns turns.now.form turns.now.defs.now turns.now.shards
-        (map string_bytes turns.now.sources.now)) (F.told files.old)
+        (run_of command.now.form command.now.defs.now command.now.shards command.now.way
+        (map string_bytes command.now.sources.now)) (F.told files.old)
         (counts_of F.failed_opens F.failed_reads files.old files.new) sink.old sink.new result }
     ensures out { F.out files.new ≡ F.out files.old }
 {
-    match fill_shards(alloc, rt, turns, files, gate) {
-        Ok(shards) => print_report(turns.form, &shards, sink),
+    match fill_shards(alloc, rt, command, files, gate) {
+        Ok(shards) => print_report(command.form, &shards, sink),
         Err(fault) => print_fault(&fault, sink),
     }
 }
@@ -100,6 +104,30 @@ fn vouch(shards: &[Shard])
     }
 }
 
+// A made run.
+fn make<K: Sink, G: Gate, R: Threads + Wait + Sync>(
+    alloc: Global,
+    rt: &R,
+    command: MadeWords,
+    sink: &mut K,
+    gate: &G,
+) -> Status
+    requires some_rows { 1 ≤ command.rows }
+    requires few_rows { command.rows ≤ MADE_ROWS_MAX }
+    requires some_sources { 1 ≤ command.sources }
+    requires few_sources { command.sources ≤ 16 }
+    requires some_shards { 1 ≤ command.shards }
+    requires few_shards { command.shards ≤ 16 }
+    ensures answer { IsMadeAnswer K.written K.faults
+        (made_of command.seed command.rows command.sources command.shards command.way)
+        sink.old sink.new result }
+{
+    match make_rows(alloc, rt, command, gate) {
+        Ok(rows) => print_summary(command.rows, &rows, sink),
+        Err(NoMemory) => print_fault(&Fault::NoMemory, sink),
+    }
+}
+
 fn print_fault<K: Sink>(fault: &Fault, sink: &mut K) -> Status
     ensures status { result ≡ status_of fault.now }
     ensures said { Says K.written K.faults fault.now sink.old sink.new }
@@ -112,25 +140,25 @@ fn print_fault<K: Sink>(fault: &Fault, sink: &mut K) -> Status
 fn fill_shards<F: Files, G: Gate, R: Threads + Wait + Sync>(
     alloc: Global,
     rt: &R,
-    turns: &TurnRun,
+    command: &RunWords,
     files: &mut F,
     gate: &G,
 ) -> Result<Vec<Shard>, Fault>
-    requires some_sources { 1 ≤ length turns.now.sources.now }
-    requires few_sources { length turns.now.sources.now ≤ 16 }
-    requires some_shards { 1 ≤ turns.now.shards }
-    requires few_shards { turns.now.shards ≤ 16 }
+    requires some_sources { 1 ≤ length command.now.sources.now }
+    requires few_sources { length command.now.sources.now ≤ 16 }
+    requires some_shards { 1 ≤ command.now.shards }
+    requires few_shards { command.now.shards ≤ 16 }
     ensures ok { IfOk result (λ shards. AreShardsOfFiles (F.told files.old)
-        (run_by_turns turns.now.form turns.now.defs.now turns.now.shards
-        (map string_bytes turns.now.sources.now)) shards.items) }
+        (run_of command.now.form command.now.defs.now command.now.shards command.now.way
+        (map string_bytes command.now.sources.now)) shards.items) }
     ensures stopped { IfErr result (StopsAtFiles (F.told files.old)
-        (run_by_turns turns.now.form turns.now.defs.now turns.now.shards
-        (map string_bytes turns.now.sources.now))
+        (run_of command.now.form command.now.defs.now command.now.shards command.now.way
+        (map string_bytes command.now.sources.now))
         (counts_of F.failed_opens F.failed_reads files.old files.new)) }
     ensures out { F.out files.new ≡ F.out files.old }
 {
-    match read_definitions(alloc, files, turns.defs) {
+    match read_definitions(alloc, files, command.defs) {
         Err(fault) => Err(fault),
-        Ok(defs) => gather_sources(alloc, rt, turns, files, defs, gate),
+        Ok(defs) => gather_sources(alloc, rt, command, files, defs, gate),
     }
 }

@@ -24,12 +24,10 @@ pub enum Status {
     NoMemory,
     /// A write of the report failed.
     WriteFault,
-    /// The command, the definitions or the records are right, and aren't served yet.
-    Unbuilt,
 }
 
 impl Status {
-    /// The exit code: 0 to 8 in the order of the variants, and 20 for what isn't built yet.
+    /// The exit code: 0 to 8, in the order of the variants.
     pub fn code(&self) -> u8
         ensures { result ≡ code_of self.now }
     {
@@ -43,7 +41,6 @@ impl Status {
             Status::Full => 6,
             Status::NoMemory => 7,
             Status::WriteFault => 8,
-            Status::Unbuilt => 20,
         }
     }
 }
@@ -54,7 +51,6 @@ pub fn status_of(fault: &Fault) -> Status
 {
     match fault {
         Fault::Usage => Status::Usage,
-        Fault::Unbuilt => Status::Unbuilt,
         Fault::Defs(window_defs::DefsFault::NoMemory) => Status::NoMemory,
         Fault::Defs(_) => Status::BadDefs,
         Fault::Unopened { .. } => Status::OpenFault,

@@ -5,6 +5,8 @@ mod gates;
 mod idle;
 mod late;
 mod long;
+mod made;
+mod mail;
 mod outside;
 mod shards;
 mod sources;

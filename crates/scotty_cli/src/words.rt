@@ -1,44 +1,50 @@
-//! The words of the command line, those after the program's name: which of them are commands, and
-//! which are runs whose feeds take turns.
+//! The words of the command line, those after the program's name: which command they are.
 ghost use Rattle.std.specs.Prelude.{◌≡◌, ◌≤◌, ◌↔◌, ℕ, List, map, decimal, string_bytes, All, IsTrue, IfSome, IfNone};
-ghost use Rattle.scotty_cli.specs.Words.{IsCommand, IsMade, IsName, IsNumberWithin, IsRun, IsRunOf, IsRunWord, IsTurnRun, IsUnbuilt, IsWay, AreSources, Run, run_by_turns, run_word};
+ghost use Rattle.scotty_cli.specs.Words.{AreSources, IsMade, IsMadeOf, IsName, IsNumberWithin, IsRun, IsRunOf, IsRunWord, IsWay, Made, Run, made_of, run_of, run_word, way_word};
 
+use crate::way::Way;
 use emission_text::ReportForm;
 use itoa::Buffer;
 
-/// A run whose feeds take turns: the form of its report, the name of its definitions, how many
-/// shards there are, and the names of its sources.
+/// A run: the form of its report, the name of its definitions, how many shards there are, how feeds
+/// hand on, and the names of its sources.
 #[derive(Clone, Copy)]
-pub struct TurnRun<'a> {
+pub struct RunWords<'a> {
     pub form: ReportForm,
     pub defs: &'a str,
     pub shards: u16,
+    pub way: Way,
     pub sources: &'a [String],
 }
 
-/// Whether the words are those of a command: `run`, `run2`, or `made`.
-pub fn is_command(words: &[String]) -> bool
-    ensures { IsTrue result ↔ IsCommand (map string_bytes words.now) }
-{
-    is_run(words) || is_made(words)
+/// A made run: its seed, how many tuples, sources and shards there are, and how feeds hand on.
+#[derive(Clone, Copy, Debug, PartialEq, Eq)]
+pub struct MadeWords {
+    pub seed: u64,
+    pub rows: u64,
+    pub sources: u16,
+    pub shards: u16,
+    pub way: Way,
 }
 
-/// The run by turns of these words, if they are those of one.
-pub fn turn_run(words: &[String]) -> Option<TurnRun<'_>>
-    ensures found { IfSome result (λ r. IsTurnRun (map string_bytes words.now)
-        (run_by_turns r.form r.defs.now r.shards (map string_bytes r.sources.now))) }
-    ensures none { IfNone result ((run : Run) → ¬ (IsTurnRun (map string_bytes words.now) run)) }
+/// The run of these words, if they are those of one: `run DEFS SHARDS FEED SOURCE..`, or the same
+/// with `run2`, with 1 to 16 shards and sources.
+pub fn run_of(words: &[String]) -> Option<RunWords<'_>>
+    ensures found { IfSome result (λ r. IsRunOf (map string_bytes words.now)
+        (run_of r.form r.defs.now r.shards r.way (map string_bytes r.sources.now))) }
+    ensures none { IfNone result (¬ (IsRun (map string_bytes words.now))) }
 {
     match words {
         [run, defs, shards, way, sources @ ..] => {
             let form = run_form(run.as_str())?;
             let shards = number_within(shards.as_str(), 1, 16)?;
-            let named = is_name(defs.as_str()) && are_sources(sources);
-            if says(way.as_str(), "turns") && named {
-                Some(TurnRun {
+            let way = way_of(way.as_str())?;
+            if is_name(defs.as_str()) && are_sources(sources) {
+                Some(RunWords {
                     form,
                     defs: defs.as_str(),
                     shards: shards as u16,
+                    way,
                     sources,
                 })
             } else {
@@ -49,16 +55,43 @@ pub fn turn_run(words: &[String]) -> Option<TurnRun<'_>>
     }
 }
 
-/// Words are those of one run at most. A command is a run by turns, or it isn't built, and never
-/// both.
+/// The made run of these words, if they are those of one: `made SEED ROWS SOURCES SHARDS FEED`, with
+/// 1 to 1,000,000 tuples and 1 to 16 sources and shards.
+pub fn made_of(words: &[String]) -> Option<MadeWords>
+    ensures found { IfSome result (λ m. IsMadeOf (map string_bytes words.now)
+        (made_of m.seed m.rows m.sources m.shards m.way)) }
+    ensures none { IfNone result (¬ (IsMade (map string_bytes words.now))) }
+{
+    match words {
+        [made, seed, rows, sources, shards, way] => {
+            let seed = number_within(seed.as_str(), 0, u64::MAX)?;
+            let rows = number_within(rows.as_str(), 1, 1_000_000)?;
+            let sources = number_within(sources.as_str(), 1, 16)?;
+            let shards = number_within(shards.as_str(), 1, 16)?;
+            let way = way_of(way.as_str())?;
+            if says(made.as_str(), "made") {
+                Some(MadeWords {
+                    seed,
+                    rows,
+                    sources: sources as u16,
+                    shards: shards as u16,
+                    way,
+                })
+            } else {
+                None
+            }
+        }
+        _ => None,
+    }
+}
+
+/// Words are those of one command at most.
 pub fn commands_are_told_apart_by_their_words()
     ensures one_run { (words : List (List ℕ)) (run other : Run) → IsRunOf words run
         → IsRunOf words other → run ≡ other }
-    ensures command { (words : List (List ℕ)) (run : Run) → IsTurnRun words run → IsCommand words }
-    ensures other { (words : List (List ℕ)) (run : Run) → IsTurnRun words run
-        → ¬ (IsUnbuilt words) }
-    ensures either { (words : List (List ℕ)) → IsCommand words
-        → ((run : Run) → ¬ (IsTurnRun words run)) → IsUnbuilt words }
+    ensures one_made { (words : List (List ℕ)) (m other : Made) → IsMadeOf words m
+        → IsMadeOf words other → m ≡ other }
+    ensures apart { (words : List (List ℕ)) → IsRun words → ¬ (IsMade words) }
 {}
 
 // The form that the first word of a run tells.
@@ -73,45 +106,6 @@ fn run_form(word: &str) -> Option<ReportForm>
         return Some(ReportForm::Two);
     }
     None
-}
-
-fn is_run_word(word: &str) -> bool
-    ensures { IsTrue result ↔ IsRunWord word.now }
-{
-    run_form(word).is_some()
-}
-
-// `run DEFS SHARDS FEED SOURCE..`, or the same with `run2`, with 1 to 16 sources.
-fn is_run(words: &[String]) -> bool
-    ensures { IsTrue result ↔ IsRun (map string_bytes words.now) }
-{
-    match words {
-        [run, defs, shards, way, sources @ ..] => {
-            is_run_word(run.as_str())
-                && is_name(defs.as_str())
-                && is_number_within(shards.as_str(), 1, 16)
-                && is_way(way.as_str())
-                && are_sources(sources)
-        }
-        _ => false,
-    }
-}
-
-// `made SEED ROWS SOURCES SHARDS FEED`.
-fn is_made(words: &[String]) -> bool
-    ensures { IsTrue result ↔ IsMade (map string_bytes words.now) }
-{
-    match words {
-        [made, seed, rows, sources, shards, way] => {
-            says(made.as_str(), "made")
-                && is_number_within(seed.as_str(), 0, u64::MAX)
-                && is_number_within(rows.as_str(), 1, 1_000_000)
-                && is_number_within(sources.as_str(), 1, 16)
-                && is_number_within(shards.as_str(), 1, 16)
-                && is_way(way.as_str())
-        }
-        _ => false,
-    }
 }
 
 // 1 to 16 names.
@@ -141,17 +135,18 @@ fn is_name(word: &str) -> bool
     !word.is_empty()
 }
 
-// How feeds hand on their entries.
-fn is_way(word: &str) -> bool
-    ensures { IsTrue result ↔ IsWay word.now }
+// How feeds hand on, as the word tells.
+fn way_of(word: &str) -> Option<Way>
+    ensures some { IfSome result (λ way. word.now ≡ way_word way) }
+    ensures none { IfNone result (¬ (IsWay word.now)) }
 {
-    word == "turns" || word == "mail"
-}
-
-fn is_number_within(word: &str, least: u64, most: u64) -> bool
-    ensures { IsTrue result ↔ IsNumberWithin least most word.now }
-{
-    number_within(word, least, most).is_some()
+    if says(word, "turns") {
+        return Some(Way::Turns);
+    }
+    if says(word, "mail") {
+        return Some(Way::Mail);
+    }
+    None
 }
 
 // The number within these bounds that the word spells: decimal, with no sign and no leading zero.

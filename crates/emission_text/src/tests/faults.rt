@@ -16,7 +16,6 @@ fn row(why: RowWhy) -> Fault {
 fn each_fault_has_its_line(rt: HostRuntime) -> Result<(), Fail> {
     let lines = [
         (Fault::Usage, "fault usage\n"),
-        (Fault::Unbuilt, "fault unbuilt\n"),
         (Fault::Defs(DefsFault::Long), "fault defs long\n"),
         (Fault::Defs(DefsFault::Toml), "fault defs toml\n"),
         (Fault::Defs(DefsFault::Many), "fault defs many\n"),

@@ -62,25 +62,24 @@ fn no_words_at_all_are_refused(rt: HostRuntime) -> Result<(), Fail> {
     ends(&rt, rt.alloc(), &none, &[], Status::Usage, "fault usage\n")
 }
 
-// Words alone decide, before any file is opened.
 #[test]
-fn commands_that_are_not_built_are_told_apart(rt: HostRuntime) -> Result<(), Fail> {
+fn runs_by_mail_are_commands(rt: HostRuntime) -> Result<(), Fail> {
     let lists = [
         ["run", "d", "1", "mail", "s"].as_slice(),
         ["run", "d", "16", "mail", "s", "s"].as_slice(),
         ["run2", "d", "1", "mail", "s"].as_slice(),
-        ["made", "0", "1", "1", "1", "turns"].as_slice(),
-        [
-            "made",
-            "18446744073709551615",
-            "1000000",
-            "16",
-            "16",
-            "mail",
-        ]
-        .as_slice(),
     ];
-    end_all(&rt, &lists, Status::Unbuilt, "fault unbuilt\n")
+    for words in &lists {
+        ends(
+            &rt,
+            rt.alloc(),
+            words,
+            &[],
+            Status::OpenFault,
+            "fault open defs\n",
+        )?;
+    }
+    Ok(())
 }
 
 #[test]

@@ -4,7 +4,7 @@ use Rattle.std.proofs.lemmas.List.{length-map}
 use Rattle.fan_in.specs.declared.outcome.Outcome.TheVariants.{Done}
 use Rattle.scotty_cli.specs.Outside.{counts_of}
 use Rattle.scotty_cli.specs.Settling.{IsTrouble}
-use Rattle.scotty_cli.specs.Words.{run_by_turns}
+use Rattle.scotty_cli.specs.Words.{run_of}
 use Rattle.scotty_cli.proofs.Ends.{WereGathered, end_at, failed, gathering}
 use Rattle.scotty_cli.proofs.Gathers.{shards_of, stops_at}
 use Rattle.scotty_cli.proofs.Opened.{rose_since}
@@ -16,7 +16,7 @@ returns-in-Some-clause-stopped g c =
     let rest = g.F.Input.Source.rest in
     let faults = g.F.Input.Source.faults in
     let told = f.told c.args.files.now in
-    let run = run_by_turns c.args.run.now.form c.args.run.now.defs.now c.args.run.now.shards (map string_bytes c.args.run.now.sources.now) in
+    let run = run_of c.args.run.now.form c.args.run.now.defs.now c.args.run.now.shards c.args.run.now.way (map string_bytes c.args.run.now.sources.now) in
     let feeds = c.in-Ok.feeds.items in
     let ends = c.in-Ok-gather.field-0.ends.items in
     let shards = c.in-Ok-gather.field-0.shards.items in
@@ -52,7 +52,7 @@ returns-in-Ok-gather-clause-ok g c =
     let rest = g.F.Input.Source.rest in
     let faults = g.F.Input.Source.faults in
     let told = f.told c.args.files.now in
-    let run = run_by_turns c.args.run.now.form c.args.run.now.defs.now c.args.run.now.shards (map string_bytes c.args.run.now.sources.now) in
+    let run = run_of c.args.run.now.form c.args.run.now.defs.now c.args.run.now.shards c.args.run.now.way (map string_bytes c.args.run.now.sources.now) in
     let feeds = c.in-Ok.feeds.items in
     let ends = c.in-Ok-gather.field-0.ends.items in
     let shards = c.in-Ok-gather.field-0.shards.items in

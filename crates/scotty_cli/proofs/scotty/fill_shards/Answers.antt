@@ -1,19 +1,19 @@
 use Rattle.std.proofs.Common.{map, string_bytes, refl}
 use Rattle.scotty_cli.specs.Outside.{counts_of}
-use Rattle.scotty_cli.specs.Words.{run_by_turns}
+use Rattle.scotty_cli.specs.Words.{run_of}
 use Rattle.scotty_cli.proofs.Filled.{shards_of_files, stops_behind}
 use Rattle.scotty_cli.proofs.scotty.fill_shards.Goals as goal
 
 pub returns-in-Ok-clause-ok : goal.returns-in-Ok-clause-ok
 returns-in-Ok-clause-ok g c =
     let f = g.F.Files in
-    let run = run_by_turns c.args.turns.now.form c.args.turns.now.defs.now c.args.turns.now.shards (map string_bytes c.args.turns.now.sources.now) in
+    let run = run_of c.args.command.now.form c.args.command.now.defs.now c.args.command.now.shards c.args.command.now.way (map string_bytes c.args.command.now.sources.now) in
     shards_of_files (λ v. v.items) (f.told c.args.files.now) (f.told c.read_definitions.new.files) run c.in-Ok.defs c.read_definitions.ensures.same c.in-Ok.ensures.ok c.gather_sources.result c.gather_sources.ensures.ok
 
 pub returns-in-Ok-clause-stopped : goal.returns-in-Ok-clause-stopped
 returns-in-Ok-clause-stopped g c =
     let f = g.F.Files in
-    let run = run_by_turns c.args.turns.now.form c.args.turns.now.defs.now c.args.turns.now.shards (map string_bytes c.args.turns.now.sources.now) in
+    let run = run_of c.args.command.now.form c.args.command.now.defs.now c.args.command.now.shards c.args.command.now.way (map string_bytes c.args.command.now.sources.now) in
     let mid = c.read_definitions.new.files in
     let new = c.gather_sources.new.files in
     stops_behind (λ v. v.items) (f.told c.args.files.now) (f.told mid) run c.in-Ok.defs c.read_definitions.ensures.same c.in-Ok.ensures.ok

@@ -3,14 +3,14 @@ use Rattle.shard_core.specs.Shard.{Sharded}
 use Rattle.scotty_cli.specs.Answer.{IsAnswer}
 use Rattle.scotty_cli.specs.Causes.{AreShardsOfFiles}
 use Rattle.scotty_cli.specs.Outside.{counts_of}
-use Rattle.scotty_cli.specs.Words.{run_by_turns}
+use Rattle.scotty_cli.specs.Words.{run_of}
 use Rattle.scotty_cli.proofs.Answering.{reports, stops}
 use Rattle.scotty_cli.proofs.scotty.run.Goals as goal
 
 pub returns-in-Ok-clause-answer : goal.returns-in-Ok-clause-answer
 returns-in-Ok-clause-answer g c =
     let told = g.F.Files.told c.args.files.now in
-    let run = run_by_turns c.args.turns.now.form c.args.turns.now.defs.now c.args.turns.now.shards (map string_bytes c.args.turns.now.sources.now) in
+    let run = run_of c.args.command.now.form c.args.command.now.defs.now c.args.command.now.shards c.args.command.now.way (map string_bytes c.args.command.now.sources.now) in
     let counts = counts_of g.F.Files.failed_opens g.F.Files.failed_reads c.args.files.now c.fill_shards.new.files in
     let says = c.print_report.ensures in
     let files = subst (λ (shards : List Sharded). AreShardsOfFiles told run shards) (sym c.deref.ensures.value) c.in-Ok.ensures.ok in
@@ -19,7 +19,7 @@ returns-in-Ok-clause-answer g c =
 pub returns-in-Err-clause-answer : goal.returns-in-Err-clause-answer
 returns-in-Err-clause-answer g c =
     let told = g.F.Files.told c.args.files.now in
-    let run = run_by_turns c.args.turns.now.form c.args.turns.now.defs.now c.args.turns.now.shards (map string_bytes c.args.turns.now.sources.now) in
+    let run = run_of c.args.command.now.form c.args.command.now.defs.now c.args.command.now.shards c.args.command.now.way (map string_bytes c.args.command.now.sources.now) in
     let counts = counts_of g.F.Files.failed_opens g.F.Files.failed_reads c.args.files.now c.fill_shards.new.files in
     subst (IsAnswer g.K.Sink.written g.K.Sink.faults run told counts c.args.sink.now c.print_fault.new.sink) (sym c.print_fault.ensures.status)
     (stops g.K.Sink.written g.K.Sink.faults told run counts c.args.sink.now c.print_fault.new.sink c.in-Err.fault c.in-Err.ensures.stopped c.print_fault.ensures.said)
