@@ -111,7 +111,7 @@ module _ {g : Ghosts BookedState Entry FixedPart} (desk : Turnstile BookedState 
     closed same journal =
         let at : fixed first ≡ Some (fixed_of booked) = sym (ap fixed (is.first first)) ∙ same 0 first (let m = is.many in omega arith) in
         record {
-          gathered = subst (λ (o : Option FixedPart). IfSome o (λ f. IsGathered f.defs f.sources booked.shard)) (sym at) (record { defs = refl; sources_are = refl; known = (journal.known).known_sources });
+          gathered = subst (λ (o : Option FixedPart). IfSome o (λ f. IsGathered f.defs f.sources booked.shard)) (sym at) (record { defs = refl; sources_are = refl; journal = journal });
           short = journal.short;
         }
 

@@ -102,7 +102,7 @@ pub end_settled : (d : Definitions) (n k : ℕ) (taken : List (Letter Entry)) (b
 end_settled d n k taken back owner h right journal =
     let sources : (owner.shard).sources ≡ n = right.alike ∙ (h.after).sources_are in
     record {
-      gathered = record { defs = (h.after).defs_are; sources_are = sources; known = subst (λ (m : ℕ). All (λ e. e.source < m) (owner.shard).journal) sources (journal.known).known_sources };
+      gathered = record { defs = (h.after).defs_are; sources_are = sources; journal = subst (λ (m : ℕ). IsJournal m (owner.shard).journal) sources journal };
       short = journal.short;
     }
 

@@ -1,11 +1,11 @@
 -- What comes of gathering the feeds of several sources into the journals of several shards.
-use Rattle.std.specs.Prelude.{◌≡◌, ◌≢◌, ◌<◌, ◌⊎◌, ℕ, true, false, List, length, All, None, Some, IfSome, MatchOption, ⊤}
+use Rattle.std.specs.Prelude.{◌≡◌, ◌≢◌, ◌<◌, ◌⊎◌, ℕ, true, false, List, length, None, Some, IfSome, MatchOption, ⊤}
 use Rattle.stream_base.specs.Limits.{Definitions}
 use Rattle.stream_base.specs.Outside.{Rose}
 use Rattle.stream_base.specs.declared.entry.Entry.{Entry}
 use Rattle.stream_base.specs.declared.limits.TheConstants.{JOURNAL_MAX}
 use Rattle.stream_base.specs.Model.Routes.{entries_from, routed}
-use Rattle.shard_core.specs.Shard.{Sharded}
+use Rattle.shard_core.specs.Shard.{IsJournal, Sharded}
 use Rattle.source_feed.specs.FeedFault.{refusal_of}
 use Rattle.source_feed.specs.FeedState.{Closes, FeedState}
 use Rattle.source_feed.specs.Stream.{Stream}
@@ -61,8 +61,8 @@ pub record HoldsPart (shards k : ℕ) (source : ℕ) (stream : Stream) (outcome 
   pub full : outcome ≡ Full k → length journal ≡ JOURNAL_MAX
   pub lacks : outcome ≡ Full k → length (entries_from source journal) < length (routed shards k stream.entries)
 
--- a shard that was gathered: it has the definitions and the number of sources, and no entry of another source
+-- a shard that was gathered: it has the definitions and the number of sources, and a journal of that many sources
 pub record IsGathered (d : Definitions) (sources : ℕ) (shard : Sharded) : Type 0 where
   pub defs : shard.defs ≡ d
   pub sources_are : shard.sources ≡ sources
-  pub known : All (λ e. e.source < sources) shard.journal
+  pub journal : IsJournal sources shard.journal

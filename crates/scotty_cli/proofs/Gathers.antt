@@ -7,7 +7,7 @@ use Rattle.stream_base.specs.Outside.{Rose}
 use Rattle.stream_base.specs.declared.entry.Entry.{Entry}
 use Rattle.stream_base.specs.declared.limits.TheConstants.{JOURNAL_MAX}
 use Rattle.stream_base.specs.Model.Routes.{entries_from, routed}
-use Rattle.shard_core.specs.Shard.{Sharded}
+use Rattle.shard_core.specs.Shard.{IsJournal, Sharded}
 use Rattle.source_feed.specs.Stream.{Stream}
 use Rattle.source_feed.specs.declared.feed_fault.FeedFault.{FeedFault}
 use Rattle.source_feed.specs.declared.feed_fault.FeedFault.TheVariants.{Read as FeedRead, TooLong as FeedTooLong, Row as FeedRow, NoMemory as FeedMemory}
@@ -95,6 +95,7 @@ module _ (told : Telling) (run : Run) (d : Definitions) (outcomes : List Outcome
       held = held all entries;
     };
     few = let n = back in let m = g.few in omega (arith, n, m);
+    journals = λ k s l. let a = g.alike k s l in subst (λ n. IsJournal n (get_or shards k s).journal) (sym a.sources_are) a.journal;
   }
     where
       is_done : (i : ℕ) → i < length run.sources → get_or outcomes i Done ≡ Done
@@ -118,7 +119,7 @@ module _ (told : Telling) (run : Run) (d : Definitions) (outcomes : List Outcome
           let l2 = inside k l in
           let s = some_shard k shards l2 in
           let at = journal_at k s l2 in
-          let below = subst (λ (j : List Entry). All (λ x. x.source < length run.sources) j) (sym at) (g.alike k s l2).known in
+          let below = subst (λ (j : List Entry). All (λ x. x.source < length run.sources) j) (sym at) (((g.alike k s l2).journal).known).known_sources in
           let b : (get_or (get_or journals k []) i e).source < length run.sources = below i e m in
           let many = entries.many in
           omega (arith, b, many)
@@ -165,7 +166,7 @@ module _ (told : Telling) (run : Run) (d : Definitions) (outcomes : List Outcome
           let sizes = ap length prefix.1 in
           let size : length (entries_from j journal) ≤ length (routed run.shards k (part.0).entries) = omega (arith, sizes, length-append (entries_from j journal) prefix.0) in
           subst (λ (es : List Entry). length (entries_from j journal) ≤ length (routed run.shards k es)) part.1 size in
-          let known = subst (λ (x : ℕ). All (λ e. e.source < x) journal) (sym n) (g.alike k s there).known in
+          let known = subst (λ (x : ℕ). All (λ e. e.source < x) journal) (sym n) (((g.alike k s there).journal).known).known_sources in
           let beyond = sum_beyond (λ es. length (routed run.shards k es)) journal all i known each (omega (arith, l, n)) lacks in
           omega (arith, full, beyond)
 

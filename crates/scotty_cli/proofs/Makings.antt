@@ -104,7 +104,7 @@ module _ (seed rows sources : ℕ) where
     known j i e l m =
         let l2 = inside j l in
         let s = some_of shards j l2 in
-        let below = subst (λ (es : List Entry). All (λ x. x.source < sources) es) (sym (journal_at j s l2)) (alike j s l2).known in
+        let below = subst (λ (es : List Entry). All (λ x. x.source < sources) es) (sym (journal_at j s l2)) (((alike j s l2).journal).known).known_sources in
         let b : (get_or (get_or journals j []) i e).source < sources = below i e m in
         omega (arith, b, made_count)
 

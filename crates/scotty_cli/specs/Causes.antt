@@ -1,5 +1,5 @@
 -- Why the files of a run stop it, by what they tell, and by the counts of failed opens and reads.
-use Rattle.std.specs.Prelude.{◌≡◌, ◌≤◌, ◌<◌, ◌⊎◌, ℕ, List, [], length, map, Option, Some, None, Result, Ok, Err, Vec, slice_index_or, ⊤}
+use Rattle.std.specs.Prelude.{◌≡◌, ◌≤◌, ◌<◌, ◌⊎◌, ℕ, List, [], length, map, All, Option, Some, None, Result, Ok, Err, Vec, slice_index_or, ⊤}
 use Rattle.std.specs.declared.alloc.Global.{Global}
 use Rattle.source_feed.specs.declared.whole_fault.WholeFault.{WholeFault}
 use Rattle.source_feed.specs.declared.whole_fault.WholeFault.TheVariants.{Read as WholeRead, TooLong as WholeTooLong, NoMemory as WholeMemory}
@@ -8,7 +8,7 @@ use Rattle.stream_base.specs.Outside.{Rose}
 use Rattle.stream_base.specs.Model.Routes.{IsLawful}
 use Rattle.stream_base.specs.declared.entry.Entry.{Entry}
 use Rattle.stream_base.specs.declared.limits.TheConstants.{JOURNAL_MAX}
-use Rattle.shard_core.specs.Shard.{Sharded}
+use Rattle.shard_core.specs.Shard.{IsJournal, Sharded}
 use Rattle.source_feed.specs.FileFeedState.{source_stream}
 use Rattle.source_feed.specs.Stream.{Refusal, Stream, bad_record, too_long}
 use Rattle.window_defs.specs.Reading.{reading_of}
@@ -90,12 +90,13 @@ StopsAtSources told run d counts (FullSource source) = IsFirstRefused told d run
 StopsAtSources told run d counts (FullShard k) = IsOverfull told d run k
 StopsAtSources told run d counts NoMemory = ⊤
 
--- the shards of a run: they have its definitions and sources, no source is refused, and their journals are lawful for the sources' entries, where the bytes are told
+-- the shards of a run: they have its definitions and sources, and journals of that many sources, no source is refused, and the journals are lawful for the sources' entries, where the bytes are told
 pub record AreShardsOf (told : Telling) (run : Run) (d : Definitions) (shards : List Sharded) : Type 0 where
   pub alike : AreAlike d (length run.sources) shards
   pub unrefused : NoneRefusedBelow told d run.sources (length run.sources)
   pub lawful : (all : List (List Entry)) → AreEntriesOf told d run.sources all → IsLawful run.shards all (map (λ s. s.journal) shards)
   pub few : length shards ≤ 16
+  pub journals : All (λ s. IsJournal s.sources s.journal) shards
 
 -- the shards of the files that a run names
 pub record AreShardsOfFiles (told : Telling) (run : Run) (shards : List Sharded) : Type 0 where

@@ -1,8 +1,7 @@
 //! The top call.
-ghost use Rattle.std.specs.Prelude.{◌≡◌, ◌≢◌, ◌≤◌, ◌↔◌, ◌⊎◌, ◌∷◌, ℕ, List, [], All, length, map, string_bytes, IfOk, IfErr};
+ghost use Rattle.std.specs.Prelude.{◌≡◌, ◌≢◌, ◌≤◌, ◌↔◌, ◌⊎◌, ℕ, length, map, string_bytes, IfOk, IfErr};
 ghost use Rattle.emission_text.specs.Report.{form_of, report_text};
 ghost use Rattle.emission_text.specs.Sending.{Appends, Fails};
-ghost use Rattle.shard_core.specs.Shard.{IsJournal};
 ghost use Rattle.source_feed.specs.declared.made_feed.TheConstants.{MADE_ROWS_MAX};
 ghost use Rattle.scotty_cli.specs.Answer.{IsAnswer, IsMadeAnswer, Says};
 ghost use Rattle.scotty_cli.specs.Causes.{AreShardsOfFiles, StopsAtFiles};
@@ -81,26 +80,15 @@ fn run<F: Files, K: Sink, G: Gate, R: Threads + Wait + Sync>(
 
 // The report of the shards.
 fn print_report<K: Sink>(form: ReportForm, shards: &[Shard], sink: &mut K) -> Status
-    ensures journals { All (λ s. IsJournal s.sources s.journal) shards.now }
     ensures either { (result ≡ Status.Done) ⊎ (result ≡ Status.WriteFault) }
     ensures done { result ≡ Status.Done → Appends K.written K.faults
         (report_text (form_of form) shards.now) sink.old sink.new }
     ensures failed { result ≡ Status.WriteFault → Fails K.written K.faults
         (report_text (form_of form) shards.now) sink.old sink.new }
 {
-    vouch(shards);
     match write_form(form, shards, sink) {
         Ok(()) => Status::Done,
         Err(_) => Status::WriteFault,
-    }
-}
-
-// Each shard vouches for its journal: the entries are within their limits, and not too many.
-fn vouch(shards: &[Shard])
-    ensures { All (λ s. IsJournal s.sources s.journal) shards.now }
-{
-    for i in 0..shards.len() {
-        let _entries = shards[i].journal_len();
     }
 }
 

@@ -1,6 +1,8 @@
-//! Tests of the lock and of the lanes through their public calls, with threads.
+//! Tests of the lock, of the lanes, of desks and of gathering through their public calls, with threads.
 #![tactic(auto)]
 
+#[cfg(test)]
+mod desks;
 #[cfg(test)]
 mod lanes;
 #[cfg(test)]

@@ -106,6 +106,7 @@ impl Gate for ShardsMeet {
 fn ends_well<G: Gate, R: Abort + AllocGlobal + Threads + Wait + Sync>(
     rt: &R,
     shards: &str,
+    way: &str,
     sources: [&str; 2],
     gate: &G,
 ) -> Result<(), Fail> {
@@ -115,7 +116,7 @@ fn ends_well<G: Gate, R: Abort + AllocGlobal + Threads + Wait + Sync>(
         file(alloc, "s0", sources[0].as_bytes(), Vec::new(alloc))?,
         file(alloc, "s1", sources[1].as_bytes(), Vec::new(alloc))?,
     ];
-    let words = words_of(alloc, &["run", "d", shards, "turns", "s0", "s1"])?;
+    let words = words_of(alloc, &["run", "d", shards, way, "s0", "s1"])?;
     let mut sink = sink_of(alloc, 60_000)?;
     let mut files = MemFiles::new(&files, 8);
     let ended = scotty(alloc, rt, &words, &mut files, &mut sink, gate);
@@ -124,25 +125,49 @@ fn ends_well<G: Gate, R: Abort + AllocGlobal + Threads + Wait + Sync>(
 }
 
 // Were the sources read one after the other, the hold would be left by its limit.
-#[test]
-fn sources_are_read_side_by_side(rt: HostRuntime) -> Result<(), Fail> {
+fn reads_side_by_side<R: Abort + AllocGlobal + Threads + Wait + Sync>(
+    rt: &R,
+    way: &str,
+) -> Result<(), Fail> {
     let gate = FirstWaits {
         passes: Passes::new(),
     };
     let rows = "t,1,5,a\nw,10\n";
-    ends_well(&rt, "1", [rows, rows], &gate)?;
+    ends_well(rt, "1", way, [rows, rows], &gate)?;
     assert_eq!(rt; gate.passes.left.load(Ordering::SeqCst), 0);
     Ok(())
 }
 
+#[test]
+fn sources_are_read_side_by_side(rt: HostRuntime) -> Result<(), Fail> {
+    reads_side_by_side(&rt, "turns")
+}
+
+#[test]
+fn sources_are_read_side_by_side_by_mail(rt: HostRuntime) -> Result<(), Fail> {
+    reads_side_by_side(&rt, "mail")
+}
+
 // Were there one lock round both shards, or were all entries read before one is applied, a hold
 // would be left by its limit.
-#[test]
-fn entries_are_applied_to_two_shards_while_sources_are_read(rt: HostRuntime) -> Result<(), Fail> {
+fn applies_while_reading<R: Abort + AllocGlobal + Threads + Wait + Sync>(
+    rt: &R,
+    way: &str,
+) -> Result<(), Fail> {
     let gate = ShardsMeet {
         passes: Passes::new(),
     };
-    ends_well(&rt, "2", ["t,1,5,b\n", "t,1,5,a\n"], &gate)?;
+    ends_well(rt, "2", way, ["t,1,5,b\n", "t,1,5,a\n"], &gate)?;
     assert_eq!(rt; gate.passes.left.load(Ordering::SeqCst), 0);
     Ok(())
+}
+
+#[test]
+fn entries_are_applied_to_two_shards_while_sources_are_read(rt: HostRuntime) -> Result<(), Fail> {
+    applies_while_reading(&rt, "turns")
+}
+
+#[test]
+fn mail_is_applied_to_two_shards_while_sources_are_read(rt: HostRuntime) -> Result<(), Fail> {
+    applies_while_reading(&rt, "mail")
 }

@@ -3,6 +3,19 @@ use crate::status::Status;
 use std::test::Fail;
 
 // These rows were computed by a program of its own, which knows of no shard and no watermark.
+const OF_ONE: &str = "made 1
+window 0 1 1
++ 0 0 64 1 742 k25
+window 1 1 1
++ 1 0 128 1 742 k25
+window 2 1 1
++ 2 15 55 1 1 k25
+window 3 1 1
++ 3 0 end 1 742 k25
+window 4 0 0
+end
+";
+
 const OF_2000: &str = "made 2000
 window 0 1973 2000
 + 0 31744 31808 1 262 k99
@@ -30,6 +43,12 @@ window 4 1958 19580
 + 4 180 190 10 309 k99
 end
 ";
+
+#[test]
+fn a_made_run_of_one_tuple_shows_it_in_its_windows(rt: HostRuntime) -> Result<(), Fail> {
+    let words = ["made", "0", "1", "1", "1", "turns"];
+    ends(&rt, rt.alloc(), &words, &[], Status::Done, OF_ONE)
+}
 
 #[test]
 fn a_made_run_has_one_summary_by_turns(rt: HostRuntime) -> Result<(), Fail> {

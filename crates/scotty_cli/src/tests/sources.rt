@@ -9,6 +9,8 @@ use stream_base::{MemFile, MemSink};
 
 const RUN_TWO: [&str; 6] = ["run", "d", "2", "turns", "s0", "s1"];
 
+const MAIL_TWO: [&str; 6] = ["run", "d", "2", "mail", "s0", "s1"];
+
 // Definitions, and two sources with the numbers of their reads that fail.
 fn two_sources(
     alloc: Global,
@@ -138,6 +140,7 @@ fn the_first_source_in_trouble_is_answered(rt: HostRuntime) -> Result<(), Fail> 
         (&late, Status::BadRow, "fault row 0 2 kind\n"),
     ] {
         ends(&rt, alloc, &RUN_TWO, files, status, line)?;
+        ends(&rt, alloc, &MAIL_TWO, files, status, line)?;
     }
     Ok(())
 }

@@ -14,7 +14,7 @@ returns-in-Ok-clause-answer g c =
     let counts = counts_of g.F.Files.failed_opens g.F.Files.failed_reads c.args.files.now c.fill_shards.new.files in
     let says = c.print_report.ensures in
     let files = subst (λ (shards : List Sharded). AreShardsOfFiles told run shards) (sym c.deref.ensures.value) c.in-Ok.ensures.ok in
-    reports g.K.Sink.written g.K.Sink.faults told run counts c.args.sink.now c.print_report.new.sink c.deref.result.now files says.journals c.print_report.result says.either says.done says.failed
+    reports g.K.Sink.written g.K.Sink.faults told run counts c.args.sink.now c.print_report.new.sink c.deref.result.now files (files.filled).journals c.print_report.result says.either says.done says.failed
 
 pub returns-in-Err-clause-answer : goal.returns-in-Err-clause-answer
 returns-in-Err-clause-answer g c =
