@@ -1,0 +1,4 @@
+mod Fronts
+mod Judging
+mod Parting
+mod Reading

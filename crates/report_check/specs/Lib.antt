@@ -1,0 +1,4 @@
+pub mod Apart
+pub mod Findings
+pub mod Examples
+pub mod Told

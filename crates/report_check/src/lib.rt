@@ -1,0 +1,27 @@
+//! Whether a report is lawful, judged by the definitions alone.
+//!
+//! *From* the bytes of a report and the entries of its sources *to* a finding. *Stands on* the base
+//! crate and on the way from a key to its shard: no slice, queue or tree has a part in it.
+//! *Promise*: the parts of a finding are those of its definition: the journals that a text holds,
+//! the lines of entries and changes, the line in which two texts differ, the first shard whose
+//! journal is wrong, and what a journal says of a source's watermark. The finding as a whole is
+//! defined, and isn't made yet.
+#![tactic(auto)]
+
+mod apart;
+mod change_line;
+mod entry_line;
+pub mod examples;
+mod finding;
+mod guess;
+mod journal;
+mod numbers;
+mod pieces;
+mod read;
+mod routes;
+mod same;
+mod told;
+mod waters;
+mod words;
+
+pub use finding::Finding;
