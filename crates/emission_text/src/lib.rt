@@ -10,6 +10,7 @@ mod change_line;
 mod entry_line;
 mod fault;
 mod fault_line;
+mod finding_line;
 mod pending;
 mod pieces;
 mod report;
@@ -23,6 +24,7 @@ mod writing;
 
 pub use fault::Fault;
 pub use fault_line::write_fault;
+pub use finding_line::write_finding;
 pub use report::{
     report_of_alike_shards_is_of_their_journals, write_form, write_report, write_report2,
 };

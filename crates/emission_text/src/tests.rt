@@ -1,4 +1,5 @@
 mod faults;
+mod findings;
 mod lines;
 mod reports;
 mod summaries;
