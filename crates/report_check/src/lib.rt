@@ -15,6 +15,7 @@ pub mod examples;
 mod finding;
 mod guess;
 mod journal;
+mod judge;
 mod numbers;
 mod pieces;
 mod read;
