@@ -19,11 +19,7 @@ pub fn write_finding<K: Sink>(finding: &Finding, sink: &mut K) -> Result<(), Sin
     out.flush(sink)
 }
 
-fn put_finding<K: Sink>(
-    finding: &Finding,
-    out: &mut Pending,
-    sink: &mut K,
-) -> Result<(), SinkFault>
+fn put_finding<K: Sink>(finding: &Finding, out: &mut Pending, sink: &mut K) -> Result<(), SinkFault>
     ensures { Puts K.written K.faults (finding_line finding.now)
         out.old out.new sink.old sink.new result }
 {
