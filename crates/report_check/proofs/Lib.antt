@@ -1,4 +1,5 @@
 mod Fronts
 mod Judging
 mod Parting
+mod Ranges
 mod Reading

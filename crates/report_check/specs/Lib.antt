@@ -2,3 +2,4 @@ pub mod Apart
 pub mod Findings
 pub mod Examples
 pub mod Told
+pub mod Waters

@@ -1,7 +1,9 @@
 //! Watermarks, each anew from a journal.
-ghost use Rattle.std.specs.Prelude.{◌≡◌, ◌==◌, ◌&&◌};
-ghost use Rattle.stream_base.specs.Model.Watermark.{has_ended, is_awake, is_idle, last_progress, latest_water, source_water};
+ghost use Rattle.std.specs.Prelude.{◌++◌, ◌∷◌, [], ℕ, List, max, ◌≡◌, ◌==◌, ◌&&◌};
+ghost use Rattle.stream_base.specs.Model.Watermark.{all_ended, awake_waters, has_ended, is_awake, is_idle, last_progress, latest_water, least_or_zero, least_water, source_water, water_of};
 ghost use Rattle.stream_base.specs.Model.What.{is_end, is_idle_word, is_progress, water_time};
+ghost use Rattle.report_check.specs.Waters.{lesser};
+ghost use Rattle.stream_base.specs.declared.entry.Entry.{Entry};
 
 use stream_base::{Entry, FINAL, What};
 
@@ -95,4 +97,59 @@ fn is_awake(source: u16, journal: &[Entry]) -> bool
     ensures { result ≡ is_awake journal.now source }
 {
     !has_ended(source, journal) && !is_idle(source, journal)
+}
+
+// Whether all sources have ended.
+fn all_ended(sources: u16, journal: &[Entry]) -> bool
+    ensures { result ≡ all_ended sources journal.now }
+{
+    for source in 0..sources {
+        if !has_ended(source, journal) {
+            return false;
+        }
+    }
+    true
+}
+
+// The least watermark of the sources that are awake, or 0.
+fn least_awake(sources: u16, journal: &[Entry]) -> u64
+    ensures { result ≡ least_or_zero (awake_waters sources journal.now) }
+{
+    let mut least = None;
+    for source in 0..sources {
+        if is_awake(source, journal) {
+            least = Some(lesser(least, source_water(source, journal)));
+        }
+    }
+    least.unwrap_or(0)
+}
+
+fn lesser(least: Option<u64>, water: u64) -> u64
+    ensures { result ≡ lesser least water }
+{
+    match least {
+        Some(other) => other.min(water),
+        None => water,
+    }
+}
+
+// The same, and the final time where all have ended.
+#[tactic(auto, unfolding(stream_base::specs::Model::Watermark::least_water))]
+fn least_water(sources: u16, journal: &[Entry]) -> u64
+    ensures { result ≡ least_water sources journal.now }
+{
+    if all_ended(sources, journal) {
+        FINAL
+    } else {
+        least_awake(sources, journal)
+    }
+}
+
+/// The watermark of a journal, by that of the entries before its last.
+#[tactic(auto, using(stream_base::proofs::Watermarks::water_of_push))]
+pub fn water_behind(water: u64, sources: u16, journal: &[Entry]) -> u64
+    ensures { (before : List Entry) (e : Entry) → journal.now ≡ before ++ e ∷ []
+        → water ≡ water_of sources before → result ≡ water_of sources journal.now }
+{
+    water.max(least_water(sources, journal))
 }
