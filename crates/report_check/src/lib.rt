@@ -26,3 +26,5 @@ mod waters;
 mod words;
 
 pub use finding::Finding;
+pub use journal::Journal;
+pub use read::journals_of;
