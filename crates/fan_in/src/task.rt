@@ -110,7 +110,8 @@ pub(crate) fn take_feeds<F>(
     rows: &mut Vec<Vec<Outbox>>,
 )
     requires many { feeds ≤ length tasks.old.items }
-    requires reading { (i : ℕ) (t : _) → i < feeds → IsReading (slice_index_or tasks.old.items i t) }
+    requires reading { (i : ℕ) (t : _) → i < feeds
+        → IsReading (slice_index_or tasks.old.items i t) }
     requires ends { IsReserved feeds ends.old }
     requires rows { IsReserved feeds rows.old }
     ensures left { tasks.new.items ≡ drop feeds tasks.old.items }

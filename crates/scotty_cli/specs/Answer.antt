@@ -63,7 +63,7 @@ MayBeUnread told run (Some source) = (source < length run.sources) × AreAccepte
 
 -- the summary of a made run: that of the final rows of its generated sources, which knows of no shard and no schedule
 abbrev pub made_summary : Made → List ℕ
-made_summary m = summary_of m.rows 5 (final_rows made_definitions (made_sources m.seed m.rows m.sources))
+made_summary m = summary_of m.rows (length (made_definitions).windows) (final_rows made_definitions (made_sources m.seed m.rows m.sources))
 
 module _ {K : Type 0} (written : K → Option (List ℕ)) (faults : K → ℕ) where
   -- the line of a fault was written, or a write failed

@@ -180,7 +180,8 @@ fn parts_at(tuples: &[Kept], time: u64) -> (Slice, Slice)
     ensures some_before { 0 < result.0.number }
     ensures some_behind { 0 < result.1.number }
     ensures whole { tuples.now
-        ≡ filter (λ x. nat_lt x.time time) tuples.now ++ filter (λ x. nat_le time x.time) tuples.now }
+        ≡ filter (λ x. nat_lt x.time time) tuples.now
+        ++ filter (λ x. nat_le time x.time) tuples.now }
 {
     let cut = tuples_before(tuples, time);
     (shown(&tuples[..cut]), shown(&tuples[cut..]))

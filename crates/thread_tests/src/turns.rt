@@ -90,7 +90,7 @@ fn eight_threads<R: Threads + Wait + Abort + Sync>(rt: &R, alloc: Global) -> Res
     Ok(())
 }
 
-// Pass 0, and seven that it makes.
+// Pass zero, and seven that it makes.
 fn all_passes(
     alloc: Global,
     turnstile: &Turnstile<Pairs>,

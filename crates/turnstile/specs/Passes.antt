@@ -4,7 +4,7 @@ use Rattle.turnstile.specs.declared.view.Part.{Part}
 use Rattle.turnstile.specs.declared.keeps.Keeps.{Ghosts}
 use Rattle.turnstile.specs.declared.pass.Pass.{Pass}
 use Rattle.turnstile.specs.declared.turnstile.Turnstile.{Turnstile}
-use Rattle.turnstile.specs.History.{BeginsWith, by_number}
+use Rattle.turnstile.specs.History.{BeginsWith, by_number, of_number}
 
 module _ {T I F : Type 0} {g : Ghosts T I F} where
   -- the pass's number
@@ -51,12 +51,12 @@ module _ {T I F : Type 0} {g : Ghosts T I F} where
   abbrev pub numbers : List (Pass T I F g) → List ℕ
   numbers passes = map number passes
 
-  -- pass 0 is among them, and so is each pass to which one of them gave its number
+  -- pass zero is among them, and so is each pass to which one of them gave its number
   abbrev pub AreAll : List (Pass T I F g) → Type 0
   AreAll passes = Contains (numbers passes) 0 × All (λ p. All (Contains (numbers passes)) (born p)) passes
 
-  -- One turn. The value before it began with all that the pass had seen. One call of the pass led to the value after it and to the reply, and added at most one item, with the pass's number. The
-  -- pass has then seen the list after the call, and made what it had made and the item
+  -- One turn. The value before it began with all that the pass had seen, and what stood there under the pass's number is what the pass had made. One call of the pass led to the
+  -- value after it and to the reply, and added at most one item, with the pass's number. The pass has then seen the list after the call, and made what it had made and the item
   pub record IsTurn {R : Type 0} (does : T → T → ℕ → R → Type 0) (old new : Pass T I F g) (reply : R) : Type 0 where
     pub before : T
     pub after : T
@@ -64,6 +64,7 @@ module _ {T I F : Type 0} {g : Ghosts T I F} where
     pub fixed_before : fixed old ≡ Some (g.fixed before)
     pub fixed_after : fixed old ≡ Some (g.fixed after)
     pub begins : BeginsWith (g.items before) (seen old)
+    pub own : of_number (number old) (g.items before) ≡ made old
     pub call : does before after (number old) reply
     pub at_most_one : length added ≤ 1
     pub adds : g.items after ≡ g.items before ++ by_number (number old) added

@@ -58,7 +58,7 @@ module _ {I F : Type 0} where
   waits v = in_line v.stage
 
 -- What the words and views don't show by themselves: how many tickets were drawn, how many turns have ended, the next number to draw, how many numbers passes were made with,
--- which seat has which ticket, whether the value is out, the list at the end of the last turn, the fixed part, and the numbers that pass 0 gave
+-- which seat has which ticket, whether the value is out, the list at the end of the last turn, the fixed part, and the numbers that pass zero gave
 pub record Facts (I F : Type 0) : Type 0 where
   pub next : ℕ
   pub now : ℕ

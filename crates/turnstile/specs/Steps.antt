@@ -27,7 +27,7 @@ module _ {I F : Type 0} where
   abbrev pub newcomer : ℕ → Option F → List (ℕ × I) → Part I F
   newcomer number fixed seen = record { number = Some number; fixed = fixed; seen = seen; made = []; born = [] }
 
-  -- the view of pass 0
+  -- the view of pass zero
   abbrev pub first_view : F → View I F
   first_view f = resting (newcomer 0 (Some f) []) (2 ^ 62 - 1)
 

@@ -3,7 +3,7 @@
 //! *Stands on* `atomic_table`, which proves single steps on shared words, and `crossbeam_utils` for
 //! the wait. *Promise*: over any value that keeps a list of numbered items (`Keeps`) and any call on
 //! it (`Call`), each turn runs one call on the value; the list before it begins with all that the
-//! pass had seen; each pass knows the items that it made. Pass 0 makes more passes, two passes may
+//! pass had seen; each pass knows the items that it made. Pass zero makes more passes, two passes may
 //! tell each other what they have seen, and who closes the lock gets a value whose list has, for
 //! each pass, what the pass made and no more. Nothing is said of waiting, fairness or progress.
 //!

@@ -40,7 +40,7 @@ impl<T: Keeps> Pass<T> {
     ghost use Rattle.std.specs.Prelude.{◌≡◌, ◌-◌, ◌^◌};
     ghost use Rattle.turnstile.specs.Steps.{as_pass};
 
-    // Pass 0, with the first seat of a table.
+    // Pass zero, with the first seat of a table.
     pub(crate) fn first(seat: Seat<T, View<T::Item, T::Fixed>>) -> Pass<T>
         requires { seat.me ≡ as_pass 0 (2 ^ 62 - 1) seat.me.0 }
         ensures { (result.seat ≡ seat) × (result.number ≡ 0) × (result.room ≡ 2 ^ 62 - 1) }

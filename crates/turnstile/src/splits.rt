@@ -9,7 +9,7 @@ use stream_base::NoMemory;
 
 impl<T: Keeps> Turnstile<T> {
     /// A new pass, which has seen what the given one has, and has made nothing. Its number is one
-    /// that no pass has or had: each number is drawn once, from one counter. Only pass 0 has room
+    /// that no pass has or had: each number is drawn once, from one counter. Only pass zero has room
     /// for numbers, and the new pass has none. A pass takes no memory today, so this is never
     /// refused.
     pub fn split(&self, pass: &mut Pass<T>) -> Result<Pass<T>, NoMemory>

@@ -25,6 +25,7 @@ returns-clause-turn g c =
       fixed_before = own.1;
       fixed_after = own.1 ∙ ap Some (sym ran.4);
       begins = fits.seen;
+      own = own.0;
       call = ran.6;
       at_most_one = adds.1;
       adds = adds.2;
