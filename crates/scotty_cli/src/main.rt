@@ -4,6 +4,7 @@
 //! contract of `scotty`, the call that `main` makes.
 #![tactic(auto)]
 
+mod deciding;
 mod definitions;
 mod gathering;
 mod making;

@@ -15,7 +15,11 @@ pub struct RealFiles<'a> {
 
 impl<'a> RealFiles<'a> {
     /// The files that this runtime reaches.
-    pub fn new(rt: &'a HostRuntime) -> RealFiles<'a> {
+    pub fn new(rt: &'a HostRuntime) -> RealFiles<'a>
+        ensures opens { result.failed_opens ≡ 0 }
+        ensures reads { result.failed_reads ≡ 0 }
+        ensures out { result.out ≡ 0 }
+    {
         RealFiles {
             rt,
             failed_opens: 0,

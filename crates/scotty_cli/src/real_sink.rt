@@ -13,7 +13,9 @@ pub struct RealSink {
 
 impl RealSink {
     /// The sink over standard output.
-    pub fn new(out: Stdout) -> RealSink {
+    pub fn new(out: Stdout) -> RealSink
+        ensures { result.faults ≡ 0 }
+    {
         RealSink { out, faults: 0 }
     }
 }

@@ -9,6 +9,7 @@
 mod cut;
 mod defs_fault;
 mod kind_name;
+mod limits;
 mod raw_kind;
 mod raw_window;
 mod read;
@@ -18,5 +19,6 @@ mod window;
 
 pub use cut::cut_between;
 pub use defs_fault::DefsFault;
+pub use limits::bytes_max_is_this_number;
 pub use read::{BYTES_MAX, read_defs};
 pub use window::first_in_trouble_is_named;

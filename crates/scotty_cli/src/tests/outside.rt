@@ -3,6 +3,7 @@ use crate::scotty::scotty;
 use crate::status::Status;
 use std::test::Fail;
 use stream_base::{MemFiles, MemSink, OpenGate};
+use window_defs::BYTES_MAX;
 
 #[test]
 fn a_run_in_pieces_of_one_byte_writes_its_report(rt: HostRuntime) -> Result<(), Fail> {
@@ -99,5 +100,26 @@ fn the_second_form_fails_with_a_front_of_its_text(rt: HostRuntime) -> Result<(),
         Status::WriteFault
     );
     assert_eq!(rt; str::from_utf8(sink.bytes())?, "report 2\nsha");
+    Ok(())
+}
+
+// The byte behind the limit is the first of the thirty-third read. A read behind that one would fail.
+#[test]
+fn definitions_are_read_no_further_than_one_byte_behind_their_limit(
+    rt: HostRuntime,
+) -> Result<(), Fail> {
+    let mut long = Vec::new(rt.alloc());
+    for _ in 0..BYTES_MAX + 1 {
+        long.push(b'#')?;
+    }
+    let files = [file(rt.alloc(), "d", &long, vec![in rt.alloc(); 33]?)?];
+    let mut files = MemFiles::new(&files, 32_768);
+    let mut sink = MemSink::new(rt.alloc(), 200, Vec::new(rt.alloc()), 8)?;
+    let words = words_of(rt.alloc(), &RUN)?;
+    assert_eq!(rt;
+        scotty(rt.alloc(), &rt, &words, &mut files, &mut sink, &OpenGate),
+        Status::BadDefs
+    );
+    assert_eq!(rt; str::from_utf8(sink.bytes())?, "fault defs long\n");
     Ok(())
 }
