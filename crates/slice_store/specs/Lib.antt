@@ -5,3 +5,4 @@ pub mod Entered
 pub mod Places
 pub mod Sides
 pub mod Bounds
+pub mod Apart

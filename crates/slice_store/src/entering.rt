@@ -4,163 +4,159 @@ ghost use Rattle.stream_base.specs.Model.Windows.{first_time, last_time};
 ghost use Rattle.slice_store.specs.Slices.{CanEnter, entered_at, joined, slices_between};
 ghost use Rattle.slice_store.specs.Stored.{partial_of};
 
-use crate::partials::{folded, lifted, read, take};
+use crate::lifting::{folded, lifted};
+use crate::partials::Partials;
 use crate::runs::Runs;
-use agg_laws::{AggTree, Bundle, Monoid, Probes, Steps};
+use agg_laws::{AggTree, Bundle, Monoid, Steps};
 use stream_base::Kept;
 
 // The tuple becomes a slice of its own.
 fn add<T: AggTree<Bundle>, L>(
     runs: &mut Runs,
-    partials: &mut T,
+    partials: &mut Partials<T>,
     at: usize,
     x: Kept,
     steps: &mut Steps<L>,
 )
     requires can { CanEnter at at x runs.old }
-    requires spare { 1 ≤ T.spare partials.old }
-    requires stand { T.pairs partials.old ≡ map partial_of (runs.old).slices }
+    requires spare { 1 ≤ (partials.old).spare }
+    requires stand { (partials.old).pairs ≡ map partial_of (runs.old).slices }
     ensures slices { (runs.new).slices ≡ entered_at at at x (runs.old).slices }
-    ensures stand { T.pairs partials.new ≡ map partial_of (runs.new).slices }
+    ensures stand { (partials.new).pairs ≡ map partial_of (runs.new).slices }
     ensures room { (runs.old).spare ≤ (runs.new).spare + 1 }
-    ensures spare { T.spare partials.old ≤ T.spare partials.new + 1 }
-    ensures reach { T.reach partials.new ≤ T.reach partials.old + 1 }
-    ensures cost { steps.new ≤ steps.old + 128 * (T.reach partials.old + 3) }
+    ensures spare { (partials.old).spare ≤ (partials.new).spare + 1 }
+    ensures reach { (partials.new).reach ≤ (partials.old).reach + 1 }
+    ensures cost { steps.new ≤ steps.old + 128 * ((partials.old).reach + 3) }
 {
     let _count = runs.len();
-    let mut probes = Probes::new();
-    partials.insert(x.time, lifted(&x), &mut probes, steps);
+    partials.insert(x.time, lifted(&x), steps);
     runs.enter(at, at, x);
 }
 
 // The tuple comes behind those of a slice: its partial is combined with it once.
 fn extend<T: AggTree<Bundle>, L>(
     runs: &mut Runs,
-    partials: &mut T,
+    partials: &mut Partials<T>,
     at: usize,
     x: Kept,
     steps: &mut Steps<L>,
 )
     requires can { CanEnter at (at + 1) x runs.old }
     requires late { last_time (slice_index_or (runs.old).slices at []) ≤ x.time }
-    requires stand { T.pairs partials.old ≡ map partial_of (runs.old).slices }
+    requires stand { (partials.old).pairs ≡ map partial_of (runs.old).slices }
     ensures slices { (runs.new).slices ≡ entered_at at (at + 1) x (runs.old).slices }
-    ensures stand { T.pairs partials.new ≡ map partial_of (runs.new).slices }
+    ensures stand { (partials.new).pairs ≡ map partial_of (runs.new).slices }
     ensures room { (runs.old).spare ≤ (runs.new).spare + 1 }
-    ensures spare { T.spare partials.old ≤ T.spare partials.new + 1 }
-    ensures reach { T.reach partials.new ≤ T.reach partials.old + 1 }
-    ensures cost { steps.new ≤ steps.old + 128 * (T.reach partials.old + 3) }
+    ensures spare { (partials.old).spare ≤ (partials.new).spare + 1 }
+    ensures reach { (partials.new).reach ≤ (partials.old).reach + 1 }
+    ensures cost { steps.new ≤ steps.old + 128 * ((partials.old).reach + 3) }
 {
     let _count = runs.len();
     let low = runs.slice(at).low;
-    let own = read(partials, low, steps);
+    let own = partials.read(low, steps);
     let bundle = own.combine(&lifted(&x), steps);
-    let mut probes = Probes::new();
-    partials.set(low, bundle, &mut probes, steps);
+    partials.set(low, bundle, steps);
     runs.enter(at, at + 1, x);
 }
 
 // The tuple comes before those of a slice, which then begins with it.
 fn front<T: AggTree<Bundle>, L>(
     runs: &mut Runs,
-    partials: &mut T,
+    partials: &mut Partials<T>,
     at: usize,
     x: Kept,
     steps: &mut Steps<L>,
 )
     requires can { CanEnter at (at + 1) x runs.old }
     requires early { x.time < first_time (slice_index_or (runs.old).slices at []) }
-    requires spare { 1 ≤ T.spare partials.old }
-    requires stand { T.pairs partials.old ≡ map partial_of (runs.old).slices }
+    requires spare { 1 ≤ (partials.old).spare }
+    requires stand { (partials.old).pairs ≡ map partial_of (runs.old).slices }
     ensures slices { (runs.new).slices ≡ entered_at at (at + 1) x (runs.old).slices }
-    ensures stand { T.pairs partials.new ≡ map partial_of (runs.new).slices }
+    ensures stand { (partials.new).pairs ≡ map partial_of (runs.new).slices }
     ensures room { (runs.old).spare ≤ (runs.new).spare + 1 }
-    ensures spare { T.spare partials.old ≤ T.spare partials.new + 1 }
-    ensures reach { T.reach partials.new ≤ T.reach partials.old + 1 }
-    ensures cost { steps.new ≤ steps.old + 128 * (T.reach partials.old + 3) }
+    ensures spare { (partials.old).spare ≤ (partials.new).spare + 1 }
+    ensures reach { (partials.new).reach ≤ (partials.old).reach + 1 }
+    ensures cost { steps.new ≤ steps.old + 128 * ((partials.old).reach + 3) }
 {
     let _count = runs.len();
     let low = runs.slice(at).low;
-    let own = take(partials, low, steps);
+    let own = partials.take(low, steps);
     let bundle = lifted(&x).combine(&own, steps);
-    let mut probes = Probes::new();
-    partials.insert(x.time, bundle, &mut probes, steps);
+    partials.insert(x.time, bundle, steps);
     runs.enter(at, at + 1, x);
 }
 
 // The tuple comes between those of a slice, whose tuples are folded anew in event order.
 fn refold<T: AggTree<Bundle>, L>(
     runs: &mut Runs,
-    partials: &mut T,
+    partials: &mut Partials<T>,
     at: usize,
     x: Kept,
     steps: &mut Steps<L>,
 )
     requires can { CanEnter at (at + 1) x runs.old }
     requires late { first_time (slice_index_or (runs.old).slices at []) ≤ x.time }
-    requires stand { T.pairs partials.old ≡ map partial_of (runs.old).slices }
+    requires stand { (partials.old).pairs ≡ map partial_of (runs.old).slices }
     ensures slices { (runs.new).slices ≡ entered_at at (at + 1) x (runs.old).slices }
-    ensures stand { T.pairs partials.new ≡ map partial_of (runs.new).slices }
+    ensures stand { (partials.new).pairs ≡ map partial_of (runs.new).slices }
     ensures room { (runs.old).spare ≤ (runs.new).spare + 1 }
-    ensures spare { T.spare partials.old ≤ T.spare partials.new + 1 }
-    ensures reach { T.reach partials.new ≤ T.reach partials.old + 1 }
-    ensures cost { steps.new ≤ steps.old + (128 * (T.reach partials.old + 3)
+    ensures spare { (partials.old).spare ≤ (partials.new).spare + 1 }
+    ensures reach { (partials.new).reach ≤ (partials.old).reach + 1 }
+    ensures cost { steps.new ≤ steps.old + (128 * ((partials.old).reach + 3)
         + length (joined (slices_between at (at + 1) (runs.old).slices))) }
 {
     let _count = runs.len();
     let low = runs.slice(at).low;
     runs.enter(at, at + 1, x);
     let bundle = folded(runs.tuples_of(at), steps);
-    let mut probes = Probes::new();
-    partials.set(low, bundle, &mut probes, steps);
+    partials.set(low, bundle, steps);
 }
 
 // The tuple comes between two slices and joins them.
 fn merge<T: AggTree<Bundle>, L>(
     runs: &mut Runs,
-    partials: &mut T,
+    partials: &mut Partials<T>,
     at: usize,
     x: Kept,
     steps: &mut Steps<L>,
 )
     requires can { CanEnter at (at + 2) x runs.old }
-    requires stand { T.pairs partials.old ≡ map partial_of (runs.old).slices }
+    requires stand { (partials.old).pairs ≡ map partial_of (runs.old).slices }
     ensures slices { (runs.new).slices ≡ entered_at at (at + 2) x (runs.old).slices }
-    ensures stand { T.pairs partials.new ≡ map partial_of (runs.new).slices }
+    ensures stand { (partials.new).pairs ≡ map partial_of (runs.new).slices }
     ensures room { (runs.old).spare ≤ (runs.new).spare + 1 }
-    ensures spare { T.spare partials.old ≤ T.spare partials.new + 1 }
-    ensures reach { T.reach partials.new ≤ T.reach partials.old + 1 }
-    ensures cost { steps.new ≤ steps.old + 128 * (T.reach partials.old + 3) }
+    ensures spare { (partials.old).spare ≤ (partials.new).spare + 1 }
+    ensures reach { (partials.new).reach ≤ (partials.old).reach + 1 }
+    ensures cost { steps.new ≤ steps.old + 128 * ((partials.old).reach + 3) }
 {
     let _count = runs.len();
     let low = runs.slice(at).low;
     let next = runs.slice(at + 1).low;
-    let left = read(partials, low, steps);
-    let right = take(partials, next, steps);
+    let left = partials.read(low, steps);
+    let right = partials.take(next, steps);
     let longer = left.combine(&lifted(&x), steps);
     let bundle = longer.combine(&right, steps);
-    let mut probes = Probes::new();
-    partials.set(low, bundle, &mut probes, steps);
+    partials.set(low, bundle, steps);
     runs.enter(at, at + 2, x);
 }
 
 // The tuple enters one slice: behind its tuples, before them, or between two of them.
 fn enter_one<T: AggTree<Bundle>, L>(
     runs: &mut Runs,
-    partials: &mut T,
+    partials: &mut Partials<T>,
     at: usize,
     x: Kept,
     steps: &mut Steps<L>,
 )
     requires can { CanEnter at (at + 1) x runs.old }
-    requires spare { 1 ≤ T.spare partials.old }
-    requires stand { T.pairs partials.old ≡ map partial_of (runs.old).slices }
+    requires spare { 1 ≤ (partials.old).spare }
+    requires stand { (partials.old).pairs ≡ map partial_of (runs.old).slices }
     ensures slices { (runs.new).slices ≡ entered_at at (at + 1) x (runs.old).slices }
-    ensures stand { T.pairs partials.new ≡ map partial_of (runs.new).slices }
+    ensures stand { (partials.new).pairs ≡ map partial_of (runs.new).slices }
     ensures room { (runs.old).spare ≤ (runs.new).spare + 1 }
-    ensures spare { T.spare partials.old ≤ T.spare partials.new + 1 }
-    ensures reach { T.reach partials.new ≤ T.reach partials.old + 1 }
-    ensures cost { steps.new ≤ steps.old + (128 * (T.reach partials.old + 3)
+    ensures spare { (partials.old).spare ≤ (partials.new).spare + 1 }
+    ensures reach { (partials.new).reach ≤ (partials.old).reach + 1 }
+    ensures cost { steps.new ≤ steps.old + (128 * ((partials.old).reach + 3)
         + length (joined (slices_between at (at + 1) (runs.old).slices))) }
 {
     let slice = runs.slice(at);
@@ -177,21 +173,21 @@ fn enter_one<T: AggTree<Bundle>, L>(
 /// brings the partials after it.
 pub fn enter<T: AggTree<Bundle>, L>(
     runs: &mut Runs,
-    partials: &mut T,
+    partials: &mut Partials<T>,
     from: usize,
     to: usize,
     x: Kept,
     steps: &mut Steps<L>,
 )
     requires can { CanEnter from to x runs.old }
-    requires spare { 1 ≤ T.spare partials.old }
-    requires stand { T.pairs partials.old ≡ map partial_of (runs.old).slices }
+    requires spare { 1 ≤ (partials.old).spare }
+    requires stand { (partials.old).pairs ≡ map partial_of (runs.old).slices }
     ensures slices { (runs.new).slices ≡ entered_at from to x (runs.old).slices }
-    ensures stand { T.pairs partials.new ≡ map partial_of (runs.new).slices }
+    ensures stand { (partials.new).pairs ≡ map partial_of (runs.new).slices }
     ensures room { (runs.old).spare ≤ (runs.new).spare + 1 }
-    ensures spare { T.spare partials.old ≤ T.spare partials.new + 1 }
-    ensures reach { T.reach partials.new ≤ T.reach partials.old + 1 }
-    ensures cost { steps.new ≤ steps.old + (128 * (T.reach partials.old + 3)
+    ensures spare { (partials.old).spare ≤ (partials.new).spare + 1 }
+    ensures reach { (partials.new).reach ≤ (partials.old).reach + 1 }
+    ensures cost { steps.new ≤ steps.old + (128 * ((partials.old).reach + 3)
         + length (joined (slices_between from to (runs.old).slices))) }
 {
     let count = to - from;

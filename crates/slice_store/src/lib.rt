@@ -14,6 +14,7 @@ mod bounds;
 mod cuts;
 mod entering;
 mod leaving;
+mod lifting;
 mod marks;
 mod partials;
 mod placed;

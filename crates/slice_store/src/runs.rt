@@ -1,5 +1,6 @@
 //! Tuples in event order, parted into slices.
-ghost use Rattle.std.specs.Prelude.{◌≡◌, ◌≤◌, ◌<◌, ◌+◌, ◌-◌, ◌++◌, ◌∷◌, [], length, take, drop, filter, slice_index_or, nat_le, nat_lt, OnOk, IfSome, IfNone, All, FitsSigned, false};
+ghost use Rattle.std.specs.Prelude.{◌≡◌, ◌≤◌, ◌<◌, ◌+◌, ◌-◌, ◌++◌, ◌∷◌, [], length, take, drop, filter, slice_index_or, nat_le, nat_lt, OnOk, IfSome, IfNone, All, FitsSigned, false, vec_len, vec_capacity};
+ghost use Rattle.std.specs.List.{insert};
 ghost use Rattle.std.specs.Int.{w64};
 ghost use Rattle.stream_base.specs.declared.limits.TheConstants.{TIME_MAX};
 ghost use Rattle.stream_base.specs.Laws.{TimesDoNotFall};
@@ -117,7 +118,7 @@ impl Runs {
         ensures spare { (self.old).spare ≤ (self.new).spare + 1 }
     {
         let place = place_of(&self.tuples, x.time);
-        self.tuples.insert(place, x).unwrap();
+        put_tuple(&mut self.tuples, place, x);
         let _count = self.tuples.len();
         enter_bounds(&mut self.bounds, from, to, x.time);
     }
@@ -159,6 +160,21 @@ impl Runs {
         let _count = self.len();
         let (front, back) = parts_at(self.tuples_of(at), time);
         split_bounds(&mut self.bounds, at, front, back);
+    }
+}
+
+// Puts a tuple in a place, for which there is room.
+fn put_tuple(tuples: &mut Vec<Kept>, place: usize, x: Kept)
+    requires within { place ≤ vec_len tuples.old }
+    requires room { vec_len tuples.old < vec_capacity tuples.old }
+    ensures items { tuples.new.items ≡ insert tuples.old.items place x }
+    ensures len { vec_len tuples.new ≡ vec_len tuples.old + 1 }
+    ensures capacity { vec_capacity tuples.old ≤ vec_capacity tuples.new }
+{
+    if place == tuples.len() {
+        tuples.push(x).unwrap();
+    } else {
+        tuples.insert(place, x).unwrap();
     }
 }
 

@@ -20,11 +20,12 @@ use crate::cuts::{first_entered, last_entered};
 use crate::entering::enter;
 use crate::leaving::take_first;
 use crate::marks::{add_mark, keep_last};
+use crate::partials::Partials;
 use crate::placed::Placed;
 use crate::runs::Runs;
 use crate::slice::Slice;
 use crate::splitting::split;
-use agg_laws::{AggTree, Bundle, Probes, Steps};
+use agg_laws::{AggTree, Bundle, Steps};
 use std::alloc::Global;
 use std::marker::Model;
 use stream_base::{Defs, Kept, NoMemory};
@@ -40,7 +41,7 @@ pub struct SliceStore<T: AggTree<Bundle>> {
     runs: Runs,
     marks: Vec<u64>,
     dropped: u64,
-    partials: T,
+    partials: Partials<T>,
 }
 
 impl<T: AggTree<Bundle>> Model for SliceStore<T> {
@@ -53,11 +54,11 @@ impl<T: AggTree<Bundle>> Model for SliceStore<T> {
       slices = s.runs.slices;
       marks = s.marks.items;
       dropped = s.dropped;
-      spare = min (min s.runs.spare (vec_capacity s.marks - vec_len s.marks)) (T.spare s.partials);
-      reach = T.reach s.partials;
+      spare = min (min s.runs.spare (vec_capacity s.marks - vec_len s.marks)) s.partials.spare;
+      reach = s.partials.reach;
     } };
 
-    ghost invariant = { λ s. AreInside s.runs.slices s.marks.items (T.pairs s.partials) };
+    ghost invariant = { λ s. AreInside s.runs.slices s.marks.items s.partials.pairs };
 }
 
 impl<T: AggTree<Bundle>> SliceStore<T> {
@@ -73,7 +74,7 @@ impl<T: AggTree<Bundle>> SliceStore<T> {
             runs: Runs::new(alloc),
             marks: Vec::new(alloc),
             dropped: 0,
-            partials: T::fresh(alloc),
+            partials: Partials::new(alloc),
         }
     }
 
@@ -85,7 +86,7 @@ impl<T: AggTree<Bundle>> SliceStore<T> {
     {
         self.runs.reserve()?;
         self.marks.reserve(1)?;
-        self.partials.reserve(1)?;
+        self.partials.reserve()?;
         Ok(())
     }
 
@@ -164,8 +165,7 @@ impl<T: AggTree<Bundle>> SliceStore<T> {
         ensures cost { steps.new ≤ steps.old + 64 * (self.now.reach + 2) }
     {
         let _count = self.runs.len();
-        let mut probes = Probes::new();
-        self.partials.fold_range(low, high, &mut probes, steps)
+        self.partials.fold_range(low, high, steps)
     }
 
     /// How many slices there are.

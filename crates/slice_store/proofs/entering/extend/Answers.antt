@@ -20,7 +20,7 @@ read-own-requires g c =
 pub set-requires : goal.set-requires
 set-requires g c =
     let l : c.args.at < length c.args.runs.now.slices = omega (arith, c.requires.can.within) in
-    ap (λ (s : Slice). has_key s.low (g.T.AggTree.pairs c.args.partials.now)) c.slice-low.ensures.shown
+    ap (λ (s : Slice). has_key s.low c.args.partials.now.pairs) c.slice-low.ensures.shown
     ∙ ap (has_key (first_time (get_or c.args.runs.now.slices c.args.at []))) c.requires.stand
     ∙ partial_there c.args.runs.now.slices c.args.at l c.slice-low.ensures.holds.ordered
 
@@ -29,8 +29,8 @@ returns-clause-stand g c =
     let runs = c.args.runs.now.slices in
     let p = get_or runs c.args.at [] in
     let l : c.args.at < length runs = omega (arith, c.requires.can.within) in
-    let found : value_at c.slice-low.result.low (g.T.AggTree.pairs c.args.partials.now) ≡ Some (bundle_of (values_of p)) =
-    ap (λ (s : Slice). value_at s.low (g.T.AggTree.pairs c.args.partials.now)) c.slice-low.ensures.shown
+    let found : value_at c.slice-low.result.low c.args.partials.now.pairs ≡ Some (bundle_of (values_of p)) =
+    ap (λ (s : Slice). value_at s.low c.args.partials.now.pairs) c.slice-low.ensures.shown
     ∙ ap (value_at (first_time p)) c.requires.stand
     ∙ partial_found runs c.args.at l c.slice-low.ensures.holds.ordered in
     let own : c.read-own.result ≡ bundle_of (values_of p) = c.read-own.ensures.value (bundle_of (values_of p)) (partial_is_value runs c.args.at l c.slice-low.ensures.holds) found in

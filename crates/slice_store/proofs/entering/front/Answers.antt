@@ -25,8 +25,8 @@ returns-clause-stand g c =
     let runs = c.args.runs.now.slices in
     let p = get_or runs c.args.at [] in
     let l : c.args.at < length runs = omega (arith, c.requires.can.within) in
-    let found : value_at c.slice-low.result.low (g.T.AggTree.pairs c.args.partials.now) ≡ Some (bundle_of (values_of p)) =
-    ap (λ (s : Slice). value_at s.low (g.T.AggTree.pairs c.args.partials.now)) c.slice-low.ensures.shown
+    let found : value_at c.slice-low.result.low c.args.partials.now.pairs ≡ Some (bundle_of (values_of p)) =
+    ap (λ (s : Slice). value_at s.low c.args.partials.now.pairs) c.slice-low.ensures.shown
     ∙ ap (value_at (first_time p)) c.requires.stand
     ∙ partial_found runs c.args.at l c.slice-low.ensures.holds.ordered in
     let own : c.take-own.result ≡ bundle_of (values_of p) = c.take-own.ensures.value (bundle_of (values_of p)) found in

@@ -36,13 +36,13 @@ returns-clause-stand g c =
     let l : suc c.args.at < length runs = omega (arith, c.requires.can.within) in
     let m : c.args.at < length runs = omega (arith, c.requires.can.within) in
     let next : c.slice-next.result ≡ slice_of q = c.slice-next.ensures.shown ∙ ap (λ n. slice_of (get_or runs n [])) (let e : c.args.at + 1 ≡ suc c.args.at = omega arith in e) in
-    let found : value_at c.slice-low.result.low (g.T.AggTree.pairs c.args.partials.now) ≡ Some (bundle_of (values_of p)) =
-    ap (λ (s : Slice). value_at s.low (g.T.AggTree.pairs c.args.partials.now)) c.slice-low.ensures.shown
+    let found : value_at c.slice-low.result.low c.args.partials.now.pairs ≡ Some (bundle_of (values_of p)) =
+    ap (λ (s : Slice). value_at s.low c.args.partials.now.pairs) c.slice-low.ensures.shown
     ∙ ap (value_at (first_time p)) c.requires.stand
     ∙ partial_found runs c.args.at m holds.ordered in
     let left : c.read-left.result ≡ bundle_of (values_of p) = c.read-left.ensures.value (bundle_of (values_of p)) (partial_is_value runs c.args.at m holds) found in
-    let found_next : value_at c.slice-next.result.low (g.T.AggTree.pairs c.args.partials.now) ≡ Some (bundle_of (values_of q)) =
-    ap (λ (s : Slice). value_at s.low (g.T.AggTree.pairs c.args.partials.now)) next
+    let found_next : value_at c.slice-next.result.low c.args.partials.now.pairs ≡ Some (bundle_of (values_of q)) =
+    ap (λ (s : Slice). value_at s.low c.args.partials.now.pairs) next
     ∙ ap (value_at (first_time q)) c.requires.stand
     ∙ partial_found runs (suc c.args.at) l holds.ordered in
     let right : c.take-right.result ≡ bundle_of (values_of q) = c.take-right.ensures.value (bundle_of (values_of q)) found_next in

@@ -13,7 +13,7 @@ use Rattle.slice_store.proofs.entering.refold.Goals as goal
 pub set-requires : goal.set-requires
 set-requires g c =
     let l : c.args.at < length c.args.runs.now.slices = omega (arith, c.requires.can.within) in
-    ap (λ (s : Slice). has_key s.low (g.T.AggTree.pairs c.args.partials.now)) c.slice-low.ensures.shown
+    ap (λ (s : Slice). has_key s.low c.args.partials.now.pairs) c.slice-low.ensures.shown
     ∙ ap (has_key (first_time (get_or c.args.runs.now.slices c.args.at []))) c.requires.stand
     ∙ partial_there c.args.runs.now.slices c.args.at l c.slice-low.ensures.holds.ordered
 

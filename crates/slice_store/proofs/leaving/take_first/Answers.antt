@@ -16,5 +16,5 @@ loop-at-preserved g c =
           ∙ first_leaves runs at l c.slice.ensures.holds.ordered;
       spare = omega (arith, c.loop-at.invariant.spare, c.take-partial.ensures.spare);
       reach = omega (arith, c.loop-at.invariant.reach, c.take-partial.ensures.reach);
-      cost = one_more c.args.steps.now c.loop-at.steps c.take-partial.new.steps (g.T.AggTree.reach c.args.partials.now) (g.T.AggTree.reach c.loop-at.partials) at c.loop-at.invariant.cost c.loop-at.invariant.reach c.take-partial.ensures.cost;
+      cost = one_more c.args.steps.now c.loop-at.steps c.take-partial.new.steps c.args.partials.now.reach c.loop-at.partials.reach at c.loop-at.invariant.cost c.loop-at.invariant.reach c.take-partial.ensures.cost;
     }

@@ -21,7 +21,7 @@ slice-next-requires g c =
 pub set-requires : goal.set-requires
 set-requires g c =
     let runs = c.args.runs.now.slices in
-    ap (λ (s : Slice). has_key s.low (g.T.AggTree.pairs c.args.partials.now)) c.slice-low.ensures.shown
+    ap (λ (s : Slice). has_key s.low c.args.partials.now.pairs) c.slice-low.ensures.shown
     ∙ ap (has_key (first_time (get_or runs c.args.at []))) c.requires.stand
     ∙ partial_there runs c.args.at c.requires.can.within c.slice-low.ensures.holds.ordered
 
