@@ -1,11 +1,12 @@
-// The baseline of slices.sh: tuples in one vector in event order, and slices in another with the nine functions
+// The baseline of store.sh: tuples in one vector in event order, and slices in another with the nine functions
 // of each, kept by the same rules. A tuple at the end of its slice is combined once, and one in the middle has its
 // slice folded anew.
 use std::env;
-use std::time::Instant;
+use std::hint::black_box;
 
 #[derive(Clone, Copy)]
 struct Kept {
+    #[allow(dead_code)]
     position: u64,
     time: u64,
     value: i64,
@@ -105,18 +106,17 @@ fn put(tuples: &mut Vec<Kept>, slices: &mut Vec<Slice>, x: Kept) {
 }
 
 fn main() {
-    let late = env::args().nth(1).expect("0, or one in how many tuples is late").parse::<u64>().expect("a number");
+    let words: Vec<String> = env::args().skip(1).collect();
+    let (what, count): (&str, u64) = (words[0].as_str(), words[1].parse().unwrap());
     let (mut tuples, mut slices) = (Vec::new(), Vec::new());
     let mut seed = 1u64;
-    let start = Instant::now();
-    for i in 0..1_000_000u64 {
+    for i in 0..count {
         seed = seed.wrapping_mul(6_364_136_223_846_793_005).wrapping_add(1_442_695_040_888_963_407);
-        let back = if late > 0 && i % late == 0 { (seed >> 33) % 1000 } else { 0 };
+        let back = if what == "late" && i % 10 == 0 { (seed >> 33) % 1000 } else { 0 };
         let x = Kept { position: i, time: i.saturating_sub(back), value: (seed >> 40) as i64 };
         put(&mut tuples, &mut slices, x);
     }
-    let spent = start.elapsed().as_micros();
     let sum = slices.iter().fold(Bundle::unit(), |sum, s| sum.combine(&s.partial));
-    let position = tuples.last().map_or(0, |x: &Kept| x.position);
-    println!("{spent} {} {} {position}", slices.len(), sum.trace.1);
+    black_box(&tuples);
+    println!("{} slices, trace Whole({})", slices.len(), sum.trace.1);
 }

@@ -1,0 +1,34 @@
+ghost use Rattle.std.specs.Prelude.{◌≤◌, ◌^◌};
+ghost use Rattle.slice_store.specs.Stored.{IsSliced};
+
+use crate::order::Order;
+use agg_laws::{AggTree, Bundle, Steps};
+use slice_store::SliceStore;
+use stream_base::{Defs, NoMemory};
+
+/// Puts so many tuples into a store.
+pub fn fill<T: AggTree<Bundle>, L>(
+    store: &mut SliceStore<T>,
+    defs: &Defs,
+    order: Order,
+    count: u64,
+    steps: &mut Steps<L>,
+) -> Result<(), NoMemory>
+    requires sliced { IsSliced defs.now.windows store.old }
+    requires few { count ≤ 2 ^ 20 }
+    ensures sliced { IsSliced defs.now.windows store.new }
+{
+    let mut seed = 1;
+    for i in 0..count {
+        seed = next_seed(seed);
+        store.reserve()?;
+        store.put(defs, i, order.time(i, seed), (seed >> 40) as i64, steps);
+    }
+    Ok(())
+}
+
+// The next of numbers that look random (Knuth's linear congruential generator).
+fn next_seed(seed: u64) -> u64 {
+    seed.wrapping_mul(6_364_136_223_846_793_005)
+        .wrapping_add(1_442_695_040_888_963_407)
+}
