@@ -1,9 +1,7 @@
 -- What an edit of pairs is, where the last of them lies beside the rest.
-use Rattle.std.proofs.Common.{◌≡◌, ◌∙◌, ℕ, ◌+◌, ◌<◌, ◌≤◌, Bool, true, false, not, cond, eqb, ◌||◌, Option, None, Some, List, [], ◌∷◌, ◌++◌, length, map, ap, sym, subst, refl, arith, append_assoc}
-use Rattle.std.specs.Prelude.{◌==◌, ◌&&◌, filter, find, fold, max, nat_le, nat_lt}
-use Rattle.std.specs.List.{All, list_any}
+use Rattle.std.proofs.Common.{◌≡◌, ◌∙◌, ℕ, ◌+◌, ◌<◌, ◌≤◌, Bool, true, false, not, cond, ◌||◌, Option, None, Some, List, [], ◌∷◌, ◌++◌, length, ap, sym, subst, refl, arith, append_assoc}
+use Rattle.std.specs.Prelude.{◌==◌, ◌&&◌, find, fold, max, nat_le, nat_lt}
 use Rattle.std.specs.Option.{option_map}
-use Rattle.std.proofs.lemmas.Bool.{eqb-true}
 use Rattle.std.proofs.lemmas.Bool.Decides.{nat_tests}
 use Rattle.std.proofs.lemmas.List.{append-nil, map-append}
 use Rattle.std.proofs.lemmas.List.Elements.{All-append, All-cons, All-filter, All-map, All-nil, All-weaker, filter-append}
@@ -31,6 +29,9 @@ alone_key k m h = grind (arith, nat_tests)
 
 pub reached : (edge low key : ℕ) → edge ≤ low → nat_lt low key ≡ true → edge ≤ key
 reached edge low key l h = grind (arith, nat_tests)
+
+same_key : (m k : ℕ) → m ≡ k → (m == k) ≡ true
+same_key m k h = grind (arith, nat_tests)
 
 module _ {M : Type 0} where
   pub weaker_below : (edge k : ℕ) (ps : List (ℕ × M)) → edge ≤ k → AreBelow edge ps → AreBelow k ps
@@ -141,6 +142,43 @@ module _ {M : Type 0} where
 
     pub value_beside : (last : Option (ℕ × M)) → AreFrom edge (beside last) → has_key k (beside last) ≡ true → value_at k (xs ++ beside last) ≡ value_at k (beside last)
     value_beside last f e = value_behind k xs (beside last) (last_absent k xs (key_beside last f e))
+
+  -- ---- what is beside, with another value
+  module _ (f : M → M) (k : ℕ) (last new : Option (ℕ × M)) (is : (key : ℕ) (b : M) → last ≡ Some (key, b) → new ≡ Some (key, f b)) (there : has_key k (beside last) ≡ true) where
+    pub changed_from : (edge : ℕ) → AreFrom edge (beside last) → AreFrom edge (beside new)
+    changed_from edge from = by last refl from
+      where
+        by : (o : Option (ℕ × M)) → last ≡ o → AreFrom edge (beside last) → AreFrom edge (beside new)
+        by None e h = absurd (let t : false ≡ true = ap (λ o. has_key k (beside o)) (sym e) ∙ there in cc)
+        by (Some p) e h =
+            let l : edge ≤ p.0 = some_from edge p.0 p.1 last e h in
+            subst (λ o. AreFrom edge (beside o)) (sym (is p.0 p.1 e)) (All-cons (λ q. edge ≤ q.0) (p.0, f p.1) [] l (All-nil (λ q. edge ≤ q.0)))
+
+    pub changed_length : length (beside new) ≡ length (beside last)
+    changed_length = by last refl
+      where
+        by : (o : Option (ℕ × M)) → last ≡ o → length (beside new) ≡ length (beside last)
+        by None e = absurd (let t : false ≡ true = ap (λ o. has_key k (beside o)) (sym e) ∙ there in cc)
+        by (Some p) e = ap (λ o. length (beside o)) (is p.0 p.1 e) ∙ sym (ap (λ o. length (beside o)) e)
+
+    pub changed_is : (edge : ℕ) (xs : List (ℕ × M)) → AreBelow edge xs → AreFrom edge (beside last) → (b : M) → value_at k (xs ++ beside last) ≡ Some b → xs ++ beside new ≡ replaced k (f b) (xs ++ beside last)
+    changed_is edge xs below from b v = by last refl
+      where
+        by : (o : Option (ℕ × M)) → last ≡ o → xs ++ beside new ≡ replaced k (f b) (xs ++ beside last)
+        by None e = absurd (let t : false ≡ true = ap (λ o. has_key k (beside o)) (sym e) ∙ there in cc)
+        by (Some p) e =
+            let key : p.0 ≡ k = alone_key k p.0 (ap (λ o. has_key k (beside o)) (sym e) ∙ there) in
+            let found : value_at k (p ∷ []) ≡ Some b = ap (λ o. value_at k (beside o)) (sym e) ∙ sym (value_beside edge k xs below last from there) ∙ v in
+            let own : p.1 ≡ b = own_value p key found in
+            ap (λ o. xs ++ beside o) (is p.0 p.1 e)
+            ∙ (λ i. xs ++ (key i, f (own i)) ∷ [])
+            ∙ sym (replaced_beside edge k xs below (f b) last from there)
+          where
+            some_same : (x y : M) → Some x ≡ Some y → x ≡ y
+            some_same x y e = cc
+
+            own_value : (p : ℕ × M) → p.0 ≡ k → value_at k (p ∷ []) ≡ Some b → p.1 ≡ b
+            own_value p key found = some_same p.1 b (sym (ap (λ c. option_map (λ (q : ℕ × M). q.1) (cond c (Some p) None)) (same_key p.0 k key)) ∙ found)
 
   pub same_length : (k : ℕ) (v : M) (last : Option (ℕ × M)) → has_key k (beside last) ≡ true → length (beside last) ≡ 1
   same_length k v None e = absurd cc

@@ -53,9 +53,7 @@ fn extend<T: AggTree<Bundle>, L>(
 {
     let _count = runs.len();
     let low = runs.slice(at).low;
-    let own = partials.read(low, steps);
-    let bundle = own.combine(&lifted(&x), steps);
-    partials.set(low, bundle, steps);
+    partials.extend(low, &lifted(&x), steps);
     runs.enter(at, at + 1, x);
 }
 

@@ -97,6 +97,24 @@ impl<T: AggTree<Bundle>> Partials<T> {
         }
     }
 
+    /// Combines the partial under a time with another one behind it.
+    pub fn extend<L>(&mut self, low: u64, more: &Bundle, steps: &mut Steps<L>)
+        requires time { low ≤ TIME_MAX }
+        requires there { IsTrue (has_key low (self.old).pairs) }
+        ensures extended { (b : Bundled) → IsBundle b → value_at low (self.old).pairs ≡ Some b
+            → (self.new).pairs ≡ replaced low (bundles_combined b more.now) (self.old).pairs }
+        ensures spare { (self.old).spare ≤ (self.new).spare }
+        ensures reach { (self.new).reach ≤ (self.old).reach }
+        ensures cost { steps.new ≤ steps.old + 64 * ((self.old).reach + 3) }
+    {
+        if is_beside(&self.last, low) {
+            extend_beside(&mut self.last, more, steps);
+        } else {
+            let own = self.read(low, steps);
+            self.set(low, own.combine(more, steps), steps);
+        }
+    }
+
     /// Takes out the partial under a time.
     pub fn take<L>(&mut self, low: u64, steps: &mut Steps<L>) -> Bundle
         ensures value { (b : Bundled) → value_at low (self.old).pairs ≡ Some b → result ≡ b }
@@ -174,6 +192,17 @@ fn bundle_beside(last: &Option<(u64, Bundle)>) -> Bundle
     match last {
         Some((_low, partial)) => *partial,
         None => Bundle::unit(),
+    }
+}
+
+// Combines the partial of the pair beside the tree with another one behind it.
+fn extend_beside<L>(last: &mut Option<(u64, Bundle)>, more: &Bundle, steps: &mut Steps<L>)
+    ensures extended { (key : ℕ) (b : Bundled) → last.old ≡ Some (key, b)
+        → last.new ≡ Some (key, bundles_combined b more.now) }
+    ensures cost { steps.new ≤ steps.old + 1 }
+{
+    if let Some((_low, own)) = last {
+        *own = own.combine(more, steps);
     }
 }
 

@@ -4,21 +4,22 @@ use Rattle.std.specs.Prelude.{FitsSigned}
 use Rattle.std.specs.Int.{w64}
 use Rattle.std.proofs.lemmas.List.Elements.{All-cons, All-nil}
 use Rattle.stream_base.specs.Model.Windows.{first_time}
-use Rattle.agg_laws.specs.Bundled.{bundle_of}
+use Rattle.agg_laws.specs.Bundled.{bundle_of, bundles_combined}
 use Rattle.agg_laws.specs.Pairs.{has_key, replaced, value_at}
+use Rattle.agg_laws.proofs.Bundles.{bundle_of-append}
 use Rattle.slice_store.specs.declared.slice.Slice.{Slice}
 use Rattle.slice_store.specs.Slices.{values_of}
 use Rattle.slice_store.specs.Stored.{partial_of}
 use Rattle.slice_store.proofs.PartialFacts.{ends_in_time, extended_there, partial_found, partial_is_value, partial_there, values_at}
 use Rattle.slice_store.proofs.entering.extend.Goals as goal
 
-pub read-own-requires : goal.read-own-requires
-read-own-requires g c =
+pub extend-requires-clause-time : goal.extend-requires-clause-time
+extend-requires-clause-time g c =
     let l : c.args.at < length c.args.runs.now.slices = omega (arith, c.requires.can.within) in
     omega (arith, ap (λ (s : Slice). s.low) c.slice-low.ensures.shown, (ends_in_time c.args.runs.now.slices c.args.at l c.slice-low.ensures.holds).0)
 
-pub set-requires : goal.set-requires
-set-requires g c =
+pub extend-requires-clause-there : goal.extend-requires-clause-there
+extend-requires-clause-there g c =
     let l : c.args.at < length c.args.runs.now.slices = omega (arith, c.requires.can.within) in
     ap (λ (s : Slice). has_key s.low c.args.partials.now.pairs) c.slice-low.ensures.shown
     ∙ ap (has_key (first_time (get_or c.args.runs.now.slices c.args.at []))) c.requires.stand
@@ -28,15 +29,16 @@ pub returns-clause-stand : goal.returns-clause-stand
 returns-clause-stand g c =
     let runs = c.args.runs.now.slices in
     let p = get_or runs c.args.at [] in
+    let x = c.args.x in
     let l : c.args.at < length runs = omega (arith, c.requires.can.within) in
     let found : value_at c.slice-low.result.low c.args.partials.now.pairs ≡ Some (bundle_of (values_of p)) =
     ap (λ (s : Slice). value_at s.low c.args.partials.now.pairs) c.slice-low.ensures.shown
     ∙ ap (value_at (first_time p)) c.requires.stand
     ∙ partial_found runs c.args.at l c.slice-low.ensures.holds.ordered in
-    let own : c.read-own.result ≡ bundle_of (values_of p) = c.read-own.ensures.value (bundle_of (values_of p)) (partial_is_value runs c.args.at l c.slice-low.ensures.holds) found in
-    let both : c.combine-bundle.result ≡ bundle_of (values_of p ++ (c.args.x).value ∷ []) =
-    c.combine-bundle.ensures.joined (values_of p) ((c.args.x).value ∷ []) (values_at runs c.args.at l c.slice-low.ensures.holds) (All-cons (FitsSigned w64) (c.args.x).value [] c.requires.can.value (All-nil (FitsSigned w64))) own c.lifted.ensures in
-    c.set.ensures.replaced
-    ∙ (λ i. replaced (ap (λ (s : Slice). s.low) c.slice-low.ensures.shown i) c.combine-bundle.result (c.requires.stand i))
-    ∙ extended_there runs c.args.at (c.args.at + 1) c.args.x c.slice-low.ensures.holds.ordered c.requires.can.ordered refl l c.requires.late c.combine-bundle.result both
+    let both : bundles_combined (bundle_of (values_of p)) c.lifted.result ≡ bundle_of (values_of p ++ x.value ∷ []) =
+    ap (bundles_combined (bundle_of (values_of p))) c.lifted.ensures
+    ∙ bundle_of-append (values_of p) (x.value ∷ []) (values_at runs c.args.at l c.slice-low.ensures.holds) (All-cons (FitsSigned w64) x.value [] c.requires.can.value (All-nil (FitsSigned w64))) in
+    c.extend.ensures.extended (bundle_of (values_of p)) (partial_is_value runs c.args.at l c.slice-low.ensures.holds) found
+    ∙ (λ i. replaced (ap (λ (s : Slice). s.low) c.slice-low.ensures.shown i) (bundles_combined (bundle_of (values_of p)) c.lifted.result) (c.requires.stand i))
+    ∙ extended_there runs c.args.at (c.args.at + 1) x c.slice-low.ensures.holds.ordered c.requires.can.ordered refl l c.requires.late (bundles_combined (bundle_of (values_of p)) c.lifted.result) both
     ∙ ap (map partial_of) (sym c.enter.ensures.slices)

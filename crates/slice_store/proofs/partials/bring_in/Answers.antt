@@ -1,6 +1,6 @@
 -- The pair's key lies behind those in the tree.
-use Rattle.std.proofs.Common.{◌≡◌, ◌∙◌, ◌++◌, ap, sym, arith}
-use Rattle.slice_store.specs.Apart.{AreBelow, beside}
+use Rattle.std.proofs.Common.{◌∙◌, ◌++◌, ap, sym}
+use Rattle.slice_store.specs.Apart.{beside}
 use Rattle.slice_store.proofs.BesideFacts.{last_absent, last_inserted, some_from, weaker_below}
 use Rattle.slice_store.proofs.partials.bring_in.Goals as goal
 
