@@ -74,19 +74,17 @@ struct Slice {
     partial: Bundle,
 }
 
-const LENGTH: u64 = 100;
-
-fn put(tuples: &mut Vec<Kept>, slices: &mut Vec<Slice>, x: Kept) {
+fn put(tuples: &mut Vec<Kept>, slices: &mut Vec<Slice>, length: u64, x: Kept) {
     let place = match tuples.last() {
         Some(last) if last.time > x.time => tuples.partition_point(|y| y.time <= x.time),
         _ => tuples.len(),
     };
     tuples.insert(place, x);
     let at = match slices.last() {
-        Some(last) if last.low > x.time => slices.partition_point(|s| s.low / LENGTH <= x.time / LENGTH),
+        Some(last) if last.low > x.time => slices.partition_point(|s| s.low / length <= x.time / length),
         _ => slices.len(),
     };
-    if at == 0 || slices[at - 1].low / LENGTH != x.time / LENGTH {
+    if at == 0 || slices[at - 1].low / length != x.time / length {
         slices.insert(at, Slice { low: x.time, high: x.time, number: 1, partial: Bundle::lift(x.value) });
         return;
     }
@@ -108,13 +106,15 @@ fn put(tuples: &mut Vec<Kept>, slices: &mut Vec<Slice>, x: Kept) {
 fn main() {
     let words: Vec<String> = env::args().skip(1).collect();
     let (what, count): (&str, u64) = (words[0].as_str(), words[1].parse().unwrap());
+    // As the store is told it when it runs.
+    let length = black_box(100);
     let (mut tuples, mut slices) = (Vec::new(), Vec::new());
     let mut seed = 1u64;
     for i in 0..count {
         seed = seed.wrapping_mul(6_364_136_223_846_793_005).wrapping_add(1_442_695_040_888_963_407);
         let back = if what == "late" && i % 10 == 0 { (seed >> 33) % 1000 } else { 0 };
         let x = Kept { position: i, time: i.saturating_sub(back), value: (seed >> 40) as i64 };
-        put(&mut tuples, &mut slices, x);
+        put(&mut tuples, &mut slices, length, x);
     }
     let sum = slices.iter().fold(Bundle::unit(), |sum, s| sum.combine(&s.partial));
     black_box(&tuples);
