@@ -1,7 +1,8 @@
 -- The table of keys where the watermark alone moves.
 use Rattle.std.proofs.Common.{◌≡◌, ◌∙◌, ◌≢◌, ◌≤◌, ◌<◌, ℕ, Bool, true, false, cond, List, [], ◌∷◌, ◌++◌, length, map, get_or, ap, sym, refl, subst, arith, Option, None, Some, inl, inr, ⊎_elim, length-append}
 use Rattle.std.specs.Prelude.{EachIndex, nat_le}
-use Rattle.std.specs.BTreeMap.{values}
+use Rattle.std.specs.Map.{values_of}
+use Rattle.std.specs.Cmp.{eq_by_cmp_equiv}
 use Rattle.std.specs.Cmp.Lexicographic.{slice_cmp}
 use Rattle.std.specs.List.{All, AllPairs, Contains, enumerate_from, filter, flat_map}
 use Rattle.std.specs.List.Sorted.{IsStrictlySortedBy}
@@ -12,9 +13,9 @@ use Rattle.std.proofs.lemmas.Cmp.{nat_list_cmp_total}
 use Rattle.std.proofs.lemmas.List.{append-nil, get_or_default}
 use Rattle.std.proofs.lemmas.List.Elements.{Contains-get_or}
 use Rattle.std.proofs.lemmas.List.Kept.{AllPairs-cons, AllPairs-filter}
-use Rattle.std.proofs.lemmas.Map.Keys.{sorted_tail}
+use Rattle.std.proofs.lemmas.Map.Keys.{IsDistinct-from_sorted, sorted_tail}
 use Rattle.std.proofs.lemmas.Map.Lookups.{exact_bytes}
-use Rattle.std.proofs.lemmas.Map.Views.{btree_map_get_iff}
+use Rattle.std.proofs.lemmas.Map.Views.{Contains-from_lookup, lookup-from_Contains, tells_apart}
 use Rattle.key_slicer.specs.Calls.{changes_by_move, moment}
 use Rattle.stream_base.specs.Limits.{AreWithinLimits, Definitions}
 use Rattle.stream_base.specs.declared.change.Change.{Change}
@@ -112,7 +113,12 @@ module _ {K : Type 0} (key_of : K → List ℕ) (fits : Definitions → List Kep
       }
 
 -- ---- the places that are due
-filter_of_map : {X Y : Type 0} (f : X → Y) (p : Y → Bool) (xs : List X) → filter p (map f xs) ≡ map f (filter (λ x. p (f x)) xs)
+-- where nothing passes, nothing is left
+pub none_passes : (p : ℕ → Bool) (xs : List ℕ) → ((x : ℕ) → Contains xs x → p x ≡ false) → [] ≡ filter p xs
+none_passes p [] h = refl
+none_passes p (x ∷ xs) h = none_passes p xs (λ y c. h y (Contains-tail x xs y c)) ∙ ap (λ b. cond b (x ∷ filter p xs) (filter p xs)) (sym (h x (Contains-head x xs)))
+
+pub filter_of_map : {X Y : Type 0} (f : X → Y) (p : Y → Bool) (xs : List X) → filter p (map f xs) ≡ map f (filter (λ x. p (f x)) xs)
 filter_of_map f p [] = refl
 filter_of_map f p (x ∷ xs) = by (p (f x)) (filter_of_map f p xs)
   where
@@ -128,7 +134,7 @@ no_length : {X : Type 0} (xs : List X) → length xs ≤ 0 → xs ≡ []
 no_length [] l = refl
 no_length (x ∷ xs) l = absurd (omega arith)
 
-keys_of_filtered : (p : List ℕ × ℕ → Bool) (es : List (List ℕ × ℕ)) → IsStrictlySortedBy (slice_cmp nat_cmp) (map (λ e. e.0) es) → IsStrictlySortedBy (slice_cmp nat_cmp) (map (λ e. e.0) (filter p es))
+pub keys_of_filtered : (p : List ℕ × ℕ → Bool) (es : List (List ℕ × ℕ)) → IsStrictlySortedBy (slice_cmp nat_cmp) (map (λ e. e.0) es) → IsStrictlySortedBy (slice_cmp nat_cmp) (map (λ e. e.0) (filter p es))
 keys_of_filtered p [] s = s
 keys_of_filtered p (e ∷ es) s = by (p e) (keys_of_filtered p es (sorted_tail (slice_cmp nat_cmp) e.0 (map (λ f. f.0) es) s))
   where
@@ -161,15 +167,15 @@ places_apart (e ∷ es) s one =
 
 module _ {K : Type 0} (key_of : K → List ℕ) (fits : Definitions → List Kept → List ℕ → ℕ → K → Type 0) (next_position : K → ℕ) (d : Definitions) (sources : ℕ) (journal : List Entry) (t : KeyTable K) (c : AreCurrent key_of fits next_position d sources journal t) where
   -- a place is a key's exactly where the index has it so
-  has_place : (key : List ℕ) (p : ℕ) → Contains t.index.entries (key, p) → place_of t key ≡ Some p
-  has_place key p m = (btree_map_get_iff nat_list_cmp_total exact_bytes t.index c.in_order key p).1 m
+  has_place : (key : List ℕ) (p : ℕ) → Contains t.index (key, p) → place_of t key ≡ Some p
+  has_place key p m = lookup-from_Contains (eq_by_cmp_equiv nat_list_cmp_total) key p t.index (IsDistinct-from_sorted (slice_cmp nat_cmp) (map (λ (e : List ℕ × ℕ). e.0) t.index) c.in_order) m
 
-  pub is_entry : (key : List ℕ) (p : ℕ) → place_of t key ≡ Some p → Contains t.index.entries (key, p)
-  is_entry key p at = (btree_map_get_iff nat_list_cmp_total exact_bytes t.index c.in_order key p).0 at
+  pub is_entry : (key : List ℕ) (p : ℕ) → place_of t key ≡ Some p → Contains t.index (key, p)
+  is_entry key p at = Contains-from_lookup (tells_apart exact_bytes) key p t.index at
 
-  pub values_within : All (λ p. p < length t.dues.items) (values t.index)
-  values_within = All_from_members (λ p. p < length t.dues.items) (values t.index)
-      (λ p m. let e : (f : List ℕ × ℕ) × Contains t.index.entries f × (f.1 ≡ p) = map_members (λ (f : List ℕ × ℕ). f.1) t.index.entries p m in
+  pub values_within : All (λ p. p < length t.dues.items) (values_of t.index)
+  values_within = All_from_members (λ p. p < length t.dues.items) (values_of t.index)
+      (λ p m. let e : (f : List ℕ × ℕ) × Contains t.index f × (f.1 ≡ p) = map_members (λ (f : List ℕ × ℕ). f.1) t.index p m in
       let within : (e.0).1 < length t.slots.items = c.placed (e.0).0 (e.0).1 (has_place (e.0).0 (e.0).1 e.1) in
       omega (arith, c.aligned, e.2))
 
@@ -182,8 +188,8 @@ module _ {K : Type 0} (key_of : K → List ℕ) (fits : Definitions → List Kep
 
     due_place : (p : ℕ) → Contains (due_places t new) p → IsDuePlace p
     due_place p m =
-        let f : Contains (values t.index) p × (nat_le (get_or t.dues.items p 0) new ≡ true) = filter_members (λ q. nat_le (get_or t.dues.items q 0) new) (values t.index) p m in
-        let e : (g : List ℕ × ℕ) × Contains t.index.entries g × (g.1 ≡ p) = map_members (λ (g : List ℕ × ℕ). g.1) t.index.entries p f.0 in
+        let f : Contains (values_of t.index) p × (nat_le (get_or t.dues.items p 0) new ≡ true) = filter_members (λ q. nat_le (get_or t.dues.items q 0) new) (values_of t.index) p m in
+        let e : (g : List ℕ × ℕ) × Contains t.index g × (g.1 ≡ p) = map_members (λ (g : List ℕ × ℕ). g.1) t.index p f.0 in
         record {
           key = (e.0).0;
           at = has_place (e.0).0 (e.0).1 e.1 ∙ ap (λ q. Some q) e.2;
@@ -194,14 +200,14 @@ module _ {K : Type 0} (key_of : K → List ℕ) (fits : Definitions → List Kep
     due_at i l = due_place (get_or (due_places t new) i 0) (Contains-get_or (due_places t new) i 0 l)
 
     pub is_due : (key : List ℕ) (p : ℕ) → place_of t key ≡ Some p → get_or t.dues.items p 0 ≤ new → Contains (due_places t new) p
-    is_due key p at due = filter_has (λ q. nat_le (get_or t.dues.items q 0) new) (values t.index) p (map_has (λ (g : List ℕ × ℕ). g.1) t.index.entries (key, p) (is_entry key p at)) (le-leb (get_or t.dues.items p 0) new due)
+    is_due key p at due = filter_has (λ q. nat_le (get_or t.dues.items q 0) new) (values_of t.index) p (map_has (λ (g : List ℕ × ℕ). g.1) t.index (key, p) (is_entry key p at)) (le-leb (get_or t.dues.items p 0) new due)
 
     pub due_places_apart : AreApart (due_places t new)
     due_places_apart i j l m =
         let first : IsDuePlace (get_or (due_places t new) i 0) = due_at i (omega arith) in
         let x : Slot K = any_slot t.slots.items (omega (arith, c.placed first.key (get_or (due_places t new) i 0) first.at)) in
-        AllPairs-filter (λ (a b : ℕ). a ≢ b) (λ p. nat_le (get_or t.dues.items p 0) new) (values t.index)
-        (places_apart t.index.entries c.in_order
+        AllPairs-filter (λ (a b : ℕ). a ≢ b) (λ p. nat_le (get_or t.dues.items p 0) new) (values_of t.index)
+        (places_apart t.index c.in_order
         (λ e f a b same. one_key key_of fits next_position d sources journal t e.0 f.0 e.1 x c (has_place e.0 e.1 a) (has_place f.0 f.1 b ∙ ap (λ p. Some p) (sym same))))
         i j 0 l m
 
@@ -221,7 +227,7 @@ module _ {K : Type 0} (key_of : K → List ℕ) (fits : Definitions → List Kep
 
     -- the keys of the places that are due
     due_keys : List (List ℕ)
-    due_keys = map (λ (e : List ℕ × ℕ). e.0) (filter (λ (e : List ℕ × ℕ). nat_le (get_or t.dues.items e.1 0) new) t.index.entries)
+    due_keys = map (λ (e : List ℕ × ℕ). e.0) (filter (λ (e : List ℕ × ℕ). nat_le (get_or t.dues.items e.1 0) new) t.index)
 
     is_due_entry : List ℕ × ℕ → Bool
     is_due_entry f = nat_le (get_or t.dues.items f.1 0) new
@@ -235,7 +241,7 @@ module _ {K : Type 0} (key_of : K → List ℕ) (fits : Definitions → List Kep
       unfolding due_keys is_due_entry
       due_changes =
           progress_changes d sources journal e progress new limits is
-          ∙ same_for_keys (key_moves d sources journal e progress new) (keys_of journal) due_keys (keys_in_order journal) (keys_of_filtered is_due_entry t.index.entries c.in_order) not_due not_known
+          ∙ same_for_keys (key_moves d sources journal e progress new) (keys_of journal) due_keys (keys_in_order journal) (keys_of_filtered is_due_entry t.index c.in_order) not_due not_known
         where
           nothing : (key : List ℕ) → kept_of d.lateness sources key journal ≡ [] → key_moves d sources journal e progress new key ≡ []
           nothing key none = no_changes_of_none d.windows key (moment (kept_of d.lateness sources key journal) (marks_of d.lateness sources key journal) (water_of sources journal)) (moment (kept_of d.lateness sources key journal) (marks_of d.lateness sources key journal) new) none none
@@ -249,7 +255,7 @@ module _ {K : Type 0} (key_of : K → List ℕ) (fits : Definitions → List Kep
                   let x : Slot K = any_slot t.slots.items (omega (arith, c.placed key p at)) in
                   ⊎_elim
                   (λ early. no_key_move key_of fits next_position d sources journal limits key (get_or t.slots.items p x) (get_or t.dues.items p 0) (c.current key p x at) new further early)
-                  (λ due. absurd (not (map_has (λ (f : List ℕ × ℕ). f.0) (filter is_due_entry t.index.entries) (key, p) (filter_has is_due_entry t.index.entries (key, p) (is_entry key p at) (le-leb (get_or t.dues.items p 0) new due)))))
+                  (λ due. absurd (not (map_has (λ (f : List ℕ × ℕ). f.0) (filter is_due_entry t.index) (key, p) (filter_has is_due_entry t.index (key, p) (is_entry key p at) (le-leb (get_or t.dues.items p 0) new due)))))
                   (cases_lt new (get_or t.dues.items p 0))
 
           not_known : (key : List ℕ) → Contains due_keys key → (Contains (keys_of journal) key → ⊥) → key_moves d sources journal e progress new key ≡ []
@@ -260,16 +266,16 @@ module _ {K : Type 0} (key_of : K → List ℕ) (fits : Definitions → List Kep
           → flat_map (λ p. moves_of key_of d (λ key. kept_of d.lateness sources key journal) (λ key. marks_of d.lateness sources key journal) new (get_or t.slots.items p x)) (due_places t new) ≡ changes_after d sources journal e
       unfolding due_keys is_due_entry
       moves_are_changes x =
-          ap (flat_map moves) (filter_of_map (λ (f : List ℕ × ℕ). f.1) (λ p. nat_le (get_or t.dues.items p 0) new) t.index.entries)
-          ∙ flat_map_of_map (λ (f : List ℕ × ℕ). f.1) moves (filter is_due_entry t.index.entries)
-          ∙ flat_map_same (λ f. moves f.1) (λ f. key_moves d sources journal e progress new f.0) (filter is_due_entry t.index.entries) (λ f m. as_key f (filter_members is_due_entry t.index.entries f m).0)
-          ∙ sym (flat_map_of_map (λ (f : List ℕ × ℕ). f.0) (key_moves d sources journal e progress new) (filter is_due_entry t.index.entries))
+          ap (flat_map moves) (filter_of_map (λ (f : List ℕ × ℕ). f.1) (λ p. nat_le (get_or t.dues.items p 0) new) t.index)
+          ∙ flat_map_of_map (λ (f : List ℕ × ℕ). f.1) moves (filter is_due_entry t.index)
+          ∙ flat_map_same (λ f. moves f.1) (λ f. key_moves d sources journal e progress new f.0) (filter is_due_entry t.index) (λ f m. as_key f (filter_members is_due_entry t.index f m).0)
+          ∙ sym (flat_map_of_map (λ (f : List ℕ × ℕ). f.0) (key_moves d sources journal e progress new) (filter is_due_entry t.index))
           ∙ sym due_changes
         where
           moves : ℕ → List Change
           moves p = moves_of key_of d (λ key. kept_of d.lateness sources key journal) (λ key. marks_of d.lateness sources key journal) new (get_or t.slots.items p x)
 
-          as_key : (f : List ℕ × ℕ) → Contains t.index.entries f → moves f.1 ≡ key_moves d sources journal e progress new f.0
+          as_key : (f : List ℕ × ℕ) → Contains t.index f → moves f.1 ≡ key_moves d sources journal e progress new f.0
           as_key f m =
               let was : IsCurrent key_of fits next_position d sources journal f.0 (get_or t.slots.items f.1 x) (get_or t.dues.items f.1 0) = c.current f.0 f.1 x (has_place f.0 f.1 m) in
               ap (λ k. changes_by_move d k (kept_of d.lateness sources k journal) (marks_of d.lateness sources k journal) (get_or t.slots.items f.1 x).water new) was.of_key
@@ -279,7 +285,7 @@ module _ {K : Type 0} (key_of : K → List ℕ) (fits : Definitions → List Kep
       pub nothing_due_nothing_changes : due_places t new ≡ [] → changes_after d sources journal e ≡ []
       unfolding due_keys is_due_entry
       nothing_due_nothing_changes none =
-          let no_entry : filter is_due_entry t.index.entries ≡ [] = map_none (λ (f : List ℕ × ℕ). f.1) (filter is_due_entry t.index.entries) (sym (filter_of_map (λ (f : List ℕ × ℕ). f.1) (λ p. nat_le (get_or t.dues.items p 0) new) t.index.entries) ∙ none) in
+          let no_entry : filter is_due_entry t.index ≡ [] = map_none (λ (f : List ℕ × ℕ). f.1) (filter is_due_entry t.index) (sym (filter_of_map (λ (f : List ℕ × ℕ). f.1) (λ p. nat_le (get_or t.dues.items p 0) new) t.index) ∙ none) in
           due_changes ∙ ap (λ fs. flat_map (key_moves d sources journal e progress new) (map (λ (f : List ℕ × ℕ). f.0) fs)) no_entry
 
       -- so the changes that all those moves append are those of the entry
@@ -306,6 +312,7 @@ module _ {K : Type 0} (key_of : K → List ℕ) (fits : Definitions → List Kep
   same_table old new index dues same c = record {
     in_order = rw index c.in_order;
     aligned = ap (λ v. length v.items) dues ∙ c.aligned ∙ sym same.as_many;
+    counted = same.as_many ∙ c.counted ∙ sym (ap length index);
     placed = λ key p at. subst (λ n. p < n) (sym same.as_many) (c.placed key p (rw (← index) at));
     current = λ key p x at. rw dues (alike key_of fits next_position d sources journal key (get_or old.slots.items p x) (get_or new.slots.items p x) (get_or old.dues.items p 0) (same.each_same p x) (c.current key p x (rw (← index) at)));
     nothing_kept = λ key at. c.nothing_kept key (rw (← index) at);
@@ -326,6 +333,7 @@ module _ {K : Type 0} (key_of : K → List ℕ) (fits : Definitions → List Kep
   moved_table old new e water limits progress is c index n n_dues others other_dues moved = record {
     in_order = rw index c.in_order;
     aligned = n_dues ∙ c.aligned ∙ sym n;
+    counted = n ∙ c.counted ∙ sym (ap length index);
     placed = λ key p at. subst (λ k. p < k) (sym n) (c.placed key p (rw (← index) at));
     current = λ key p x at. ⊎_elim (λ early. waiting key p x (rw (← index) at) early) (λ due. on key p x (rw (← index) at) due) (cases_lt water (get_or old.dues.items p 0));
     nothing_kept = λ key at. (progress_stays d sources journal e progress key).kept ∙ c.nothing_kept key (rw (← index) at);
@@ -361,6 +369,7 @@ module _ {K : Type 0} (key_of : K → List ℕ) (fits : Definitions → List Kep
   still_table t e same water c = record {
     in_order = c.in_order;
     aligned = c.aligned;
+    counted = c.counted;
     placed = c.placed;
     current = λ key p x at. still_current key_of fits next_position d sources journal (journal ++ e ∷ []) key (get_or t.slots.items p x) (get_or t.dues.items p 0) (same key) (rw length-append (omega arith)) water (c.current key p x at);
     nothing_kept = λ key at. (same key).kept ∙ c.nothing_kept key at;
@@ -392,14 +401,14 @@ module _ {K : Type 0} (key_of : K → List ℕ) (fits : Definitions → List Kep
 
   -- the rows of the keys in the table are those of all keys
   pub rows_of_table : (t : KeyTable K) → AreCurrent key_of fits next_position d sources journal t
-      → flat_map (λ (e : List ℕ × ℕ). rows_at d.windows e.0 (moment_of d sources e.0 journal)) t.index.entries ≡ standing_rows d sources journal
+      → flat_map (λ (e : List ℕ × ℕ). rows_at d.windows e.0 (moment_of d sources e.0 journal)) t.index ≡ standing_rows d sources journal
   unfolding standing_rows
   rows_of_table t c =
-      sym (flat_map_of_map (λ (e : List ℕ × ℕ). e.0) (λ key. rows_at d.windows key (moment_of d sources key journal)) t.index.entries)
-      ∙ same_for_keys (λ key. rows_at d.windows key (moment_of d sources key journal)) (map (λ (e : List ℕ × ℕ). e.0) t.index.entries) (keys_of journal) c.in_order (keys_in_order journal)
+      sym (flat_map_of_map (λ (e : List ℕ × ℕ). e.0) (λ key. rows_at d.windows key (moment_of d sources key journal)) t.index)
+      ∙ same_for_keys (λ key. rows_at d.windows key (moment_of d sources key journal)) (map (λ (e : List ℕ × ℕ). e.0) t.index) (keys_of journal) c.in_order (keys_in_order journal)
       (λ key m out. no_rows_of_none d.windows key (moment_of d sources key journal) (nothing_kept d.lateness sources key journal out))
       (λ key m out. no_rows_of_none d.windows key (moment_of d sources key journal) (c.nothing_kept key (no_place key out (place_of t key) refl)))
     where
-      no_place : (key : List ℕ) → (Contains (map (λ (e : List ℕ × ℕ). e.0) t.index.entries) key → ⊥) → (o : Option ℕ) → place_of t key ≡ o → place_of t key ≡ None
+      no_place : (key : List ℕ) → (Contains (map (λ (e : List ℕ × ℕ). e.0) t.index) key → ⊥) → (o : Option ℕ) → place_of t key ≡ o → place_of t key ≡ None
       no_place key out None at = at
-      no_place key out (Some p) at = absurd (out (map_has (λ (e : List ℕ × ℕ). e.0) t.index.entries (key, p) (is_entry key_of fits next_position d sources journal t c key p at)))
+      no_place key out (Some p) at = absurd (out (map_has (λ (e : List ℕ × ℕ). e.0) t.index (key, p) (is_entry key_of fits next_position d sources journal t c key p at)))

@@ -96,7 +96,7 @@ module _ {K : Type 0} (key_of : K → List ℕ) (fits : Definitions → List Kep
       → place_of old key ≡ Some p
       → slot ≡ get_or old.slots.items p slot
       → slot.water ≡ water_of sources journal
-      → new.index.entries ≡ old.index.entries
+      → new.index ≡ old.index
       → new.slots.items ≡ set old.slots.items p new_slot
       → new.dues.items ≡ set old.dues.items p due
       → key_of new_slot.state ≡ key_of slot.state

@@ -1,4 +1,5 @@
 pub mod Places
+pub mod Placing
 pub mod Journals
 pub mod Entries
 pub mod Moves

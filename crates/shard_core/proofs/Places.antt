@@ -1,7 +1,7 @@
 -- The table of keys where a key is added.
 use Rattle.std.proofs.Common.{◌≡◌, ◌≢◌, ◌∙◌, ◌≤◌, ◌<◌, ◌+◌, ℕ, Bool, true, false, cond, List, [], ◌∷◌, ◌++◌, length, map, get_or, get_or-set_other, get_or-set_same, set, ap, sym, refl, subst, arith, None, Some, inl, ⊎_elim, length-append, Result, Ok, Err}
 use Rattle.std.specs.Result.{OnErr}
-use Rattle.std.specs.BTreeMap.{IsOrdered, is_at}
+use Rattle.std.specs.BTreeMap.{is_at}
 use Rattle.std.specs.List.Sorted.{IsStrictlySortedBy}
 use Rattle.std.specs.Map.{lookup}
 use Rattle.std.specs.Cmp.Lexicographic.{slice_cmp}
@@ -17,6 +17,7 @@ use Rattle.stream_base.specs.declared.kept.Kept.{Kept}
 use Rattle.stream_base.specs.Model.Journal.{kept_of, marks_of}
 use Rattle.stream_base.specs.Model.Watermark.{water_of}
 use Rattle.stream_base.proofs.Absent.{bytes_eq_true}
+use Rattle.shard_core.specs.Placed.{AreByKey}
 use Rattle.shard_core.specs.declared.keys.KeyTable.{KeyTable}
 use Rattle.shard_core.specs.declared.slot.Slot.{Slot}
 use Rattle.shard_core.specs.Engines.{AreCurrent, IsCurrent, IsQuiet, IsSameSlot, place_of}
@@ -30,7 +31,7 @@ pub on_err : {T E P : Type 0} (r : Result T E) → P → OnErr r P
 on_err (Ok x) h = tt
 on_err (Err e) h = h
 
-some_is : {X : Type 0} (x y : X) → Some x ≡ Some y → x ≡ y
+pub some_is : {X : Type 0} (x y : X) → Some x ≡ Some y → x ≡ y
 some_is x y h = cc
 
 -- a slot that stands under another watermark than this later one stands under an earlier one
@@ -44,12 +45,13 @@ is_behind {K} slots place here there water now inside rises is_here is_there oth
 module _ {K : Type 0} (key_of : K → List ℕ) (fits : Definitions → List Kept → List ℕ → ℕ → K → Type 0) (next_position : K → ℕ) (d : Definitions) (sources : ℕ) (journal : List Entry) where
   -- the same slots under the same keys
   pub unchanged : (old new : KeyTable K)
-      → new.index.entries ≡ old.index.entries → new.slots.items ≡ old.slots.items → new.dues.items ≡ old.dues.items
+      → new.index ≡ old.index → new.slots.items ≡ old.slots.items → new.dues.items ≡ old.dues.items
       → AreCurrent key_of fits next_position d sources journal old
       → AreCurrent key_of fits next_position d sources journal new
   unchanged old new index slots dues c = record {
     in_order = subst (λ es. IsStrictlySortedBy (slice_cmp nat_cmp) (map (λ (e : List ℕ × ℕ). e.0) es)) (sym index) c.in_order;
     aligned = ap length dues ∙ c.aligned ∙ sym (ap length slots);
+    counted = ap length slots ∙ c.counted ∙ sym (ap length index);
     placed = λ q p at. subst (λ n. p < n) (sym (ap length slots)) (c.placed q p (there q ∙ at));
     current = λ q p x at. rw (slots, dues) (c.current q p x (there q ∙ at));
     nothing_kept = λ q at. c.nothing_kept q (there q ∙ at);
@@ -64,7 +66,8 @@ module _ {K : Type 0} (key_of : K → List ℕ) (fits : Definitions → List Kep
       → AreCurrent key_of fits next_position d sources journal old
       → place_of old key ≡ None
       → ((q : List ℕ) → place_of new q ≡ cond (is_at (slice_cmp nat_cmp key) q) (Some (length old.slots.items)) (place_of old q))
-      → IsOrdered (slice_cmp nat_cmp) new.index
+      → AreByKey new.index
+      → length new.index ≡ length old.index + 1
       → new.slots.items ≡ old.slots.items ++ slot ∷ []
       → new.dues.items ≡ old.dues.items ++ due ∷ []
       → key_of slot.state ≡ key
@@ -73,9 +76,10 @@ module _ {K : Type 0} (key_of : K → List ℕ) (fits : Definitions → List Kep
       → slot.water ≡ water_of sources journal
       → IsQuiet d key [] [] slot.water due
       → AreCurrent key_of fits next_position d sources journal new
-  added old new key slot due c absent index ordered slots dues of_key first empty water quiet = record {
+  added old new key slot due c absent index ordered len slots dues of_key first empty water quiet = record {
     in_order = ordered;
     aligned = ap length dues ∙ length-append old.dues.items (due ∷ []) ∙ ap (λ n. n + 1) c.aligned ∙ sym (ap length slots ∙ length-append old.slots.items (slot ∷ []));
+    counted = ap length slots ∙ length-append old.slots.items (slot ∷ []) ∙ ap (λ n. n + 1) c.counted ∙ sym len;
     placed = λ q p at. placed q p (is_at (slice_cmp nat_cmp key) q) refl (sym (index q) ∙ at);
     current = λ q p x at. current q p x (is_at (slice_cmp nat_cmp key) q) refl (sym (index q) ∙ at);
     nothing_kept = λ q at. c.nothing_kept q (other q (is_at (slice_cmp nat_cmp key) q) (sym (index q) ∙ at));
@@ -147,7 +151,7 @@ module _ {K : Type 0} (key_of : K → List ℕ) (fits : Definitions → List Kep
   pub replaced : (journal longer : List Entry) (old new : KeyTable K) (key : List ℕ) (p : ℕ) (slot : Slot K) (due : ℕ)
       → AreCurrent key_of fits next_position d sources journal old
       → place_of old key ≡ Some p
-      → new.index.entries ≡ old.index.entries
+      → new.index ≡ old.index
       → new.slots.items ≡ set old.slots.items p slot
       → new.dues.items ≡ set old.dues.items p due
       → ((q : List ℕ) → (q ≡ key → ⊥) → IsSameFor d sources journal longer q)
@@ -158,6 +162,7 @@ module _ {K : Type 0} (key_of : K → List ℕ) (fits : Definitions → List Kep
   replaced journal longer old new key p slot due c at index slots dues same long water own = record {
     in_order = subst (λ es. IsStrictlySortedBy (slice_cmp nat_cmp) (map (λ (e : List ℕ × ℕ). e.0) es)) (sym index) c.in_order;
     aligned = ap length dues ∙ length-set old.dues.items p due ∙ c.aligned ∙ sym (ap length slots ∙ length-set old.slots.items p slot);
+    counted = ap length slots ∙ length-set old.slots.items p slot ∙ c.counted ∙ sym (ap length index);
     placed = λ q n is. subst (λ k. n < k) (sym (ap length slots ∙ length-set old.slots.items p slot)) (c.placed q n (there q ∙ is));
     current = λ q n x is. ⊎_elim (λ e. here q n x (there q ∙ is) e.1) (λ e. elsewhere q n x (there q ∙ is) e.1) (eqb_tells p n);
     nothing_kept = λ q is. (same q (other q (there q ∙ is))).kept ∙ c.nothing_kept q (there q ∙ is);

@@ -23,10 +23,11 @@ none_some : {X : Type 0} {x : X} → None ≡ Some x → ⊥
 none_some h = cc
 
 module _ {K : Type 0} (key_of : K → List ℕ) (fits : Definitions → List Kept → List ℕ → ℕ → K → Type 0) (next_position : K → ℕ) where
-  empty_table : (d : Definitions) (sources : ℕ) (t : KeyTable K) → t.index.entries ≡ [] → t.slots.items ≡ [] → t.dues.items ≡ [] → AreCurrent key_of fits next_position d sources [] t
+  empty_table : (d : Definitions) (sources : ℕ) (t : KeyTable K) → t.index ≡ [] → t.slots.items ≡ [] → t.dues.items ≡ [] → AreCurrent key_of fits next_position d sources [] t
   empty_table d sources t index slots dues = record {
     in_order = rw index (sorted_nil nat_list_cmp_total);
     aligned = ap length dues ∙ sym (ap length slots);
+    counted = ap length slots ∙ sym (ap length index);
     placed = λ key p at. absurd (none_some (sym (nowhere key) ∙ at));
     current = λ key p x at. absurd (none_some (sym (nowhere key) ∙ at));
     nothing_kept = λ key at. kept_of_nil d.lateness sources key;
@@ -36,7 +37,7 @@ module _ {K : Type 0} (key_of : K → List ℕ) (fits : Definitions → List Kep
       nowhere : (key : List ℕ) → place_of t key ≡ None
       nowhere key = ap (lookup (is_at (slice_cmp nat_cmp key))) index
 
-  pub empty_shard : (past : Recorded) (t : KeyTable K) (changes : List Change) (ends : List ℕ) → past.journal ≡ [] → t.index.entries ≡ [] → t.slots.items ≡ [] → t.dues.items ≡ [] → changes ≡ [] → ends ≡ []
+  pub empty_shard : (past : Recorded) (t : KeyTable K) (changes : List Change) (ends : List ℕ) → past.journal ≡ [] → t.index ≡ [] → t.slots.items ≡ [] → t.dues.items ≡ [] → changes ≡ [] → ends ≡ []
       → IsShard key_of fits next_position past t changes ends
   empty_shard past t changes ends none index slots dues no_changes no_ends = record {
     keys_are = rw none (empty_table past.defs past.sources t index slots dues);

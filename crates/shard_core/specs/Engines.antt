@@ -1,8 +1,6 @@
 -- What the table of keys keeps of each key.
 use Rattle.std.specs.Prelude.{◌≡◌, ◌≤◌, ◌<◌, ◌⊎◌, ℕ, List, [], ◌∷◌, ◌++◌, Option, None, Some, length, slice_index, slice_index_or, ◌≢◌, EachIndex, nat_le}
-use Rattle.std.specs.BTreeMap.{IsOrdered, get, values}
-use Rattle.std.specs.Cmp.Lexicographic.{slice_cmp}
-use Rattle.std.specs.Ordering.{nat_cmp}
+use Rattle.std.specs.Map.{values_of}
 use Rattle.key_slicer.specs.Calls.{Call, changes_by_move}
 use Rattle.key_slicer.specs.Calls.Call.{Move}
 use Rattle.std.specs.List.{HoldsAt, filter}
@@ -12,6 +10,7 @@ use Rattle.stream_base.specs.declared.entry.Entry.{Entry}
 use Rattle.stream_base.specs.declared.kept.Kept.{Kept}
 use Rattle.stream_base.specs.Model.Journal.{kept_of, marks_of}
 use Rattle.stream_base.specs.Model.Watermark.{water_of}
+use Rattle.shard_core.specs.Placed.{AreByKey, place_in}
 use Rattle.shard_core.specs.Recorded.{Recorded}
 use Rattle.shard_core.specs.declared.keys.KeyTable.{KeyTable}
 use Rattle.shard_core.specs.declared.slot.Slot.{Slot}
@@ -37,7 +36,7 @@ CanMove is_ready water slot = is_ready (Move slot.water water) slot.state
 
 -- the place of a key in the table
 abbrev pub place_of : {K : Type 0} → KeyTable K → List ℕ → Option ℕ
-place_of t key = get (slice_cmp nat_cmp) t.index key
+place_of t key = place_in t.index key
 
 module _ {K : Type 0} (key_of : K → List ℕ) (fits : Definitions → List Kept → List ℕ → ℕ → K → Type 0) (next_position : K → ℕ) (d : Definitions) (sources : ℕ) (journal : List Entry) where
   -- a slot has the state of a key after a journal, under a watermark of its own: the journal's, or an earlier one up from which nothing was due yet
@@ -51,8 +50,9 @@ module _ {K : Type 0} (key_of : K → List ℕ) (fits : Definitions → List Kep
 
   -- each key with a place is current there, and nothing is kept of any other
   pub record AreCurrent (t : KeyTable K) : Type 0 where
-    pub in_order : IsOrdered (slice_cmp nat_cmp) t.index
+    pub in_order : AreByKey t.index
     pub aligned : length t.dues.items ≡ length t.slots.items
+    pub counted : length t.slots.items ≡ length t.index
     pub placed : (key : List ℕ) (p : ℕ) → place_of t key ≡ Some p → p < length t.slots.items
     pub current : (key : List ℕ) (p : ℕ) (slot : Slot K) → place_of t key ≡ Some p → IsCurrent key (slice_index_or t.slots.items p slot) (slice_index t.dues.items p)
     pub nothing_kept : (key : List ℕ) → place_of t key ≡ None → kept_of d.lateness sources key journal ≡ []
@@ -68,7 +68,7 @@ IsTableWith key_of fits next_position past e t = AreCurrent key_of fits next_pos
 
 -- the places of the states that are due at a watermark, by the bytes of their keys
 abbrev pub due_places : {K : Type 0} → KeyTable K → ℕ → List ℕ
-due_places t water = filter (λ p. nat_le (slice_index t.dues.items p) water) (values t.index)
+due_places t water = filter (λ p. nat_le (slice_index t.dues.items p) water) (values_of t.index)
 
 -- no place stands twice
 abbrev pub AreApart : List ℕ → Type 0

@@ -1,5 +1,6 @@
 pub mod Shard
 pub mod Recorded
 pub mod Past
+pub mod Placed
 pub mod Engines
 pub mod Flat

@@ -1,6 +1,5 @@
 ghost use Rattle.std.specs.Prelude.{◌≡◌, ◌≤◌, ◌<◌, ◌+◌, ◌++◌, ◌∷◌, [], ℕ, List, true, IfOk, OnOk, OnErr, Some, None, IfSome, length, All, EachIndex, sum_by, ◌-◌, vec_len, vec_capacity, slice_index, slice_index_or};
 ghost use Rattle.std.specs.List.{HoldsAt, flat_map};
-ghost use Rattle.std.specs.BTreeMap.{IsEmpty, values};
 ghost use Rattle.key_slicer.specs.Calls.{changes_by_move};
 ghost use Rattle.key_slicer.specs.Calls.Call.{Move};
 ghost use Rattle.stream_base.specs.declared.kept.Kept.{Kept};
@@ -12,31 +11,31 @@ ghost use Rattle.stream_base.specs.Model.What.{is_progress};
 ghost use Rattle.stream_base.specs.Model.Watermark.{water_of};
 ghost use Rattle.shard_core.specs.Engines.{AreCurrent, AreMovable, AreSameSlots, IsMovedSlot, IsSameElsewhere, IsSameOutside, IsSameSlot, IsTableOf, IsTableWith, StandsIn, due_places, moves_of, place_of};
 
+use crate::key_index::KeyIndex;
 use crate::past::Past;
 use crate::slot::Slot;
 use agg_laws::Steps;
 use key_slicer::KeyWindows;
 use std::alloc::Global;
-use std::collections::BTreeMap;
 use stream_base::{Change, Defs, KeyText, NoMemory};
 
 // The states of the keys. A key has its place in the order in which keys came; each state stands
 // under a watermark of its own, and beside it is up to which watermark nothing is due.
 #[derive(Drop)]
 pub struct KeyTable<K> {
-    pub index: BTreeMap<KeyText, usize>,
+    pub index: KeyIndex,
     pub slots: Vec<Slot<K>>,
     pub dues: Vec<u64>,
 }
 
 impl<K: KeyWindows> KeyTable<K> {
     pub fn new(alloc: Global) -> KeyTable<K>
-        ensures index { IsEmpty result.index }
+        ensures index { result.index ≡ [] }
         ensures slots { result.slots.items ≡ [] }
         ensures dues { result.dues.items ≡ [] }
     {
         KeyTable {
-            index: BTreeMap::new(alloc),
+            index: KeyIndex::new(alloc),
             slots: Vec::new(alloc),
             dues: Vec::new(alloc),
         }
@@ -57,7 +56,7 @@ impl<K: KeyWindows> KeyTable<K> {
             → AreCurrent K.key_of K.fits K.next_position defs.now sources journal self.new }
     {
         match self.index.get(key) {
-            Some(place) => Ok(*place),
+            Some(place) => Ok(place),
             None => self.add(alloc, defs, key, water),
         }
     }
@@ -77,12 +76,11 @@ impl<K: KeyWindows> KeyTable<K> {
             → AreCurrent K.key_of K.fits K.next_position defs.now sources journal self.old
             → AreCurrent K.key_of K.fits K.next_position defs.now sources journal self.new }
     {
-        let place = self.slots.len();
         self.slots.reserve(1)?;
         self.dues.reserve(1)?;
         let slot = Slot::fresh(alloc, defs, *key, water)?;
         let due = slot.due(defs);
-        self.index.insert(*key, place)?;
+        let place = self.index.add(key)?;
         self.slots.push_reserved(slot);
         self.dues.push_reserved(due);
         Ok(place)

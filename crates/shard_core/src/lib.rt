@@ -10,6 +10,7 @@ use key_slicer::KeyState;
 
 mod applied;
 mod intake;
+mod key_index;
 mod keys;
 mod moving;
 mod past;

@@ -1,6 +1,6 @@
 ghost use Rattle.std.specs.Prelude.{◌≡◌, ◌≤◌, ◌<◌, ◌+◌, ◌++◌, ◌∷◌, [], ℕ, List, true, IfOk, OnOk, OnErr, Some, None, IfSome, length, All, EachIndex, sum_by, ◌-◌, vec_len, vec_capacity, slice_index, slice_index_or, ◌↔◌, IsTrue};
 ghost use Rattle.std.specs.List.{HoldsAt, flat_map};
-ghost use Rattle.std.specs.BTreeMap.{IsEmpty, values};
+ghost use Rattle.std.specs.Map.{values_of};
 ghost use Rattle.key_slicer.specs.Calls.{changes_by_move};
 ghost use Rattle.key_slicer.specs.Calls.Call.{Move};
 ghost use Rattle.stream_base.specs.declared.kept.Kept.{Kept};
@@ -55,19 +55,14 @@ impl<K: KeyWindows> KeyTable<K> {
 
     // The places of the states that are due at a watermark, by the bytes of their keys.
     fn due_places(&self, alloc: Global, water: u64) -> Result<Vec<usize>, NoMemory>
-        requires { All (λ p. p < length self.now.dues.items) (values self.now.index) }
+        requires places { All (λ p. p < length self.now.dues.items) (values_of self.now.index) }
+        requires counted { length self.now.dues.items ≡ length self.now.index }
         ensures { IfOk result (λ places. places.items ≡ due_places self.now water) }
     {
-        let mut places = Vec::new(alloc);
         if none_reached(&self.dues, water) {
-            return Ok(places);
+            return Ok(Vec::new(alloc));
         }
-        for place in self.index.values() {
-            if self.dues[*place] <= water {
-                places.push(*place)?;
-            }
-        }
-        Ok(places)
+        self.index.due(alloc, &self.dues, water)
     }
 
     // Makes room for the move of the state at a place, and answers for how many changes.

@@ -29,7 +29,7 @@ impl<K: KeyWindows> KeyTable<K> {
     {
         let _water = past.water();
         let mut rows = Vec::new(alloc);
-        for (_key, place) in &self.index {
+        for (_key, place) in self.index.by_key() {
             self.append_rows(past, *place, &mut rows, steps)?;
         }
         Ok(rows)
@@ -63,7 +63,7 @@ impl<K: KeyWindows> KeyTable<K> {
             ≡ length (slices_after past.now.defs past.now.sources past.now.journal key.now) }
     {
         match self.index.get(key) {
-            Some(place) => self.count_slices(past, *place),
+            Some(place) => self.count_slices(past, place),
             None => 0,
         }
     }

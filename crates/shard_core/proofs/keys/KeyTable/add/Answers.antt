@@ -1,10 +1,11 @@
 -- A fresh slot comes behind the others, or nothing changes.
-use Rattle.std.proofs.Common.{◌≡◌, ◌∙◌, ◌++◌, ◌∷◌, [], List, ℕ, Some, cond, length, arith, ap, refl, subst, sym}
+use Rattle.std.proofs.Common.{◌≡◌, ◌∙◌, ◌++◌, ◌∷◌, [], List, ℕ, Some, cond, length, ap, refl, subst, sym}
 use Rattle.std.specs.BTreeMap.{is_at}
 use Rattle.std.specs.Cmp.Lexicographic.{slice_cmp}
 use Rattle.std.specs.Ordering.{nat_cmp}
 use Rattle.shard_core.specs.Engines.{IsQuiet, place_of}
 use Rattle.shard_core.proofs.Places.{added, unchanged}
+use Rattle.shard_core.proofs.Placing.{at_itself}
 use Rattle.shard_core.proofs.keys.KeyTable.add.Goals as goal
 
 pub returns-in_err-reserve-clause-current : goal.returns-in_err-reserve-clause-current
@@ -19,18 +20,23 @@ pub returns-in_err-slot-clause-current : goal.returns-in_err-slot-clause-current
 returns-in_err-slot-clause-current g c sources journal w h =
     unchanged g.K.KeyWindows.key_of g.K.KeyWindows.fits g.K.KeyWindows.next_position c.args.defs.now sources journal c.args.self.now _ refl c.reserve.ensures.items c.reserve-2.ensures.items h
 
-pub returns-in_err-insert-clause-current : goal.returns-in_err-insert-clause-current
-returns-in_err-insert-clause-current g c sources journal w h =
-    unchanged g.K.KeyWindows.key_of g.K.KeyWindows.fits g.K.KeyWindows.next_position c.args.defs.now sources journal c.args.self.now _ c.in_err-insert.ensures.err c.reserve.ensures.items c.reserve-2.ensures.items h
+pub returns-in_err-place-clause-current : goal.returns-in_err-place-clause-current
+returns-in_err-place-clause-current g c sources journal w h =
+    unchanged g.K.KeyWindows.key_of g.K.KeyWindows.fits g.K.KeyWindows.next_position c.args.defs.now sources journal c.args.self.now _ c.in_err-place.ensures.refused c.reserve.ensures.items c.reserve-2.ensures.items h
+
+pub returns-clause-place : goal.returns-clause-place
+returns-clause-place g c =
+    c.in_ok-place.ensures.added c.args.key.now
+    ∙ ap (λ b. cond b (Some c.in_ok-place.place) (place_of c.args.self.now c.args.key.now)) (at_itself c.args.key.now)
 
 pub returns-clause-current : goal.returns-clause-current
 returns-clause-current g c sources journal w h =
     let slot = c.in_ok-slot.slot in
     let stands : g.K.KeyWindows.fits c.args.defs.now [] [] slot.water slot.state = subst (λ (n : ℕ). g.K.KeyWindows.fits c.args.defs.now [] [] n slot.state) (sym c.in_ok-slot.ensures.water) c.in_ok-slot.ensures.empty in
-    let at : c.len-place.result ≡ length c.args.self.now.slots.items = omega arith in
+    let at : c.in_ok-place.place ≡ length c.args.self.now.slots.items = c.in_ok-place.ensures.place ∙ sym h.counted in
     added g.K.KeyWindows.key_of g.K.KeyWindows.fits g.K.KeyWindows.next_position c.args.defs.now sources journal c.args.self.now _ c.args.key.now slot c.due-due.result h c.requires.absent
-    (λ q. c.in_ok-insert.ensures.updates.0 q ∙ ap (λ n. cond (is_at (slice_cmp nat_cmp c.args.key.now) q) (Some n) (place_of c.args.self.now q)) at)
-    c.insert.ensures.ordered
+    (λ q. c.in_ok-place.ensures.added q ∙ ap (λ n. cond (is_at (slice_cmp nat_cmp c.args.key.now) q) (Some n) (place_of c.args.self.now q)) at)
+    c.add.ensures.by_key c.in_ok-place.ensures.len
     (c.push_reserved.ensures.items ∙ ap (λ l. l ++ slot ∷ []) c.reserve.ensures.items)
     (c.push_reserved-2.ensures.items ∙ ap (λ l. l ++ c.due-due.result ∷ []) c.reserve-2.ensures.items)
     c.in_ok-slot.ensures.key c.in_ok-slot.ensures.first stands (c.in_ok-slot.ensures.water ∙ w)

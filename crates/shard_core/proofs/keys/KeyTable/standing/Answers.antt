@@ -7,6 +7,7 @@ use Rattle.std.proofs.lemmas.List.Elements.{All-head, All-tail}
 use Rattle.std.proofs.lemmas.Map.Iter.{rest_more}
 use Rattle.stream_base.specs.Model.Changes.{moment_of, rows_at}
 use Rattle.shard_core.specs.Engines.{place_of}
+use Rattle.shard_core.specs.Placed.{place_in}
 use Rattle.shard_core.proofs.Advance.{rows_of_table}
 use Rattle.shard_core.proofs.keys.KeyTable.standing.Goals as goal
 
@@ -14,9 +15,10 @@ pub loop-key-init : goal.loop-key-init
 loop-key-init g c =
     let past = c.args.past.now in
     let rows_of = λ (e : List ℕ × ℕ). rows_at (past.defs).windows e.0 (moment_of past.defs past.sources e.0 past.journal) in
-    let all : c.into_iter-key-iterator.result ≡ c.args.self.now.index.entries = c.into_iter-key-iterator.ensures.into_iter_gives.0 in (
+    let all : c.into_iter-key-iterator.result ≡ c.args.self.now.index = c.into_iter-key-iterator.ensures.into_iter_gives.0 ∙ c.by_key-key-items.ensures in (
       (λ i. c.new-rows.ensures.items i ++ flat_map rows_of (all i)),
-      subst (λ es. All (λ (e : List ℕ × ℕ). place_of c.args.self.now e.0 ≡ Some e.1) es) (sym all) c.into_iter-key-iterator.ensures.into_iter_gives.6,
+      subst (λ es. All (λ (e : List ℕ × ℕ). place_of c.args.self.now e.0 ≡ Some e.1) es) (sym all)
+          (subst (λ (es : List (List ℕ × ℕ)). All (λ (e : List ℕ × ℕ). place_in es e.0 ≡ Some e.1) es) c.by_key-key-items.ensures c.into_iter-key-iterator.ensures.into_iter_gives.6),
     )
 
 pub append_rows-requires-clause-place : goal.append_rows-requires-clause-place

@@ -1,0 +1,109 @@
+ghost use Rattle.std.specs.Prelude.{◌≡◌, ◌+◌, [], ℕ, List, IfOk, OnOk, OnErr, None, Some, length, nat_le, slice_index, if◌then◌else◌};
+ghost use Rattle.std.specs.BTreeMap.{is_at};
+ghost use Rattle.std.specs.Cmp.Lexicographic.{slice_cmp};
+ghost use Rattle.std.specs.List.{filter};
+ghost use Rattle.std.specs.Map.{values_of};
+ghost use Rattle.std.specs.Ordering.{nat_cmp};
+ghost use Rattle.shard_core.specs.Placed.{AreByKey, place_in};
+
+use std::alloc::Global;
+use std::collections::BTreeMap;
+use std::marker::Model;
+use stream_base::{KeyText, NoMemory};
+
+// Where the state of each key lies: a key's place is its number in the order in which keys came.
+// Contracts see the places by key.
+#[derive(Drop)]
+pub struct KeyIndex {
+    index: BTreeMap<KeyText, usize>,
+    // The key at each place.
+    keys: Vec<KeyText>,
+}
+
+impl Model for KeyIndex {
+    ghost use Rattle.std.specs.Prelude.{ℕ, List};
+    ghost use Rattle.shard_core.specs.Placed.{ArePlaced};
+
+    ghost Value = { List (List ℕ × ℕ) };
+
+    ghost view = { λ s. (s.index).entries };
+
+    ghost invariant = { λ s. ArePlaced (s.index).entries s.keys.items };
+}
+
+impl KeyIndex {
+    pub fn new(alloc: Global) -> KeyIndex
+        ensures { result ≡ [] }
+    {
+        KeyIndex {
+            index: BTreeMap::new(alloc),
+            keys: Vec::new(alloc),
+        }
+    }
+
+    pub fn by_key(&self) -> &BTreeMap<KeyText, usize>
+        ensures { (result.now).entries ≡ self.now }
+    {
+        &self.index
+    }
+
+    // The place of a key, if it has one.
+    pub fn get(&self, key: &KeyText) -> Option<usize>
+        ensures { result ≡ place_in self.now key.now }
+    {
+        self.index.get(key).copied()
+    }
+
+    // Gives a key that has no place the next one, or does nothing.
+    pub fn add(&mut self, key: &KeyText) -> Result<usize, NoMemory>
+        requires { place_in self.old key.now ≡ None }
+        ensures place { IfOk result (λ p. p ≡ length self.old) }
+        ensures added { IfOk result (λ p. (other : List ℕ) → place_in self.new other
+            ≡ (if is_at (slice_cmp nat_cmp key.now) other then Some p
+            else place_in self.old other)) }
+        ensures len { OnOk result (length self.new ≡ length self.old + 1) }
+        ensures by_key { AreByKey self.new }
+        ensures refused { OnErr result (self.new ≡ self.old) }
+    {
+        let place = self.keys.len();
+        self.keys.reserve(1)?;
+        self.index.insert(*key, place)?;
+        self.keys.push_reserved(*key);
+        Ok(place)
+    }
+
+    // The places whose due numbers a watermark reaches, by the bytes of their keys.
+    pub fn due(&self, alloc: Global, dues: &[u64], water: u64) -> Result<Vec<usize>, NoMemory>
+        requires { length dues.now ≡ length self.now }
+        ensures { IfOk result (λ places. places.items
+            ≡ filter (λ p. nat_le (slice_index dues.now p) water) (values_of self.now)) }
+    {
+        let due = self.due_by_key(alloc, dues, water)?;
+        let mut places = Vec::new(alloc);
+        for place in due.values() {
+            places.push(*place)?;
+        }
+        Ok(places)
+    }
+
+    // The same with their keys. Only what is due is looked at by its key: the due numbers of all
+    // keys lie side by side, and are read through in place.
+    fn due_by_key(
+        &self,
+        alloc: Global,
+        dues: &[u64],
+        water: u64,
+    ) -> Result<BTreeMap<KeyText, usize>, NoMemory>
+        requires { length dues.now ≡ length self.now }
+        ensures { IfOk result (λ due. due.entries
+            ≡ filter (λ e. nat_le (slice_index dues.now e.1) water) self.now) }
+    {
+        let mut due = BTreeMap::new(alloc);
+        for place in 0..dues.len() {
+            if dues[place] <= water {
+                due.insert(self.keys[place], place)?;
+            }
+        }
+        Ok(due)
+    }
+}
