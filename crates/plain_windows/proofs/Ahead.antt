@@ -1,21 +1,25 @@
 -- The least bound above the watermark is that of the first instance there.
-use Rattle.std.proofs.Common.{◌≡◌, ◌∙◌, ◌≤◌, ◌<◌, ◌+◌, ◌++◌, ℕ, Bool, true, false, cond, List, [], ◌∷◌, length, get_or, drop, map, ap, sym, refl, ⊎_elim, arith, None, Some}
+use Rattle.std.proofs.Common.{◌≡◌, ◌∙◌, ◌≤◌, ◌<◌, ◌+◌, ◌++◌, ℕ, Bool, true, false, cond, List, [], ◌∷◌, length, get_or, drop, map, ap, sym, refl, inl, inr, ⊎_elim, arith, None, Some}
 use Rattle.std.specs.Prelude.{Option}
 use Rattle.std.specs.Option.{option_map}
-use Rattle.std.specs.Prelude.{◌&&◌, min, nat_le, nat_lt}
+use Rattle.std.specs.Prelude.{◌⊎◌, ◌&&◌, min, nat_le, nat_lt}
 use Rattle.std.specs.List.{Contains, enumerate_from, filter, find, flat_map, fold}
 use Rattle.std.proofs.lemmas.Bool.{lt-ltb, ltb-true}
 use Rattle.std.proofs.lemmas.Bool.Decides.{nat_tests}
 use Rattle.std.proofs.lemmas.List.{drop_all, drop_more}
 use Rattle.stream_base.specs.declared.change.Change.TheVariants.{New}
 use Rattle.stream_base.specs.declared.def.Def.{Def}
+use Rattle.stream_base.specs.declared.kept.Kept.{Kept}
+use Rattle.stream_base.specs.declared.kind.Kind.{Kind}
+use Rattle.stream_base.specs.declared.kind.Kind.TheVariants.{Tumbling, Sliding}
 use Rattle.stream_base.specs.Laws.{becomes_complete, completions}
 use Rattle.stream_base.specs.Model.Changes.{Moment, row_of}
-use Rattle.stream_base.specs.Model.Windows.{Instance, instances_of}
+use Rattle.stream_base.specs.Model.Journal.{put_in_order}
+use Rattle.stream_base.specs.Model.Windows.{Instance, instances_of, spans}
 use Rattle.stream_base.proofs.ChangeFacts.{enumerate_members, flat_map_none}
 use Rattle.stream_base.proofs.Members.{filter_has, filter_members, flat_map_has, map_has, map_members}
 use Rattle.stream_base.proofs.Rising.{none_in_nil, Contains-cons_cases, Contains-head, Contains-tail}
-use Rattle.plain_windows.specs.Changing.{bounds_ahead}
+use Rattle.plain_windows.specs.Changing.{BringsNoneBelow, HasBound, IsAhead, bounds_ahead}
 use Rattle.plain_windows.proofs.Bounds.{RunOn}
 use Rattle.plain_windows.proofs.Walks.{none_passes}
 
@@ -105,16 +109,49 @@ not_due water new bound h = by (nat_lt water bound) refl
         lt-not_le new bound l = grind (arith, nat_tests)
     by false e = refl
 
--- a move to below the least bound completes nothing
-pub nothing_due : (windows : List Def) (key : List ℕ) (m : Moment) (most new least : ℕ) → least ≡ fold min most (flat_map (bounds_ahead m) windows) → new < least → flat_map (completions key m new) (enumerate_from 0 windows) ≡ []
-nothing_due windows key m most new least e lt = flat_map_none (completions key m new) (enumerate_from 0 windows) none
+-- each bound ahead is at least the least of them
+pub ahead_of_least : (windows : List Def) (m : Moment) (most least : ℕ) → least ≡ fold min most (flat_map (bounds_ahead m) windows) → IsAhead windows m.kept m.marks m.water least
+ahead_of_least windows m most least e def i c d above =
+    let here : Contains (bounds_ahead m def) i.bound = filter_has (λ bound. nat_lt m.water bound) (map (λ (j : Instance). j.bound) (instances_of def.kind m.kept m.marks)) i.bound (map_has (λ (j : Instance). j.bound) (instances_of def.kind m.kept m.marks) i d) (lt-ltb m.water i.bound above) in
+    let least_of_all : fold min most (flat_map (bounds_ahead m) windows) ≤ i.bound = least_is_least most (flat_map (bounds_ahead m) windows) i.bound (flat_map_has (bounds_ahead m) windows def i.bound c here) in
+    omega arith
+
+-- a move to below a due number completes nothing
+pub nothing_ahead : (windows : List Def) (key : List ℕ) (m : Moment) (due new : ℕ) → IsAhead windows m.kept m.marks m.water due → new < due → flat_map (completions key m new) (enumerate_from 0 windows) ≡ []
+nothing_ahead windows key m due new ahead lt = flat_map_none (completions key m new) (enumerate_from 0 windows) none
   where
     none : (w : ℕ × Def) → Contains (enumerate_from 0 windows) w → completions key m new w ≡ []
     none w c =
         ap (map (λ i. New (row_of w.0 key (w.1).func i)))
         (none_passes (becomes_complete m.water new) (instances_of (w.1).kind m.kept m.marks)
-        (λ i d. not_due m.water new i.bound
-        (λ above.
-        let here : Contains (bounds_ahead m w.1) i.bound = filter_has (λ bound. nat_lt m.water bound) (map (λ (j : Instance). j.bound) (instances_of (w.1).kind m.kept m.marks)) i.bound (map_has (λ (j : Instance). j.bound) (instances_of (w.1).kind m.kept m.marks) i d) (lt-ltb m.water i.bound above) in
-        let least_of_all : fold min most (flat_map (bounds_ahead m) windows) ≤ i.bound = least_is_least most (flat_map (bounds_ahead m) windows) i.bound (flat_map_has (bounds_ahead m) windows w.1 i.bound (enumerate_members 0 windows w c) here) in
-        omega arith)))
+        (λ i d. not_due m.water new i.bound (λ above. let le : due ≤ i.bound = ahead w.1 i (enumerate_members 0 windows w c) d above in omega arith)))
+
+-- what a tuple more brings in each window, it brings in all
+pub ahead_put : (windows : List Def) (time bound : ℕ) → ((def : Def) → Contains windows def → BringsNoneBelow def.kind time bound)
+    → (kept : List Kept) (marks : List ℕ) (x : Kept) (water due : ℕ) → x.time ≡ time → IsAhead windows kept marks water due → IsAhead windows (put_in_order kept x) marks water (min due bound)
+ahead_put windows time bound brings kept marks x water due at ahead def i c d above =
+    ⊎_elim
+    (λ old. let le : due ≤ (old.0).bound = ahead def old.0 c old.1 (omega (arith, old.2)) in omega (arith, old.2))
+    (λ new. omega arith)
+    (brings def c kept marks x i at d)
+
+-- intervals are what such windows have
+pub brings_tumbling : (length time bound : ℕ)
+    → ((kept : List Kept) (x : Kept) (i : Instance) → x.time ≡ time → Contains (spans length length (put_in_order kept x)) i → HasBound (spans length length kept) i.bound ⊎ (bound ≤ i.bound))
+    → BringsNoneBelow (Tumbling length) time bound
+unfolding instances_of
+brings_tumbling length time bound h kept marks x i at c = h kept x i at c
+
+pub brings_sliding : (length slide time bound : ℕ)
+    → ((kept : List Kept) (x : Kept) (i : Instance) → x.time ≡ time → Contains (spans length slide (put_in_order kept x)) i → HasBound (spans length slide kept) i.bound ⊎ (bound ≤ i.bound))
+    → BringsNoneBelow (Sliding length slide) time bound
+unfolding instances_of
+brings_sliding length slide time bound h kept marks x i at c = h kept x i at c
+
+-- a number that is less tells no more
+pub brings_less : (kind : Kind) (time bound less : ℕ) → less ≤ bound → BringsNoneBelow kind time bound → BringsNoneBelow kind time less
+brings_less kind time bound less le h kept marks x i at c = ⊎_elim (λ old. inl old) (λ new. inr (omega arith)) (h kept marks x i at c)
+
+-- a move to below the least bound completes nothing
+pub nothing_due : (windows : List Def) (key : List ℕ) (m : Moment) (most new least : ℕ) → least ≡ fold min most (flat_map (bounds_ahead m) windows) → new < least → flat_map (completions key m new) (enumerate_from 0 windows) ≡ []
+nothing_due windows key m most new least e lt = nothing_ahead windows key m least new (ahead_of_least windows m most least e) lt

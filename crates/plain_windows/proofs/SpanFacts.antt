@@ -1,18 +1,21 @@
 -- The first interval of a tumbling or sliding window that starts at or after a time.
-use Rattle.std.proofs.Common.{◌≡◌, ◌∙◌, ℕ, ◌+◌, ◌-◌, ◌*◌, ◌/◌, ◌<◌, ◌≤◌, Bool, true, false, List, [], length, get_or, max, ap, sym, refl, subst, arith, None, Some}
-use Rattle.std.specs.Prelude.{nat_le, nat_lt}
+use Rattle.std.proofs.Common.{◌≡◌, ◌∙◌, ℕ, ◌+◌, ◌-◌, ◌*◌, ◌/◌, ◌<◌, ◌≤◌, Bool, true, false, List, [], length, get_or, max, ap, sym, refl, subst, inl, inr, ⊎_elim, arith, None, Some}
+use Rattle.std.specs.Prelude.{◌⊎◌, nat_le, nat_lt}
 use Rattle.std.specs.List.{All, Contains, find}
 use Rattle.std.proofs.lemmas.Bool.{ltb-true, ltb-false, leb-true, le-leb, lt-leb}
 use Rattle.std.proofs.lemmas.Bool.Decides.{nat_tests}
 use Rattle.std.proofs.lemmas.List.Elements.{All-contains, Contains-get_or}
+use Rattle.std.proofs.lemmas.Nat.{div_below}
 use Rattle.stream_base.specs.declared.kept.Kept.{Kept}
 use Rattle.stream_base.specs.declared.kind.Kind.TheVariants.{Sliding}
 use Rattle.stream_base.specs.Limits.{IsKindWithin}
 use Rattle.stream_base.specs.Laws.{RiseByStart, TimesDoNotFall}
+use Rattle.stream_base.specs.Model.Journal.{put_in_order}
 use Rattle.stream_base.specs.Model.Windows.{Instance, interval, starts_of, spans, instances_of}
 use Rattle.stream_base.proofs.Distinct.{instances_rise}
 use Rattle.stream_base.proofs.Members.{map_members, map_has}
-use Rattle.stream_base.proofs.Spans.{starts_of_members, starts_of_has}
+use Rattle.stream_base.proofs.Spans.{starts_holding_members, starts_of_members, starts_of_has, starts_of_put_cases}
+use Rattle.plain_windows.specs.Changing.{HasBound}
 use Rattle.plain_windows.specs.Places.{IsPlaceOf}
 use Rattle.plain_windows.proofs.Found.{find_first, find_none, find_agree}
 use Rattle.plain_windows.proofs.PlaceFacts.{first_behind}
@@ -54,6 +57,20 @@ module _ (long slide : ℕ) (moves : 1 ≤ slide) (overlaps : slide ≤ long) (k
 
   pub span_bound : (i : Instance) → Contains (spans long slide kept) i → i.bound ≡ i.low + long
   span_bound i c = let s : IsSpan i = spans_members i c in subst (λ (j : Instance). j.bound ≡ j.low + long) s.is refl
+
+  -- with a tuple more, an interval is one that there was, or holds the tuple's time and ends no earlier than the first that does
+  pub span_put : (x : Kept) (first : ℕ) → first ≡ (x.time + slide - long) / slide → (i : Instance) → Contains (spans long slide (put_in_order kept x)) i → HasBound (spans long slide kept) i.bound ⊎ (first * slide + long ≤ i.bound)
+  span_put x first is i c =
+      let m : (low : ℕ) × Contains (starts_of long slide (put_in_order kept x)) low × (interval low (low + long) (put_in_order kept x) ≡ i) = map_members (λ low. interval low (low + long) (put_in_order kept x)) (starts_of long slide (put_in_order kept x)) i c in
+      let bound : m.0 + long ≡ i.bound = ap (λ (j : Instance). j.bound) m.2 in
+      ⊎_elim
+      (λ old. inl (interval m.0 (m.0 + long) kept, map_has (λ low. interval low (low + long) kept) (starts_of long slide kept) m.0 old, bound))
+      (λ new.
+      let s : (k : ℕ) × (m.0 ≡ k * slide) × (m.0 ≤ x.time) × (x.time < m.0 + long) = starts_holding_members long slide moves overlaps x.time m.0 new in
+      let below : first < s.0 + 1 = subst (λ n. n < s.0 + 1) (sym is) (div_below (x.time + slide - long) slide (s.0 + 1) moves (omega (arith, s.1, s.3))) in
+      let le : first * slide ≤ s.0 * slide = times_mono first s.0 slide (omega arith) in
+      inr (omega (arith, s.1, bound)))
+      (starts_of_put_cases long slide kept x m.0 m.1)
 
   -- a multiple of the slide at or after a time is at or after the first such multiple
   multiple_late : (from k : ℕ) → from ≤ k * slide → first_multiple slide from ≤ k

@@ -1,11 +1,14 @@
 -- What becomes of one instance from one moment to the next, and the bounds that lie ahead.
-use Rattle.std.specs.Prelude.{◌==◌, ◌&&◌, ◌-◌, ℕ, Bool, List, Vec, map, filter, nat_lt, vec_capacity, vec_len}
-use Rattle.std.specs.List.{enumerate_from, flat_map}
+use Rattle.std.specs.Prelude.{◌==◌, ◌≡◌, ◌⊎◌, ◌≤◌, ◌<◌, ◌&&◌, ◌-◌, ℕ, Bool, List, Vec, map, filter, nat_lt, vec_capacity, vec_len}
+use Rattle.std.specs.List.{Contains, enumerate_from, flat_map}
 use Rattle.std.specs.Option.{option_to_list}
 use Rattle.stream_base.specs.declared.change.Change.{Change}
 use Rattle.stream_base.specs.declared.def.Def.{Def}
+use Rattle.stream_base.specs.declared.kept.Kept.{Kept}
+use Rattle.stream_base.specs.declared.kind.Kind.{Kind}
 use Rattle.stream_base.specs.Laws.{completions}
 use Rattle.stream_base.specs.Model.Changes.{Moment, emission, emissions, retraction, retractions, standing_at}
+use Rattle.stream_base.specs.Model.Journal.{put_in_order}
 use Rattle.stream_base.specs.Model.Windows.{Instance, instances_of}
 use Rattle.plain_windows.specs.declared.extent.Extent.{Extent}
 use Rattle.plain_windows.specs.declared.fold.Owner.{Owner}
@@ -39,6 +42,19 @@ all_emissions windows key old new = flat_map (emissions key old new) (enumerate_
 
 abbrev pub all_completions : List Def → List ℕ → Moment → ℕ → List Change
 all_completions windows key m new = flat_map (completions key m new) (enumerate_from 0 windows)
+
+-- one of the instances has this bound
+abbrev pub HasBound : List Instance → ℕ → Type 0
+HasBound instances bound = (j : Instance) × Contains instances j × (j.bound ≡ bound)
+
+-- no instance of the windows has a bound above the watermark and below a due number
+abbrev pub IsAhead : List Def → List Kept → List ℕ → ℕ → ℕ → Type 0
+IsAhead windows kept marks water due = (def : Def) (i : Instance) → Contains windows def → Contains (instances_of def.kind kept marks) i → water < i.bound → due ≤ i.bound
+
+-- with a tuple more at a time, each bound of a window's instances is one that there was, or at least this number
+abbrev pub BringsNoneBelow : Kind → ℕ → ℕ → Type 0
+BringsNoneBelow kind time bound = (kept : List Kept) (marks : List ℕ) (x : Kept) (i : Instance) → x.time ≡ time → Contains (instances_of kind (put_in_order kept x) marks) i
+    → HasBound (instances_of kind kept marks) i.bound ⊎ (bound ≤ i.bound)
 
 -- the bounds of a window's instances that lie above the watermark
 abbrev pub bounds_ahead : Moment → Def → List ℕ

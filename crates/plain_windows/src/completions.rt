@@ -1,18 +1,21 @@
 //! What a move of the watermark brings.
-ghost use Rattle.std.specs.Prelude.{◌≡◌, ◌≤◌, ◌-◌, ◌+◌, ◌++◌, ◌<◌, [], ℕ, List, length, min, vec_len, vec_capacity};
+ghost use Rattle.std.specs.Prelude.{◌≡◌, ◌≤◌, ◌-◌, ◌+◌, ◌++◌, ◌<◌, [], ℕ, List, IfSome, length, min, vec_len, vec_capacity};
 ghost use Rattle.std.specs.List.{enumerate_from, flat_map, fold};
 ghost use Rattle.stream_base.specs.declared.limits.TheConstants.{TIME_MAX};
+ghost use Rattle.stream_base.specs.declared.kept.Kept.{Kept};
 ghost use Rattle.stream_base.specs.Laws.{completions};
 ghost use Rattle.stream_base.specs.Limits.{IsKindWithin};
-ghost use Rattle.plain_windows.specs.Changing.{all_completions, bounds_ahead, room, window_of};
+ghost use Rattle.stream_base.specs.Model.Journal.{put_in_order};
+ghost use Rattle.plain_windows.specs.Changing.{BringsNoneBelow, IsAhead, all_completions, bounds_ahead, room, window_of};
 ghost use Rattle.plain_windows.specs.Views.{AreWindows, IsMoment, seen};
 
 use crate::find::bound_above;
 use crate::fold::{Owner, row_of};
+use crate::spans;
 use crate::view::View;
 use crate::walk::{due_from, first_left};
 use agg_laws::Steps;
-use stream_base::{Change, Def, KeyText};
+use stream_base::{Change, Def, KeyText, Kind};
 
 /// Appends what a move of the watermark to `new` brings of a key: the emission of each instance that
 /// becomes complete, by window, start and end. Takes no memory.
@@ -105,6 +108,10 @@ pub fn next_bound(windows: &[Def], view: &View) -> u64
     ensures least { result
         ≡ fold min u64.MAX (flat_map (bounds_ahead (seen view.now)) windows.now) }
 
+    // No bound lies between the watermark and it.
+    ensures ahead { IsAhead windows.now (seen view.now).kept (seen view.now).marks
+        (seen view.now).water result }
+
     // A move to below it completes nothing.
     ensures nothing { (key : List ℕ) (new : ℕ) → new < result
         → all_completions windows.now key (seen view.now) new ≡ [] }
@@ -126,6 +133,37 @@ fn next_of_window(def: &Def, view: &View, least: u64) -> u64
     match bound_above(&def.kind, view.kept, view.marks, view.water) {
         Some(bound) => least_of(least, bound),
         None => least,
+    }
+}
+
+/// A number below which a tuple at this time brings no bound, whatever the lists: with it among them,
+/// no bound lies between the watermark and the less of it and a number for which that held before.
+/// None where the time alone doesn't tell, as with sessions, marks and event counts.
+pub fn bound_from(windows: &[Def], time: u64) -> Option<u64>
+    requires windows { AreWindows windows.now }
+    requires time { time ≤ TIME_MAX }
+    ensures { IfSome result (λ bound. (kept : List Kept) (marks : List ℕ) (x : Kept)
+        (water due : ℕ) → x.time ≡ time → IsAhead windows.now kept marks water due
+        → IsAhead windows.now (put_in_order kept x) marks water (min due bound)) }
+{
+    let mut least = u64::MAX;
+    for def in windows {
+        least = least_of(least, bound_of(&def.kind, time)?);
+    }
+    Some(least)
+}
+
+// The same of one window.
+#[tactic(auto, unfolding(stream_base::specs::Model::Windows::instances_of))]
+fn bound_of(kind: &Kind, time: u64) -> Option<u64>
+    requires kind { IsKindWithin kind.now }
+    requires time { time ≤ TIME_MAX }
+    ensures { IfSome result (BringsNoneBelow kind.now time) }
+{
+    match *kind {
+        Kind::Tumbling { length } => Some(spans::bound_holding(length, length, time)),
+        Kind::Sliding { length, slide } => Some(spans::bound_holding(length, slide, time)),
+        Kind::Session { .. } | Kind::Marks | Kind::Events { .. } => None,
     }
 }
 

@@ -27,7 +27,7 @@ mod view;
 mod walk;
 
 pub use changes::{append_changes, count_changes};
-pub use completions::{append_completions, count_completions, next_bound};
+pub use completions::{append_completions, bound_from, count_completions, next_bound};
 pub use extent::Extent;
 pub use find::{first_above, first_from};
 pub use places::{marks_before, tuples_before};

@@ -1,11 +1,14 @@
 //! The instances of a tumbling or sliding window: intervals that start at multiples of the slide.
-ghost use Rattle.std.specs.Prelude.{◌≡◌, ◌≤◌, ◌+◌, [], IfSome, nat_le, nat_lt};
-ghost use Rattle.std.specs.List.{find};
+ghost use Rattle.std.specs.Prelude.{◌≡◌, ◌≤◌, ◌+◌, ◌⊎◌, [], ℕ, List, IfSome, nat_le, nat_lt};
+ghost use Rattle.std.specs.List.{Contains, find};
 ghost use Rattle.std.specs.Option.{option_map};
+ghost use Rattle.stream_base.specs.declared.kept.Kept.{Kept};
 ghost use Rattle.stream_base.specs.declared.kind.Kind.TheVariants.{Sliding};
 ghost use Rattle.stream_base.specs.Limits.{IsKindWithin};
 ghost use Rattle.stream_base.specs.declared.limits.TheConstants.{TIME_MAX};
-ghost use Rattle.stream_base.specs.Model.Windows.{interval, spans};
+ghost use Rattle.stream_base.specs.Model.Journal.{put_in_order};
+ghost use Rattle.stream_base.specs.Model.Windows.{Instance, interval, spans};
+ghost use Rattle.plain_windows.specs.Changing.{HasBound};
 ghost use Rattle.plain_windows.specs.Extents.{AreKeyLists, IsExtentIn, instance_in};
 
 use crate::extent::Extent;
@@ -55,6 +58,18 @@ pub fn first_above(length: u64, slide: u64, kept: &[Kept], water: u64) -> Option
     ensures inside { IfSome result (IsExtentIn kept.now) }
 {
     first_from(length, slide, kept, water.saturating_sub(length - 1))
+}
+
+/// The bound of the first interval that holds a time: none that holds it has an earlier one.
+pub fn bound_holding(length: u64, slide: u64, time: u64) -> u64
+    requires kind { IsKindWithin (Sliding length slide) }
+    requires time { time ≤ TIME_MAX }
+    ensures { (kept : List Kept) (x : Kept) (i : Instance) → x.time ≡ time
+        → Contains (spans length slide (put_in_order kept x)) i
+        → HasBound (spans length slide kept) i.bound ⊎ (result ≤ i.bound) }
+{
+    let first = (time + slide).saturating_sub(length) / slide;
+    first * slide + length
 }
 
 /// The bound of that interval, without a search for what it selects.
