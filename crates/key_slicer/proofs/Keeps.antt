@@ -1,8 +1,8 @@
 -- What a key's state keeps, and what calls do to it.
-use Rattle.std.proofs.Common.{◌≡◌, ◌∙◌, ℕ, ℤ, suc, ◌+◌, ◌<◌, ◌≤◌, Bool, true, false, cond, not, List, [], ◌∷◌, length, set, ap, sym, refl, arith}
+use Rattle.std.proofs.Common.{◌≡◌, ◌∙◌, ℕ, ℤ, suc, ◌+◌, ◌<◌, ◌≤◌, Bool, true, false, cond, not, List, [], ◌∷◌, length, map, set, ap, sym, refl, subst, arith}
 use Rattle.std.specs.Prelude.{◌≢◌, nat_lt}
 use Rattle.std.specs.BTreeSet.{insert_key}
-use Rattle.std.specs.List.{All, Contains, enumerate_from, flat_map, position_or_len}
+use Rattle.std.specs.List.{All, Contains, enumerate_from, flat_map, position_or_len, range_with_len}
 use Rattle.std.specs.Ordering.{nat_cmp}
 use Rattle.std.proofs.lemmas.Cmp.{nat_cmp_total}
 use Rattle.std.proofs.lemmas.List.Elements.{All-contains, All-nil, All-weaker}
@@ -16,11 +16,17 @@ use Rattle.stream_base.specs.Limits.{AreWithinLimits, Definitions, IsKindWithin}
 use Rattle.stream_base.specs.Model.Journal.{put_in_order}
 use Rattle.stream_base.proofs.ChangeFacts.{changes_at_water, no_changes, standing_at_rises}
 use Rattle.stream_base.proofs.EventOrder.{All_put, event_order_total, put_in_event_order, put_in_order_cons, times_do_not_fall}
-use Rattle.stream_base.proofs.Rising.{sorted_insert_key, sorted_nil}
+use Rattle.stream_base.proofs.Rising.{none_in_nil, sorted_insert_key, sorted_nil}
 use Rattle.window_laws.proofs.KeptFacts.{put_distinct}
+use Rattle.stream_base.specs.declared.kind.Kind.{Kind}
+use Rattle.stream_base.specs.declared.kind.Kind.TheVariants.{Tumbling, Sliding, Session, Marks, Events}
+use Rattle.stream_base.specs.Model.Windows.{Instance, instances_of, ranks}
+use Rattle.std.proofs.Math.Nat.{zero-div}
+use Rattle.plain_windows.specs.Changing.{IsAhead}
 use Rattle.plain_windows.specs.Extents.{AreKeyLists}
+use Rattle.plain_windows.proofs.Ahead.{nothing_ahead}
 use Rattle.key_slicer.specs.Calls.{changes_by_mark, changes_by_move, changes_by_put, kept_at, moment}
-use Rattle.key_slicer.specs.States.{IsReadyToMove, IsState, State, stand_in}
+use Rattle.key_slicer.specs.States.{Fits, IsOfSame, IsPut, IsReadyToMove, IsState, State, stand_in}
 use Rattle.key_slicer.proofs.After.{stands_after_mark, stands_after_put}
 use Rattle.key_slicer.proofs.Counting.{as_many, IsNew}
 
@@ -87,15 +93,51 @@ pub move_is : (d : Definitions) (key : List ℕ) (kept : List Kept) (marks : Lis
     → changes_by_move d key kept marks old new ≡ flat_map (completions key (moment kept marks old) new) (enumerate_from 0 d.windows)
 move_is d key kept marks old new limits h le = changes_at_water d.windows key kept marks old new limits.kinds (times_do_not_fall kept h.in_order) le
 
+-- ---- bounds ahead
+pub ahead_same : (windows : List Def) (k k' : List Kept) (m m' : List ℕ) (water e e' : ℕ) → k' ≡ k → m' ≡ m → e' ≡ e → IsAhead windows k m water e → IsAhead windows k' m' water e'
+ahead_same windows k k' m m' water e e' ks ms es h =
+    subst (λ (l : List Kept). IsAhead windows l m' water e') (sym ks)
+    (subst (λ (l : List ℕ). IsAhead windows k l water e') (sym ms) (subst (λ (n : ℕ). IsAhead windows k m water n) (sym es) h))
+
+-- with a tuple more in its lists, where the due number follows
+pub fits_put : (d : Definitions) (kept : List Kept) (marks : List ℕ) (water time : ℕ) (s mid new : State) (x y : Kept) → Fits d kept marks water s → IsPut s x mid → IsOfSame mid new → x ≡ y → x.time ≡ time
+    → ((k : List Kept) (z : Kept) → z.time ≡ time → mid.kept ≡ put_in_order k z → IsAhead d.windows k mid.marks water mid.due → IsAhead d.windows new.kept new.marks water new.due)
+    → Fits d (put_in_order kept y) marks water new
+fits_put d kept marks water time s mid new x y fits put same is at ahead =
+    let k : mid.kept ≡ put_in_order kept x = put.kept ∙ ap (λ l. put_in_order l x) fits.0 in
+    let m : mid.marks ≡ marks = put.marks ∙ fits.1 in
+    let there : IsAhead d.windows new.kept new.marks water new.due = ahead kept x at k (ahead_same d.windows kept kept marks mid.marks water s.due mid.due refl m put.due fits.2) in
+    let ks : new.kept ≡ put_in_order kept y = same.kept ∙ k ∙ ap (put_in_order kept) is in
+    let ms : new.marks ≡ marks = same.marks ∙ m in
+    (ks, ms, ahead_same d.windows new.kept (put_in_order kept y) new.marks marks water new.due new.due (sym ks) (sym ms) refl there)
+
+-- empty lists have no instance
+no_instances : (kind : Kind) → instances_of kind [] [] ≡ []
+unfolding instances_of
+no_instances (Tumbling length') = refl
+no_instances (Sliding length' slide) = refl
+no_instances (Session gap) = refl
+no_instances Marks = refl
+no_instances (Events count) = ap (λ n. map (ranks count []) (range_with_len 0 n)) (zero-div count)
+
+pub none_ahead : (windows : List Def) (water due : ℕ) → IsAhead windows [] [] water due
+none_ahead windows water due def i c d above = absurd (none_in_nil i (subst (λ (is : List Instance). Contains is i) (no_instances def.kind) d))
+
+-- no move to below the due number changes anything
+pub not_due : (d : Definitions) (key : List ℕ) (s : State) (kept : List Kept) (marks : List ℕ) (water new : ℕ) → AreWithinLimits d → AreKeyLists s.kept s.marks → Fits d kept marks water s → water ≤ new → new < s.due → changes_by_move d key kept marks water new ≡ []
+not_due d key s kept marks water new limits lists fits le lt =
+    move_is d key kept marks water new limits (subst (λ (ms : List ℕ). AreKeyLists kept ms) fits.1 (subst (λ (ks : List Kept). AreKeyLists ks s.marks) fits.0 lists)) le
+    ∙ nothing_ahead d.windows key (moment kept marks water) s.due new fits.2 lt
+
 -- a move for which room was made brings as many completions as were promised
 pub as_promised : (d : Definitions) (s : State) (old new : ℕ) (windows : List Def) (key : List ℕ) (kept : List Kept) (marks : List ℕ)
-    → AreWithinLimits d → AreKeyLists kept marks → old ≤ new → windows ≡ d.windows → key ≡ s.key → kept ≡ s.kept → marks ≡ s.marks → IsReadyToMove d old new s
+    → AreWithinLimits d → AreKeyLists kept marks → old ≤ new → windows ≡ d.windows → key ≡ s.key → kept ≡ s.kept → marks ≡ s.marks → IsReadyToMove d old new s → s.due ≤ new
     → length (flat_map (completions key (moment kept marks old) new) (enumerate_from 0 windows)) ≡ s.promise
-as_promised d s old new windows key kept marks limits lists le ws keys ks ms ready =
+as_promised d s old new windows key kept marks limits lists le ws keys ks ms ready reached =
     (λ i. length (flat_map (completions key (moment kept marks old) new) (enumerate_from 0 (ws i))))
     ∙ ap length (sym (move_is d key kept marks old new limits lists le))
     ∙ (λ i. length (changes_by_move d (keys i) (ks i) (ms i) old new))
-    ∙ sym (ready.promised s.key)
+    ∙ sym (ready.promised reached s.key)
 
 is_new : (kept : List Kept) (next position : ℕ) → All (λ y. y.position < next) kept → next ≤ position → IsNew kept position
 is_new kept next position h le z c e = let lt : z.position < next = All-contains (λ y. y.position < next) kept z h c in omega arith

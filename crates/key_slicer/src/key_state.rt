@@ -7,17 +7,17 @@ ghost use Rattle.stream_base.specs.declared.limits.TheConstants.{JOURNAL_MAX, TI
 ghost use Rattle.stream_base.specs.Laws.{completions};
 ghost use Rattle.stream_base.specs.Model.Changes.{changes_between};
 ghost use Rattle.stream_base.specs.Model.Journal.{put_in_order};
-ghost use Rattle.plain_windows.specs.Changing.{room};
+ghost use Rattle.plain_windows.specs.Changing.{IsAhead, room};
 ghost use Rattle.plain_windows.specs.Views.{AreWindows};
 ghost use Rattle.key_slicer.specs.Calls.{kept_at, moment};
-ghost use Rattle.key_slicer.specs.States.{Fits, IsMarked, IsPut, IsReady, IsState, Stays, by_one_mark, by_tuple, stand_in};
+ghost use Rattle.key_slicer.specs.States.{Fits, IsMarked, IsOfSame, IsPut, IsReady, IsState, Stays, by_one_mark, by_tuple, stand_in};
 
 use crate::drafts::{add_mark, draw_mark, draw_put, fill_in, put_in};
 use crate::key_windows::KeyWindows;
 use agg_laws::Steps;
 use plain_windows::{
-    View, append_changes, append_completions, append_rows, count_changes, count_completions,
-    next_bound, slice_count,
+    View, append_changes, append_completions, append_rows, bound_from, count_changes,
+    count_completions, next_bound, slice_count,
 };
 use std::alloc::Global;
 use std::marker::Model;
@@ -29,16 +29,18 @@ use stream_base::{Change, Def, Defs, JOURNAL_MAX, Kept, KeyText, NoMemory, Row};
 /// old one when room is made, and both are compared.
 #[derive(Drop)]
 pub struct KeyState {
-    key: KeyText,
+    /// No bound lies between the watermark and this number.
+    due: u64,
+    /// The next tuple has at least this position.
+    next: u64,
+    promise: u64,
     kept: Vec<Kept>,
     marks: Vec<u64>,
     /// The kept tuples after the coming call, with a stand-in for its tuple.
     next_kept: Vec<Kept>,
     /// The marks after the coming call.
     next_marks: Vec<u64>,
-    /// The next tuple has at least this position.
-    next: u64,
-    promise: u64,
+    key: KeyText,
 }
 
 impl Model for KeyState {
@@ -52,6 +54,7 @@ impl Model for KeyState {
       kept = s.kept.items;
       marks = s.marks.items;
       next = s.next;
+      due = s.due;
       promise = s.promise;
       next_kept = s.next_kept.items;
       next_marks = s.next_marks.items;
@@ -79,6 +82,51 @@ impl KeyState {
         ensures { IsState self.now.kept self.now.marks self.now.next }
     {
         let _next = self.next;
+    }
+
+    // The least bound above a watermark.
+    fn bound_ahead(&self, defs: &Defs, water: u64) -> u64
+        ensures { IsAhead (defs.now).windows self.now.kept self.now.marks water result }
+    {
+        let view = View {
+            kept: &self.kept,
+            marks: &self.marks,
+            water,
+        };
+        next_bound(defs.windows(), &view)
+    }
+
+    // Waits for a watermark.
+    fn wait_for(&mut self, due: u64)
+        ensures same { IsOfSame self.old self.new }
+        ensures due { self.new.due ≡ due }
+    {
+        self.due = due;
+    }
+
+    // Waits for the least bound above a watermark.
+    fn look_ahead(&mut self, defs: &Defs, water: u64)
+        ensures same { IsOfSame self.old self.new }
+        ensures ahead { IsAhead (defs.now).windows self.new.kept self.new.marks water self.new.due }
+    {
+        let due = self.bound_ahead(defs, water);
+        self.wait_for(due);
+    }
+
+    // Waits for no later watermark than the bounds that a tuple at a time brought, where the time
+    // alone tells them, and else looks for the least.
+    fn look_behind(&mut self, defs: &Defs, time: u64, water: u64)
+        requires { time ≤ TIME_MAX }
+        ensures same { IsOfSame self.old self.new }
+        ensures ahead { (kept : List Kept) (x : Kept) → x.time ≡ time
+            → self.old.kept ≡ put_in_order kept x
+            → IsAhead (defs.now).windows kept self.old.marks water self.old.due
+            → IsAhead (defs.now).windows self.new.kept self.new.marks water self.new.due }
+    {
+        match bound_from(defs.windows(), time) {
+            Some(bound) => self.wait_for(self.due.min(bound)),
+            None => self.look_ahead(defs, water),
+        }
     }
 
     // Promises no change.
@@ -279,13 +327,14 @@ impl KeyWindows for KeyState {
     fn fresh(alloc: Global, defs: &Defs, key: KeyText) -> Result<KeyState, NoMemory> {
         let _ = defs;
         Ok(KeyState {
-            key,
+            due: u64::MAX,
+            next: 0,
+            promise: 0,
             kept: Vec::new(alloc),
             marks: Vec::new(alloc),
             next_kept: Vec::new(alloc),
             next_marks: Vec::new(alloc),
-            next: 0,
-            promise: 0,
+            key,
         })
     }
 
@@ -314,8 +363,10 @@ impl KeyWindows for KeyState {
         self.vouch();
         if water < time {
             self.put_ahead(x);
+            self.look_behind(defs, time, water);
         } else {
             self.put_late(windows, x, water, out, steps);
+            self.look_ahead(defs, water);
         }
     }
 
@@ -339,12 +390,17 @@ impl KeyWindows for KeyState {
         self.vouch();
         if water < time {
             self.mark_ahead(time);
+            self.look_ahead(defs, water);
         } else {
             self.mark_late(windows, time, water, out, steps);
+            self.look_ahead(defs, water);
         }
     }
 
     fn reserve_water(&mut self, defs: &Defs, old: u64, new: u64) -> Result<u64, NoMemory> {
+        if new < self.due {
+            return self.promise_nothing();
+        }
         let view = View {
             kept: &self.kept,
             marks: &self.marks,
@@ -363,21 +419,25 @@ impl KeyWindows for KeyState {
         out: &mut Vec<Change>,
         steps: &mut Steps<L>,
     ) {
+        let _windows = defs.windows();
+        self.vouch();
+        if new < self.due {
+            return;
+        }
         let view = View {
             kept: &self.kept,
             marks: &self.marks,
             water: old,
         };
         append_completions(defs.windows(), &self.key, &view, new, out, steps);
+        self.look_ahead(defs, new);
     }
 
     fn next_due(&self, defs: &Defs, water: u64) -> u64 {
-        let view = View {
-            kept: &self.kept,
-            marks: &self.marks,
-            water,
-        };
-        next_bound(defs.windows(), &view)
+        let _windows = defs.windows();
+        let _ = water;
+        self.vouch();
+        self.due
     }
 
     fn append_rows<L>(

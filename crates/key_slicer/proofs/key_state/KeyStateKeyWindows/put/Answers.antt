@@ -1,11 +1,13 @@
 -- A tuple after the watermark changes nothing, and an earlier one as much as its stand-in.
 use Rattle.std.proofs.Common.{◌≡◌, ◌∙◌, ◌++◌, ◌-◌, ◌<◌, ◌≤◌, [], length, vec_len, ap, sym, subst, append-nil, arith, to_z, of_z, w64}
 use Rattle.std.specs.Prelude.{vec_capacity}
+use Rattle.std.proofs.lemmas.Int.{to_z-of_z}
+use Rattle.stream_base.specs.declared.kept.Kept.{Kept}
 use Rattle.stream_base.specs.declared.limits.TheConstants.{JOURNAL_MAX}
 use Rattle.stream_base.specs.Model.Changes.{changes_between}
 use Rattle.stream_base.specs.Model.Journal.{put_in_order}
 use Rattle.key_slicer.specs.Calls.{changes_by_put, kept_at, moment}
-use Rattle.key_slicer.proofs.Keeps.{put_count, put_nothing}
+use Rattle.key_slicer.proofs.Keeps.{fits_put, put_count, put_nothing}
 use Rattle.key_slicer.proofs.key_state.KeyStateKeyWindows.put.Goals as goal
 
 pub put_late-requires-clause-spare : goal.put_late-requires-clause-spare
@@ -28,3 +30,11 @@ returns-then-water-time-clause-changes g c = λ kept marks fits.
     (λ i. changes_by_put d s.key (sym fits.0 i) (sym fits.1 i) c.args.water x)
     ∙ put_nothing d s.key s.kept s.marks c.args.water x c.windows-windows.ensures.limits c.vouch.ensures.lists c.if-water-time.true in
     sym (append-nil c.args.out.now.items) ∙ ap (λ cs. c.args.out.now.items ++ cs) (sym none)
+
+pub returns-then-water-time-clause-fits : goal.returns-then-water-time-clause-fits
+returns-then-water-time-clause-fits g c = λ kept marks fits.
+    let x = c.kept_at-x.result in
+    let y = kept_at c.args.pos c.args.time c.args.value in
+    let is : x ≡ y = c.kept_at-x.ensures ∙ ap (kept_at c.args.pos c.args.time) (to_z-of_z w64 c.args.value c.ranges.value) in
+    fits_put c.args.defs.now kept marks c.args.water c.args.time c.args.self.now c.put_ahead.new.self c.look_behind.new.self x y fits c.put_ahead.ensures c.look_behind.ensures.same is
+    (ap (λ (y : Kept). y.time) c.kept_at-x.ensures) c.look_behind.ensures.ahead

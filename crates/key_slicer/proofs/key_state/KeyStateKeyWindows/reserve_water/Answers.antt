@@ -11,7 +11,7 @@ returns-clause-ready c =
     let s = c.self.inside in
     let d = c.args.defs.now in
     record {
-      promised = λ key.
+      promised = λ reached key.
           c.count_completions-count.ensures key
           ∙ (λ i. length (flat_map (completions key (moment (c.deref.ensures.value i) (c.deref-2.ensures.value i) c.args.old) c.args.new) (enumerate_from 0 (c.windows.ensures.value i))))
           ∙ ap length (sym (move_is d key s.kept.items s.marks.items c.args.old c.args.new c.windows.ensures.limits c.self.invariant.lists c.requires.rises));

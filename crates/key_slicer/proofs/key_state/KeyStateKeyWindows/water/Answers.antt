@@ -1,5 +1,5 @@
 -- A move of the watermark brings the completions.
-use Rattle.std.proofs.Common.{◌≡◌, ◌∙◌, ◌++◌, ◌+◌, ◌-◌, ◌≤◌, ℕ, List, length, vec_len, ap, sym, subst, arith}
+use Rattle.std.proofs.Common.{◌≡◌, ◌∙◌, ◌++◌, ◌+◌, ◌-◌, ◌≤◌, ◌<◌, [], ℕ, List, append-nil, length, vec_len, ap, sym, subst, arith}
 use Rattle.std.proofs.lemmas.List.{length-append}
 use Rattle.std.specs.Prelude.{vec_capacity}
 use Rattle.std.specs.List.{enumerate_from, flat_map}
@@ -8,7 +8,7 @@ use Rattle.key_slicer.specs.Calls.{changes_by_move, moment}
 use Rattle.key_slicer.specs.States.{State}
 use Rattle.stream_base.specs.declared.kept.Kept.{Kept}
 use Rattle.plain_windows.specs.Extents.{AreKeyLists}
-use Rattle.key_slicer.proofs.Keeps.{as_promised, move_is}
+use Rattle.key_slicer.proofs.Keeps.{as_promised, move_is, not_due}
 use Rattle.key_slicer.proofs.key_state.KeyStateKeyWindows.water.Goals as goal
 
 pub append_completions-requires-clause-spare : goal.append_completions-requires-clause-spare
@@ -22,8 +22,16 @@ append_completions-requires-clause-spare g c =
     (ap (λ (t : State). t.key) c.self.view_is)
     (c.deref.ensures.value ∙ ap (λ (t : State). t.kept) c.self.view_is)
     (c.deref-2.ensures.value ∙ ap (λ (t : State). t.marks) c.self.view_is)
-    c.requires.ready in
+    c.requires.ready (subst (λ (t : State). t.due ≤ c.args.new) c.self.view_is c.if-new-self.false) in
     subst (λ n. n ≤ vec_capacity c.args.out.now - vec_len c.args.out.now) (sym counted) c.requires.spare
+
+pub returns-then-new-self-clause-changes : goal.returns-then-new-self-clause-changes
+returns-then-new-self-clause-changes g c = λ kept marks fits.
+    let s = c.args.self.now in
+    let none : changes_by_move c.args.defs.now s.key kept marks c.args.old c.args.new ≡ [] =
+    not_due c.args.defs.now s.key s kept marks c.args.old c.args.new c.windows-windows.ensures.limits c.vouch.ensures.lists fits c.requires.rises
+    (subst (λ (t : State). c.args.new < t.due) c.self.view_is c.if-new-self.true) in
+    sym (append-nil c.args.out.now.items) ∙ ap (λ cs. c.args.out.now.items ++ cs) (sym none)
 
 pub returns-clause-room : goal.returns-clause-room
 returns-clause-room g c =
@@ -36,7 +44,7 @@ returns-clause-room g c =
     (ap (λ (t : State). t.key) c.self.view_is)
     (c.deref.ensures.value ∙ ap (λ (t : State). t.kept) c.self.view_is)
     (c.deref-2.ensures.value ∙ ap (λ (t : State). t.marks) c.self.view_is)
-    c.requires.ready in
+    c.requires.ready (subst (λ (t : State). t.due ≤ c.args.new) c.self.view_is c.if-new-self.false) in
     let all : length c.append_completions.new.out.items ≡ length c.args.out.now.items + s.promise =
     ap length c.append_completions.ensures.items
     ∙ length-append c.args.out.now.items (flat_map (completions v.key (moment c.deref.result.now c.deref-2.result.now c.args.old) c.args.new) (enumerate_from 0 c.windows.result.now))
