@@ -9,7 +9,7 @@ use Rattle.std.proofs.lemmas.List.{get_or-drop, get_or-take, length-take, length
 use Rattle.std.proofs.lemmas.List.Elements.{All-contains, Contains-get_or}
 use Rattle.std.proofs.lemmas.Map.Keys.{sorted_tail}
 use Rattle.std.proofs.lemmas.Nat.{div-add-mod'}
-use Rattle.stream_base.specs.declared.limits.TheConstants.{FINAL, JOURNAL_MAX, TIME_MAX}
+use Rattle.stream_base.specs.declared.limits.TheConstants.{FINAL, TIME_MAX}
 use Rattle.stream_base.specs.declared.kept.Kept.{Kept}
 use Rattle.stream_base.specs.declared.kind.Kind.{Kind}
 use Rattle.stream_base.specs.declared.kind.Kind.TheVariants.{Tumbling, Sliding, Session, Marks, Events}
@@ -127,7 +127,7 @@ selecting_low (a ∷ b ∷ times) kept h i c some =
     (λ d. selecting_low (b ∷ times) kept h i d some)
     (Contains-cons_cases (interval a b kept) (between_times (b ∷ times) kept) i c)
 
-rank_low : (count : ℕ) (kept : List Kept) → 1 ≤ count → length kept ≤ JOURNAL_MAX → (i : Instance) → Contains (counted count kept) i → i.low ≤ TIME_MAX
+rank_low : (count : ℕ) (kept : List Kept) → 1 ≤ count → length kept ≤ TIME_MAX → (i : Instance) → Contains (counted count kept) i → i.low ≤ TIME_MAX
 rank_low count kept pos few i c =
     let m : (k : ℕ) × Contains (range_with_len 0 (length kept / count)) k × (ranks count kept k ≡ i) = map_members (ranks count kept) (range_with_len 0 (length kept / count)) i c in
     let in_range : (0 ≤ m.0) × (m.0 < 0 + length kept / count) = range_members 0 (length kept / count) m.0 m.1 in

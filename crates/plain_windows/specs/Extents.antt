@@ -2,7 +2,7 @@
 use Rattle.std.specs.Prelude.{◌≤◌, ◌+◌, ℕ, List, length, take, drop, All}
 use Rattle.std.specs.List.Sorted.{IsStrictlyIncreasing}
 use Rattle.stream_base.specs.declared.kept.Kept.{Kept}
-use Rattle.stream_base.specs.declared.limits.TheConstants.{JOURNAL_MAX, TIME_MAX}
+use Rattle.stream_base.specs.declared.limits.TheConstants.{TIME_MAX}
 use Rattle.stream_base.specs.Laws.{AreInEventOrder}
 use Rattle.stream_base.specs.Model.Windows.{Instance}
 use Rattle.plain_windows.specs.declared.extent.Extent.{Extent}
@@ -19,6 +19,6 @@ IsExtentIn kept e = e.first + e.count ≤ length kept
 pub record AreKeyLists (kept : List Kept) (marks : List ℕ) : Type 0 where
   pub in_order : AreInEventOrder kept
   pub times : All (λ x. x.time ≤ TIME_MAX) kept
-  pub few : length kept ≤ JOURNAL_MAX
+  pub few : length kept ≤ TIME_MAX
   pub rising : IsStrictlyIncreasing marks
   pub mark_times : All (λ m. m ≤ TIME_MAX) marks

@@ -2,7 +2,7 @@
 ghost use Rattle.std.specs.Prelude.{All, ◌≡◌, ◌≤◌, length};
 ghost use Rattle.std.specs.List.{list_all};
 ghost use Rattle.std.specs.List.Sorted.{IsStrictlyIncreasing};
-ghost use Rattle.stream_base.specs.declared.limits.TheConstants.{JOURNAL_MAX, TIME_MAX};
+ghost use Rattle.stream_base.specs.declared.limits.TheConstants.{TIME_MAX};
 ghost use Rattle.stream_base.specs.Limits.{Definitions, IsKindWithin};
 ghost use Rattle.stream_base.specs.Model.Slices.{is_events, is_settled_in, runs_of, unsettled};
 ghost use Rattle.window_laws.specs.Positions.{HaveDistinctPositions};
@@ -77,7 +77,7 @@ fn count_slices(windows: &[Def], marks: &[u64], kept: &[Kept]) -> u64
     requires windows { AreWindows windows.now }
     requires rising { IsStrictlyIncreasing marks.now }
     requires times { All (λ x. x.time ≤ TIME_MAX) kept.now }
-    requires few { length kept.now ≤ JOURNAL_MAX }
+    requires few { length kept.now ≤ TIME_MAX }
     ensures { result ≡ length (runs_of windows.now marks.now kept.now) }
 {
     if kept.is_empty() {
