@@ -58,5 +58,5 @@ place_or_end : (place end : ℕ) (b : Bool) → ltb place end ≡ b → place �
 place_or_end place end true t l = refl
 place_or_end place end false t l = grind (arith, nat_tests)
 
-pub first_or_end : (p : ℕ → Bool) (xs : List ℕ) → unwrap_or (position p xs) (length xs) ≡ position_or_len p xs
+pub first_or_end : {X : Type 0} (p : X → Bool) (xs : List X) → unwrap_or (position p xs) (length xs) ≡ position_or_len p xs
 first_or_end p xs = place_or_end (position_or_len p xs) (length xs) (ltb (position_or_len p xs) (length xs)) refl (prefix_len-le-length (λ x. not (p x)) xs)

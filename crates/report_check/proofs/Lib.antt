@@ -1,4 +1,6 @@
+mod Following
 mod Fronts
+mod SortedPlaces
 mod Judging
 mod Parting
 mod Ranges

@@ -3,3 +3,5 @@ pub mod Findings
 pub mod Examples
 pub mod Told
 pub mod Waters
+pub mod Held
+pub mod Ledgers

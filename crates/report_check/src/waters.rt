@@ -135,7 +135,7 @@ fn lesser(least: Option<u64>, water: u64) -> u64
 
 // The same, and the final time where all have ended.
 #[tactic(auto, unfolding(stream_base::specs::Model::Watermark::least_water))]
-fn least_water(sources: u16, journal: &[Entry]) -> u64
+pub fn least_water(sources: u16, journal: &[Entry]) -> u64
     ensures { result ≡ least_water sources journal.now }
 {
     if all_ended(sources, journal) {

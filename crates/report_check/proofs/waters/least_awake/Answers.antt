@@ -1,7 +1,7 @@
 -- One source more is asked.
 use Rattle.std.proofs.Common.{◌≡◌, ◌∙◌, ◌-◌, ◌+◌, Some, cond, map, filter, sym, ap, rules}
 use Rattle.std.specs.List.{range_with_len}
-use Rattle.stream_base.specs.Model.Watermark.{awake_waters, is_awake, source_water}
+use Rattle.stream_base.specs.Model.Watermark.{is_awake, source_water}
 use Rattle.report_check.specs.Waters.{least_with, lesser}
 use Rattle.report_check.proofs.Ranges.{least_step}
 use Rattle.report_check.proofs.waters.least_awake.Goals as goal

@@ -1,0 +1,16 @@
+-- The tuple is the next of the key.
+use Rattle.std.proofs.Common.{◌≡◌, ◌∙◌, ℕ, ℤ, ap, length, sym, subst, w64}
+use Rattle.std.proofs.lemmas.Int.{to_z-of_z}
+use Rattle.stream_base.specs.declared.kept.Kept.{Kept}
+use Rattle.report_check.specs.Ledgers.{StandsBehind, held_with_tuple}
+use Rattle.report_check.proofs.Following.{behind_tuple}
+use Rattle.report_check.proofs.key_lists.KeyLists.put.Goals as goal
+
+abbrev at : ℕ → ℕ → ℤ → Kept
+at position time value = record { position = position; time = time; value = value }
+
+pub move_to-requires-clause-behind : goal.move_to-requires-clause-behind
+move_to-requires-clause-behind g c =
+    let s = c.args.step.now in
+    let x : c.kept_at-x.result ≡ at (length s.past.now) c.args.time c.args.value = c.kept_at-x.ensures ∙ ap (at (length s.past.now) c.args.time) (to_z-of_z w64 c.args.value c.ranges.value) in
+    subst (StandsBehind s) (sym (c.in_ok-next.ensures ∙ ap (held_with_tuple c.args.self.now) x)) (behind_tuple s c.args.self.now c.args.time c.args.value c.requires.step c.requires.before c.requires.says)
