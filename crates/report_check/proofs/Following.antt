@@ -42,7 +42,8 @@ use Rattle.window_laws.proofs.MomentFacts.{moment_of_late, moment_of_mark, momen
 use Rattle.plain_windows.specs.Changing.{all_completions}
 use Rattle.plain_windows.specs.Views.{AreWindows, IsMoment}
 use Rattle.report_check.specs.Held.{Held}
-use Rattle.report_check.specs.Ledgers.{IsFollowed, IsLedger, IsReadable, IsReadyFor, IsStep, StandsAfter, StandsBefore, StandsBehind, behind, by_key, changes_in, held_with_mark, held_with_tuple, keys_in, moment_in, nothing_of}
+use Rattle.report_check.specs.Readable.{IsReadable}
+use Rattle.report_check.specs.Ledgers.{IsFollowed, IsLedger, IsReadyFor, IsStep, StandsAfter, StandsBefore, StandsBehind, behind, by_key, changes_in, held_with_mark, held_with_tuple, keys_in, moment_in, nothing_of}
 use Rattle.report_check.specs.declared.ledger.Ledger.{Ledger}
 use Rattle.report_check.specs.declared.step.Step.{Step}
 

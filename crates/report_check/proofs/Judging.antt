@@ -1,8 +1,11 @@
 -- What holds of each number below another, and of that one too.
-use Rattle.std.proofs.Common.{◌≡◌, ℕ, ◌+◌, ◌<◌, Bool, true, false, ltb, List, [], length, get_or, None, refl, subst, arith}
+use Rattle.std.proofs.Common.{◌≡◌, ◌∙◌, ℕ, ◌+◌, ◌<◌, Bool, true, false, ltb, List, [], length, get_or, None, refl, subst, arith}
 use Rattle.stream_base.specs.declared.entry.Entry.{Entry}
 use Rattle.stream_base.specs.Model.Routes.{IsLawful}
-use Rattle.report_check.specs.Findings.{AreJudged, IsRight}
+use Rattle.stream_base.specs.Limits.{Definitions}
+use Rattle.stream_base.specs.Model.Journals.{journals_of}
+use Rattle.stream_base.specs.Model.Text.{Form, report_of}
+use Rattle.report_check.specs.Findings.{AreJudged, IsRight, form_in, report_in}
 use Rattle.std.proofs.lemmas.Bool.Decides.{nat_tests}
 
 pub one_more : (P : ℕ → Type 0) (n : ℕ) → ((k : ℕ) → k < n → P k) → P n → (k : ℕ) → k < n + 1 → P k
@@ -22,3 +25,9 @@ lawful_where_right shards sources journals count right = record {
   where
     right' : (k : ℕ) → k < length journals → IsRight shards sources k (get_or journals k [])
     right' k below = subst (λ n. IsRight n sources k (get_or journals k [])) count (right k below)
+
+-- a text that is told in the form of another, of the journals in it, is that one's report
+pub told_report : (d : Definitions) (n : ℕ) (sources : List (List Entry)) (text told : List ℕ) (form : Form) (journals : List (List Entry)) → n ≡ length sources → form ≡ form_in text → journals ≡ journals_of text
+    → told ≡ report_of form d n journals → told ≡ report_in d (length sources) text
+unfolding report_in
+told_report d n sources text told form journals count same are is = is ∙ (λ i. report_of (same i) d (count i) (are i))

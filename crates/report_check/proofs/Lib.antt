@@ -1,6 +1,7 @@
 mod Following
 mod Fronts
 mod SortedPlaces
+mod Telling
 mod Judging
 mod Parting
 mod Ranges

@@ -1,10 +1,11 @@
 -- Headers, and entries at the end of the last journal.
-use Rattle.std.proofs.Common.{◌≡◌, ◌∙◌, ℕ, ◌-◌, ◌^◌, ◌<◌, suc, Bool, true, false, List, [], ◌∷◌, ◌++◌, length, set, get_or, min, refl, sym, ap, subst, arith, codes, ltb, IfOk, OnOk, Result, Ok, Err}
+use Rattle.std.proofs.Common.{◌≡◌, ◌∙◌, ℕ, ◌-◌, ◌^◌, ◌<◌, suc, Bool, true, false, List, [], ◌∷◌, ◌++◌, length, set, get_or, min, refl, sym, ap, subst, arith, codes, ltb, IfOk, OnOk, Result, Ok, Err, Some, cond}
+use Rattle.std.specs.Option.{option_map_or}
 use Rattle.std.specs.Prelude.{decimal, ◌&&◌}
 use Rattle.std.specs.Str.{bytes_eq}
 use Rattle.std.proofs.lemmas.Bool.Decides.{nat_tests}
 use Rattle.stream_base.specs.declared.entry.Entry.{Entry}
-use Rattle.stream_base.specs.Model.Journals.{after_word, is_header, number_in, with_entry}
+use Rattle.stream_base.specs.Model.Journals.{after_line, after_word, entry_in, is_header, number_in, with_entry}
 use Rattle.stream_base.specs.Model.Text.{line_of}
 use Rattle.stream_base.proofs.Absent.{bytes_eq_true}
 use Rattle.stream_base.proofs.ReadBackExact.{is_header-exact}
@@ -59,3 +60,7 @@ header_by_number line m e = within line m (ltb (number_in (after_word line)) (2 
 pub if_ok : {E : Type 0} (r : Result Bool E) {a b : Bool} → a ≡ b → IfOk r (λ yes. yes ≡ a) → IfOk r (λ yes. yes ≡ b)
 if_ok (Ok is) e h = h ∙ e
 if_ok (Err fault) e h = tt
+
+-- the line of an entry adds it to the last journal
+pub after_entry : (journals : List (List Entry)) (line : List ℕ) (e : Entry) → is_header line ≡ false → entry_in line ≡ Some e → after_line journals line ≡ with_entry journals e
+after_entry journals line e header found = λ i. cond (header i) (journals ++ [] ∷ []) (option_map_or (with_entry journals) (found i) journals)

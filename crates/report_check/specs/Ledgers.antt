@@ -1,5 +1,5 @@
 -- What is known of the keys of a journal, kept as plain lists, and one entry more.
-use Rattle.std.specs.Prelude.{◌≡◌, ◌≤◌, ◌++◌, ℕ, false, List, [], ◌∷◌, length, map, All}
+use Rattle.std.specs.Prelude.{◌≡◌, ◌++◌, ℕ, false, List, [], ◌∷◌, map, All}
 use Rattle.std.specs.BTreeSet.{insert_key}
 use Rattle.std.specs.Cmp.Lexicographic.{slice_cmp}
 use Rattle.std.specs.Ordering.{nat_cmp}
@@ -7,14 +7,13 @@ use Rattle.std.specs.declared.cmp.Ordering.{Ordering}
 use Rattle.stream_base.specs.declared.change.Change.{Change}
 use Rattle.stream_base.specs.declared.entry.Entry.{Entry}
 use Rattle.stream_base.specs.declared.kept.Kept.{Kept}
-use Rattle.stream_base.specs.declared.limits.TheConstants.{TIME_MAX}
 use Rattle.stream_base.specs.Limits.{AreWithinLimits, Definitions}
 use Rattle.stream_base.specs.Model.Changes.{Moment, changes_of_key, moment_of}
 use Rattle.stream_base.specs.Model.Journal.{keys_of, put_in_order}
 use Rattle.stream_base.specs.Model.Watermark.{water_of}
 use Rattle.stream_base.specs.Model.What.{is_late}
-use Rattle.stream_base.specs.ReadBack.{AreEntriesWithin}
 use Rattle.report_check.specs.Held.{Held}
+use Rattle.report_check.specs.Readable.{IsReadable}
 use Rattle.report_check.specs.declared.ledger.Ledger.{Ledger}
 use Rattle.report_check.specs.declared.step.Step.{Step}
 
@@ -43,11 +42,6 @@ keys_in lists = map (λ h. h.key) lists
 -- the lists of a key are those that it has after a journal
 abbrev pub StandsAfter : Definitions → ℕ → List Entry → Held → Type 0
 StandsAfter d sources journal h = moment_in h (water_of sources journal) ≡ moment_of d sources h.key journal
-
--- a journal's entries are within their limits, and no more than there are times
-pub record IsReadable (journal : List Entry) : Type 0 where
-  pub within : AreEntriesWithin journal
-  pub few : length journal ≤ TIME_MAX
 
 -- a ledger has the watermark of a journal, and the lists of each of its keys, by the bytes of the keys
 pub record IsLedger (d : Definitions) (sources : ℕ) (journal : List Entry) (l : Ledger) : Type 0 where

@@ -3,5 +3,6 @@ pub mod Findings
 pub mod Examples
 pub mod Told
 pub mod Waters
+pub mod Readable
 pub mod Held
 pub mod Ledgers

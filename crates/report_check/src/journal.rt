@@ -1,10 +1,13 @@
-ghost use Rattle.std.specs.Prelude.{◌≡◌, ◌++◌, ◌∷◌, [], OnOk};
+ghost use Rattle.std.specs.Prelude.{◌≡◌, ◌++◌, ◌∷◌, [], OnOk, true};
+ghost use Rattle.stream_base.specs.Model.Journals.{is_entry_within};
+ghost use Rattle.report_check.specs.Readable.{IsReadable};
 
 use std::alloc::Global;
 use std::marker::Model;
-use stream_base::{Entry, NoMemory, What};
+use stream_base::{Entry, NoMemory, TIME_MAX, What};
 
-/// A journal read from a report. Contracts see its entries, in order.
+/// A journal read from a report: entries within their limits, and no more than there are times.
+/// Contracts see its entries, in order.
 #[derive(Drop)]
 pub struct Journal {
     entries: Vec<Entry>,
@@ -16,7 +19,11 @@ impl Model for Journal {
 
     ghost Value = { List Entry };
 
+    ghost use Rattle.report_check.specs.Readable.{IsReadable};
+
     ghost view = { λ journal. journal.entries.items };
+
+    ghost invariant = { λ journal. IsReadable journal.entries.items };
 }
 
 impl Journal {
@@ -31,16 +38,21 @@ impl Journal {
 
     /// The entries, in order.
     pub fn entries(&self) -> &[Entry]
-        ensures { result.now ≡ self.now }
+        ensures value { result.now ≡ self.now }
+        ensures readable { IsReadable self.now }
     {
         &self.entries
     }
 
-    /// One entry more at the end: what a source said.
+    /// One entry more at the end: what a source said. No memory holds more than 10^15.
     pub fn push(&mut self, source: u16, what: What) -> Result<(), NoMemory>
+        requires { is_entry_within (record { source = source; what = what }) ≡ true }
         ensures { OnOk result (self.new
             ≡ self.old ++ record { source = source; what = what } ∷ []) }
     {
+        if self.entries.len() as u64 >= TIME_MAX {
+            return Err(NoMemory);
+        }
         self.entries.reserve(1)?;
         self.entries.push_reserved(Entry { source, what });
         Ok(())

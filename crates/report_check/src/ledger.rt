@@ -7,7 +7,8 @@ ghost use Rattle.stream_base.specs.Limits.{Definitions};
 ghost use Rattle.stream_base.specs.Model.Changes.{changes_after};
 ghost use Rattle.stream_base.specs.Model.Watermark.{water_of};
 ghost use Rattle.stream_base.specs.Model.What.{is_late, is_what_within};
-ghost use Rattle.report_check.specs.Ledgers.{IsLedger, IsReadable, IsReadyFor, IsStep, StandsBefore, StandsBehind, by_key, changes_in, keys_in, nothing_of};
+ghost use Rattle.report_check.specs.Readable.{IsReadable};
+ghost use Rattle.report_check.specs.Ledgers.{IsLedger, IsReadyFor, IsStep, StandsBefore, StandsBehind, by_key, changes_in, keys_in, nothing_of};
 
 use crate::key_lists::KeyLists;
 use crate::step::Step;

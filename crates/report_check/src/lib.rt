@@ -3,14 +3,15 @@
 //! *From* the bytes of a report and the entries of its sources *to* a finding. *Stands on* the base
 //! crate, on the windows of one key over plain lists, and on the way from a key to its shard: no
 //! slice, queue or tree has a part in it.
-//! *Promise*: the parts of a finding are those of its definition: the journals that a text holds,
-//! the changes under each entry of any journal, anew from the plain lists of its keys, the lines of
-//! entries and changes, the line in which two texts differ, and the first shard whose journal is
-//! wrong. The finding as a whole is defined, and isn't made yet.
+//! *Promise*: what `check_report` answers is the finding of its definition, for any bytes: it reads the
+//! journals out of the text, tells their report anew from the plain lists of each key, and says the
+//! first line in which the text isn't that report, or the first shard whose journal isn't what the
+//! sources said.
 #![tactic(auto)]
 
 mod apart;
 mod change_line;
+mod check;
 mod entry_line;
 pub mod examples;
 mod finding;
@@ -27,11 +28,12 @@ mod read;
 mod routes;
 mod same;
 mod step;
+mod tell;
 mod told;
 mod waters;
 mod words;
 
+pub use check::check_report;
 pub use finding::Finding;
 pub use journal::Journal;
-pub use ledger::Ledger;
 pub use read::journals_of;

@@ -1,8 +1,8 @@
 //! The journals that a text holds.
-ghost use Rattle.std.specs.Prelude.{◌≡◌, ◌++◌, ◌∷◌, [], IfOk, OnOk, codes, decimal, min};
+ghost use Rattle.std.specs.Prelude.{◌≡◌, ◌++◌, ◌∷◌, [], IfOk, IfSome, OnOk, codes, decimal, min, true};
 ghost use Rattle.std.specs.Str.{bytes_eq};
 ghost use Rattle.stream_base.specs.Model.Text.{entry_line};
-ghost use Rattle.stream_base.specs.Model.Journals.{after_line, entry_in, is_header, journals_of, with_entry};
+ghost use Rattle.stream_base.specs.Model.Journals.{after_line, entry_in, is_entry_within, is_header, journals_of, with_entry};
 
 use crate::entry_line::put_entry;
 use crate::guess::guessed_entry;
@@ -54,6 +54,7 @@ fn begin(alloc: Global, journals: &mut Vec<Journal>) -> Result<(), NoMemory>
 
 // Puts an entry at the end of the last journal, where there is one.
 fn put_last(source: u16, what: What, journals: &mut Vec<Journal>) -> Result<(), NoMemory>
+    requires { is_entry_within (record { source = source; what = what }) ≡ true }
     ensures { OnOk result (journals.new.items
         ≡ with_entry journals.old.items (record { source = source; what = what })) }
 {
@@ -78,7 +79,8 @@ fn is_header(alloc: Global, line: &[u8]) -> Result<bool, NoMemory>
 
 // The entry whose journal line a line is, if it is one.
 fn entry_in(alloc: Global, line: &[u8]) -> Result<Option<Entry>, NoMemory>
-    ensures { IfOk result (λ found. found ≡ entry_in line.now) }
+    ensures value { IfOk result (λ found. found ≡ entry_in line.now) }
+    ensures within { IfOk result (λ found. IfSome found (λ e. is_entry_within e ≡ true)) }
 {
     match guessed_entry(line) {
         Some(entry) => {

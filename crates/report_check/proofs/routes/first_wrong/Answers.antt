@@ -10,7 +10,7 @@ loop-shard-preserved c =
     let shards = length c.args.journals.now in
     let sources = lists_of c.args.sources.now in
     let judged : IsRight shards sources c.loop-shard.shard c.entries-journal.result.now = subst (λ found. IsJudged shards sources c.loop-shard.shard c.entries-journal.result.now found) c.in-None.is c.in_ok-source.ensures in
-    let there : c.entries-journal.result.now ≡ get_or c.args.journals.now c.loop-shard.shard c.index-journals-shard.result = c.entries-journal.ensures ∙ c.index-journals-shard.is in
+    let there : c.entries-journal.result.now ≡ get_or c.args.journals.now c.loop-shard.shard c.index-journals-shard.result = c.entries-journal.ensures.value ∙ c.index-journals-shard.is in
     let same : c.entries-journal.result.now ≡ get_or c.args.journals.now c.loop-shard.shard [] = there ∙ get_or_default c.args.journals.now c.loop-shard.shard c.index-journals-shard.result [] c.loop-shard-test.true in
     one_more (λ k. IsRight shards sources k (get_or c.args.journals.now k [])) c.loop-shard.shard c.loop-shard.invariant
     (subst (λ journal. IsRight shards sources c.loop-shard.shard journal) same judged)
