@@ -1,0 +1,9 @@
+pub mod Ranges
+pub mod NextFacts
+pub mod Counts
+pub mod HeldFacts
+pub mod LateFacts
+pub mod ServedFacts
+pub mod WalkFacts
+pub mod MoveFacts
+pub mod AdvanceFacts

@@ -1,0 +1,18 @@
+-- What stood of the complete intervals, of which the store holds all tuples.
+use Rattle.std.proofs.Common.{◌≡◌, ◌++◌, sym, subst}
+use Rattle.stream_base.specs.declared.def.Def.{Def}
+use Rattle.slice_store.specs.Stored.{tuples_of}
+use Rattle.time_lanes.specs.Late.{IsFound, formers_of}
+use Rattle.time_lanes.proofs.LateFacts.{formers_told}
+use Rattle.time_lanes.proofs.ServedFacts.{same_window}
+use Rattle.time_lanes.proofs.lane.Lane.formers.Goals as goal
+
+pub returns-clause-formers : goal.returns-clause-formers
+returns-clause-formers g c = λ def gone stands found.
+    let d = c.serve.result.def in
+    let s = c.args.store.now in
+    let same : def ≡ d = same_window c.args.defs.now.windows c.args.window def d stands c.serve.ensures.stands in
+    let here = subst (λ (e : Def). IsFound e.kind c.args.time gone s) same found in
+    let into = c.append_formers.new.into.items in
+    subst (λ (e : Def). into ≡ c.args.into.now.items ++ formers_of e c.args.time c.args.water (gone ++ tuples_of s)) (sym same)
+    (formers_told d c.args.time c.args.water gone s c.serve.result.span.length c.serve.result.span.slide c.complete_at-found.result.first c.complete_at-found.result.count c.args.into.now.items into c.serve.ensures.length c.serve.ensures.slide c.complete_at-found.ensures.starts here.apart (c.append_formers.ensures.told here.few))

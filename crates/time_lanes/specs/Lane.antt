@@ -1,0 +1,49 @@
+-- What a lane is in contracts, and what it knows of the slices of its key.
+use Rattle.std.specs.Prelude.{◌≡◌, ◌≤◌, ℕ, Bool, false, List, [], map, if◌then◌else◌}
+use Rattle.stream_base.specs.declared.kept.Kept.{Kept}
+use Rattle.stream_base.specs.declared.kind.Kind.{Kind}
+use Rattle.agg_laws.specs.Bundled.{Bundled, bundle_of}
+use Rattle.window_laws.specs.Late.{length_of, slide_of}
+use Rattle.window_laws.specs.Runs.{runs_within}
+use Rattle.window_laws.specs.Walk.{next_start_of}
+use Rattle.slice_store.specs.Slices.{values_of}
+use Rattle.slice_store.specs.Stored.{Stored}
+use Rattle.time_lanes.specs.Spans.{IsEdge, last_end_of}
+
+-- the partials of the slices that it holds, oldest first; up to where it holds them; whether one of them has changed since; for how many more there is room; and what is left of the steps that were paid for
+pub record Laned : Type 0 where
+  pub partials : List Bundled
+  pub to : ℕ
+  pub stale : Bool
+  pub spare : ℕ
+  pub credit : ℕ
+
+-- the partials of slices
+abbrev pub partials_of : List (List Kept) → List Bundled
+partials_of runs = map (λ run. bundle_of (values_of run)) runs
+
+-- what is left of a lane that lets all go where one of the slices has changed
+abbrev pub fresh_partials : Laned → List Bundled
+fresh_partials lane = if lane.stale then [] else lane.partials
+
+abbrev pub fresh_to : Laned → ℕ
+fresh_to lane = if lane.stale then 0 else lane.to
+
+-- what a lane knows of the slices at a watermark: unless it is stale, it holds the partials of those that the next interval needs, up to an end that the watermark has reached
+pub record Knows (kind : Kind) (water : ℕ) (s : Stored) (lane : Laned) : Type 0 where
+  pub reached : lane.to ≤ last_end_of kind water
+  pub edge : IsEdge (length_of kind) (slide_of kind) lane.to
+  pub held : lane.stale ≡ false
+      → lane.partials ≡ partials_of (runs_within (next_start_of kind water) lane.to s.slices)
+
+-- and it misses none of those in the intervals that are complete
+pub record KnowsAll (kind : Kind) (water : ℕ) (s : Stored) (lane : Laned) : Type 0 where
+  pub fresh : lane.stale ≡ false
+  pub none_missed : runs_within lane.to (last_end_of kind water) s.slices ≡ []
+
+-- only room differs
+pub record IsAsBefore (old new : Laned) : Type 0 where
+  pub partials : new.partials ≡ old.partials
+  pub to : new.to ≡ old.to
+  pub stale : new.stale ≡ old.stale
+  pub credit : new.credit ≡ old.credit

@@ -1,0 +1,47 @@
+-- The window that a lane serves, and how its intervals lie.
+use Rattle.std.specs.Prelude.{◌≡◌, ◌≤◌, ◌+◌, ◌-◌, ◌*◌, ◌/◌, ◌⊎◌, ℕ, true, List, Some, slice_get, nat_lt, if◌then◌else◌}
+use Rattle.stream_base.specs.declared.def.Def.{Def}
+use Rattle.stream_base.specs.declared.kept.Kept.{Kept}
+use Rattle.stream_base.specs.declared.kind.Kind.{Kind}
+use Rattle.stream_base.specs.declared.limits.TheConstants.{FINAL, TIME_MAX}
+use Rattle.stream_base.specs.Laws.{is_timed}
+use Rattle.window_laws.specs.Late.{length_of, slide_of}
+use Rattle.window_laws.specs.Runs.{IsAligned}
+
+-- the window at a place is this one
+abbrev pub IsWindowAt : List Def → ℕ → Def → Type 0
+IsWindowAt windows window def = slice_get windows window ≡ Some def
+
+-- there is a window at a place, and it is tumbling or sliding
+pub record IsServed (windows : List Def) (window : ℕ) : Type 0 where
+  pub def : Def
+  pub stands : IsWindowAt windows window def
+  pub timed : is_timed def.kind ≡ true
+
+-- a watermark: a time, or the final one
+abbrev pub IsWater : ℕ → Type 0
+IsWater water = (water ≤ TIME_MAX) ⊎ (water ≡ FINAL)
+
+-- intervals move on, overlap or touch, and are no longer than times are great
+pub record IsSpan (length slide : ℕ) : Type 0 where
+  pub moves : 1 ≤ slide
+  pub overlaps : slide ≤ length
+  pub short : length ≤ TIME_MAX
+
+-- the end of the last interval that ends at or before a time, and 0 where there is none
+abbrev pub last_end : ℕ → ℕ → ℕ → ℕ
+last_end length slide time =
+    if nat_lt time length then 0 else (time - length) / slide * slide + length
+
+-- the same of a window that is tumbling or sliding
+abbrev pub last_end_of : Kind → ℕ → ℕ
+last_end_of kind time = last_end (length_of kind) (slide_of kind) time
+
+-- 0, or the end of an interval
+abbrev pub IsEdge : ℕ → ℕ → ℕ → Type 0
+IsEdge length slide time = (time ≡ 0) ⊎ ((k : ℕ) × (time ≡ k * slide + length))
+
+-- no slice has tuples on both sides of a start or an end
+pub record ArePartedAt (length slide : ℕ) (slices : List (List Kept)) : Type 0 where
+  pub starts : (k : ℕ) → IsAligned slices (k * slide)
+  pub ends : (k : ℕ) → IsAligned slices (k * slide + length)

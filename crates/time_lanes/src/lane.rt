@@ -1,0 +1,291 @@
+//! The lane of one window.
+ghost use Rattle.std.specs.Prelude.{◌≡◌, ◌≤◌, ◌<◌, ◌+◌, ◌-◌, ◌*◌, ◌^◌, ◌++◌, ◌||◌, ℕ, List, [], false, length, nat_lt, OnOk, IfOk, Option, vec_len, vec_capacity};
+ghost use Rattle.std.specs.BTreeSet.{insert_key};
+ghost use Rattle.std.specs.List.{flat_map};
+ghost use Rattle.stream_base.specs.declared.def.Def.{Def};
+ghost use Rattle.stream_base.specs.declared.former.Former.{Former};
+ghost use Rattle.stream_base.specs.declared.kept.Kept.{Kept};
+ghost use Rattle.stream_base.specs.declared.kind.Kind.{Kind};
+ghost use Rattle.stream_base.specs.declared.limits.TheConstants.{TIME_MAX};
+ghost use Rattle.stream_base.specs.Laws.{completions};
+ghost use Rattle.stream_base.specs.Model.Changes.{Moment, emissions};
+ghost use Rattle.window_laws.specs.After.{with_tuple};
+ghost use Rattle.slice_store.specs.Stored.{IsSliced, Stored, tuples_of};
+ghost use Rattle.time_lanes.specs.Lane.{IsAsBefore, Knows, KnowsAll, fresh_partials, fresh_to};
+ghost use Rattle.time_lanes.specs.Late.{IsFound, IsLate, complete_holding, formers_of};
+ghost use Rattle.time_lanes.specs.Moves.{MayMove, completed_starts, moment, slices_between, slices_due, slices_in_last};
+ghost use Rattle.time_lanes.specs.Spans.{IsServed, IsWater, IsWindowAt};
+
+use crate::due::{count_due, count_slices, tell_due};
+use crate::held::Held;
+use crate::late::{append_formers, append_late, complete_at};
+use crate::owner::Owner;
+use crate::served::{Served, serve, window_at};
+use crate::span::Span;
+use agg_laws::{AggQueue, AggTree, Bundle, Steps};
+use slice_store::SliceStore;
+use std::alloc::Global;
+use std::marker::Model;
+use stream_base::{Change, Defs, Former, KeyText, NoMemory};
+
+/// The lane of one tumbling or sliding window of one key: a queue of the partials of those slices
+/// that intervals need which aren't complete. Contracts see the partials, up to where they go,
+/// whether one of them has changed since, for how many more there is room, and the credit.
+///
+/// The window and the definitions that a call is handed are those of every call before it. That a
+/// lane knows the slices of its store at a watermark is told by `Knows`, which a new lane does where
+/// the store is empty, and which what comes to the store leaves as it is, where `touched` is told.
+#[derive(Drop)]
+pub struct Lane<Q: AggQueue<Bundle>> {
+    held: Held<Q>,
+    stale: bool,
+}
+
+impl<Q: AggQueue<Bundle>> Model for Lane<Q> {
+    ghost use Rattle.time_lanes.specs.Lane.{Laned};
+
+    ghost Value = { Laned };
+
+    ghost view = { λ l. record {
+      partials = l.held.partials;
+      to = l.held.to;
+      stale = l.stale;
+      spare = l.held.spare;
+      credit = l.held.credit;
+    } };
+}
+
+impl<Q: AggQueue<Bundle>> Lane<Q> {
+    /// A lane that holds nothing: it knows an empty store at every watermark.
+    pub fn new(alloc: Global) -> Lane<Q>
+        ensures credit { (result).credit ≡ 0 }
+        ensures knows { (kind : Kind) (water : ℕ) (s : Stored) → s.slices ≡ []
+            → Knows kind water s result }
+        ensures knows_all { (kind : Kind) (water : ℕ) (s : Stored) → s.slices ≡ []
+            → KnowsAll kind water s result }
+    {
+        Lane {
+            held: Held::new(alloc),
+            stale: false,
+        }
+    }
+
+    /// Makes room for a move of the watermark, and answers how many rows its `advance` will append.
+    pub fn reserve<T: AggTree<Bundle>>(
+        &mut self,
+        defs: &Defs,
+        window: u32,
+        store: &SliceStore<T>,
+        old: u64,
+        new: u64,
+    ) -> Result<u64, NoMemory>
+        requires served { IsServed defs.now.windows window }
+        requires sliced { IsSliced defs.now.windows store.now }
+        requires old { IsWater old }
+        requires new { IsWater new }
+        ensures kept { IsAsBefore self.old self.new }
+        ensures spare { self.old.spare ≤ self.new.spare }
+        ensures room { (def : Def) → IsWindowAt defs.now.windows window def → OnOk result
+            (length (slices_due def.kind self.old store.now old new) ≤ self.new.spare) }
+        ensures number { (def : Def) → IsWindowAt defs.now.windows window def → IfOk result
+            (λ n. n ≡ length (completed_starts def.kind (tuples_of store.now) old new)) }
+    {
+        let Served { span, .. } = serve(defs, window, store);
+        let start = span.next_start(old);
+        let from = if self.stale {
+            start
+        } else {
+            start.max(self.held.to())
+        };
+        self.held
+            .reserve(count_slices(store, from, span.last_end(new)))?;
+        Ok(count_due(store, &span, start, new))
+    }
+
+    /// Follows a move of the watermark, and appends exactly the rows of the intervals that it
+    /// completes, as new, by their starts. `reserve` made the room, and said how many rows there
+    /// will be.
+    ///
+    /// The work is bounded on credit by 10 steps for each slice of the intervals that end in the
+    /// move, and 1 for each row; where the lane has missed slices of complete intervals, or was
+    /// touched, by 10 more for each slice of the last one of these.
+    pub fn advance<T: AggTree<Bundle>, L>(
+        &mut self,
+        defs: &Defs,
+        window: u32,
+        store: &SliceStore<T>,
+        key: &KeyText,
+        old: u64,
+        new: u64,
+        out: &mut Vec<Change>,
+        steps: &mut Steps<L>,
+    )
+        requires served { IsServed defs.now.windows window }
+        requires sliced { IsSliced defs.now.windows store.now }
+        requires old { IsWater old }
+        requires new { IsWater new }
+        requires order { old ≤ new }
+        requires room { (def : Def) → IsWindowAt defs.now.windows window def
+            → length (slices_due def.kind self.old store.now old new) ≤ self.old.spare }
+        requires spare { (def : Def) → IsWindowAt defs.now.windows window def
+            → length (completed_starts def.kind (tuples_of store.now) old new)
+            ≤ vec_capacity out.old - vec_len out.old }
+        ensures changes { (def : Def) (gone : List Kept) (marks : List ℕ)
+            → IsWindowAt defs.now.windows window def → MayMove def.kind old gone store.now self.old
+            → out.new.items ≡ out.old.items ++ completions key.now
+            (moment (gone ++ tuples_of store.now) marks old) new (window, def) }
+        ensures knows { (def : Def) → IsWindowAt defs.now.windows window def
+            → Knows def.kind old store.now self.old → Knows def.kind new store.now self.new }
+        ensures knows_all { (def : Def) → IsWindowAt defs.now.windows window def
+            → KnowsAll def.kind new store.now self.new }
+        ensures number { (def : Def) → IsWindowAt defs.now.windows window def → vec_len out.new
+            ≡ vec_len out.old + length (completed_starts def.kind (tuples_of store.now) old new) }
+        ensures capacity { vec_capacity out.new ≡ vec_capacity out.old }
+        ensures cost { (def : Def) → IsWindowAt defs.now.windows window def
+            → Knows def.kind old store.now self.old → KnowsAll def.kind old store.now self.old
+            → steps.new + self.new.credit ≤ steps.old + self.old.credit
+            + 10 * length (slices_between def.kind store.now old new)
+            + length (completed_starts def.kind (tuples_of store.now) old new) }
+        ensures cost_touched { (def : Def) → IsWindowAt defs.now.windows window def
+            → Knows def.kind old store.now self.old
+            → steps.new + self.new.credit ≤ steps.old + self.old.credit
+            + 10 * (length (slices_between def.kind store.now old new)
+            + length (slices_in_last def.kind store.now old))
+            + length (completed_starts def.kind (tuples_of store.now) old new) }
+    {
+        let Served { def, span } = serve(defs, window, store);
+        let owner = Owner {
+            window,
+            key,
+            func: def.func,
+        };
+        self.refresh();
+        let start = span.next_start(old);
+        let told = tell_due(&mut self.held, owner, &span, store, start, new, out, steps);
+        let next = span.next_start(new);
+        self.held.shed(store, told, next, steps);
+        self.held.pull(store, next, span.last_end(new), steps);
+    }
+
+    // Lets all go where a slice has changed since it was taken up.
+    fn refresh(&mut self)
+        ensures stale { self.new.stale ≡ false }
+        ensures partials { self.new.partials ≡ fresh_partials self.old }
+        ensures to { self.new.to ≡ fresh_to self.old }
+        ensures spare { self.old.spare ≤ self.new.spare }
+        ensures credit { self.new.credit ≤ self.old.credit }
+    {
+        if self.stale {
+            self.held.clear();
+            self.stale = false;
+        }
+    }
+
+    /// How many changes `late` appends for a tuple at a time: one for each complete interval that
+    /// holds it.
+    pub fn late_count(&self, defs: &Defs, window: u32, time: u64, water: u64) -> u64
+        requires served { IsServed defs.now.windows window }
+        requires time { time ≤ TIME_MAX }
+        requires water { IsWater water }
+        ensures number { (def : Def) → IsWindowAt defs.now.windows window def
+            → result ≡ length (complete_holding def.kind time water) }
+        ensures changes { (def : Def) (key : List ℕ) (kept : List Kept) (marks : List ℕ) (x : Kept)
+            → IsWindowAt defs.now.windows window def → x.time ≡ time → result
+            ≡ length (emissions key (moment kept marks water)
+            (with_tuple (moment kept marks water) x) (window, def)) }
+    {
+        let def = window_at(defs, window);
+        complete_at(&Span::of(&def.kind), time, water).count
+    }
+
+    /// Appends what stands of each complete interval that holds a time, by their starts: `None` where
+    /// it selects no tuple. Called before the store takes in a tuple of that time; `late_count` says
+    /// how many there are.
+    pub fn formers<T: AggTree<Bundle>, L>(
+        &self,
+        defs: &Defs,
+        window: u32,
+        store: &SliceStore<T>,
+        time: u64,
+        water: u64,
+        into: &mut Vec<Option<Former>>,
+        steps: &mut Steps<L>,
+    )
+        requires served { IsServed defs.now.windows window }
+        requires sliced { IsSliced defs.now.windows store.now }
+        requires time { time ≤ TIME_MAX }
+        requires water { IsWater water }
+        requires spare { (def : Def) → IsWindowAt defs.now.windows window def
+            → length (complete_holding def.kind time water)
+            ≤ vec_capacity into.old - vec_len into.old }
+        ensures formers { (def : Def) (gone : List Kept) → IsWindowAt defs.now.windows window def
+            → IsFound def.kind time gone store.now → into.new.items
+            ≡ into.old.items ++ formers_of def time water (gone ++ tuples_of store.now) }
+        ensures number { (def : Def) → IsWindowAt defs.now.windows window def → vec_len into.new
+            ≡ vec_len into.old + length (complete_holding def.kind time water) }
+        ensures capacity { vec_capacity into.new ≡ vec_capacity into.old }
+        ensures cost { steps.new ≤ steps.old
+            + 64 * (store.now.reach + 2) * (vec_len into.new - vec_len into.old) }
+    {
+        let Served { def, span } = serve(defs, window, store);
+        let found = complete_at(&span, time, water);
+        append_formers(def.func, &span, store, found, into, steps);
+    }
+
+    /// Appends exactly the changes of a tuple that the store has just taken in: one for each complete
+    /// interval that selects it, by their starts. It is new where the interval selects that tuple
+    /// alone, and else an update with what stood, which `formers` told before.
+    pub fn late<T: AggTree<Bundle>, L>(
+        &self,
+        defs: &Defs,
+        window: u32,
+        store: &SliceStore<T>,
+        key: &KeyText,
+        time: u64,
+        water: u64,
+        formers: &[Option<Former>],
+        out: &mut Vec<Change>,
+        steps: &mut Steps<L>,
+    )
+        requires served { IsServed defs.now.windows window }
+        requires sliced { IsSliced defs.now.windows store.now }
+        requires time { time ≤ TIME_MAX }
+        requires water { IsWater water }
+        requires formers { (def : Def) → IsWindowAt defs.now.windows window def
+            → length (complete_holding def.kind time water) ≤ length formers.now }
+        requires spare { (def : Def) → IsWindowAt defs.now.windows window def
+            → length (complete_holding def.kind time water)
+            ≤ vec_capacity out.old - vec_len out.old }
+        ensures changes { (def : Def) (gone before : List Kept) (marks : List ℕ) (x : Kept)
+            → IsWindowAt defs.now.windows window def
+            → IsLate def time water gone before x formers.now store.now → out.new.items
+            ≡ out.old.items ++ emissions key.now (moment (gone ++ before) marks water)
+            (with_tuple (moment (gone ++ before) marks water) x) (window, def) }
+        ensures number { (def : Def) → IsWindowAt defs.now.windows window def → vec_len out.new
+            ≡ vec_len out.old + length (complete_holding def.kind time water) }
+        ensures capacity { vec_capacity out.new ≡ vec_capacity out.old }
+        ensures cost { steps.new ≤ steps.old
+            + 64 * (store.now.reach + 2) * (vec_len out.new - vec_len out.old) }
+    {
+        let Served { def, span } = serve(defs, window, store);
+        let owner = Owner {
+            window,
+            key,
+            func: def.func,
+        };
+        let found = complete_at(&span, time, water);
+        append_late(owner, &span, store, found, formers, out, steps);
+    }
+
+    /// Tells the lane that a slice which holds a time was changed other than at its end, as by a tuple
+    /// or a mark before the watermark.
+    pub fn touched(&mut self, time: u64)
+        ensures stale { self.new.stale ≡ (self.old.stale || nat_lt time self.old.to) }
+        ensures partials { self.new.partials ≡ self.old.partials }
+        ensures to { self.new.to ≡ self.old.to }
+        ensures spare { self.new.spare ≡ self.old.spare }
+        ensures credit { self.new.credit ≡ self.old.credit }
+    {
+        self.stale = self.stale || time < self.held.to();
+    }
+}
