@@ -7,3 +7,4 @@ pub mod ServedFacts
 pub mod WalkFacts
 pub mod MoveFacts
 pub mod AdvanceFacts
+pub mod StayFacts

@@ -17,7 +17,7 @@ use Rattle.slice_store.specs.Stored.{IsSliced, IsStore, Stored, tuples_of}
 use Rattle.slice_store.proofs.SliceOrder.{times_of_order}
 use Rattle.time_lanes.specs.Spans.{ArePartedAt, IsSpan, IsWindowAt}
 
-stands_among : (windows : List Def) (window : ℕ) (def : Def) → IsWindowAt windows window def → Contains windows def
+pub stands_among : (windows : List Def) (window : ℕ) (def : Def) → IsWindowAt windows window def → Contains windows def
 stands_among windows window def h = (window, slice_get_within windows window def h, get_or_from_slice_get windows window def def h)
 
 pub parted_at_edges : (windows : List Def) (window : ℕ) (def : Def) (s : Stored) (length slide : ℕ) → All (λ w. IsKindWithin w.kind) windows → IsWindowAt windows window def → is_timed def.kind ≡ true → IsSliced windows s → IsStore s → length ≡ length_of def.kind → slide ≡ slide_of def.kind → ArePartedAt length slide s.slices

@@ -47,3 +47,9 @@ pub record IsAsBefore (old new : Laned) : Type 0 where
   pub to : new.to ≡ old.to
   pub stale : new.stale ≡ old.stale
   pub credit : new.credit ≡ old.credit
+
+-- the slices up to each end of an interval stay that lies at or before a time
+abbrev pub IsSameUpTo : Kind → ℕ → Stored → Stored → Type 0
+IsSameUpTo kind time old new =
+    (low edge : ℕ) → IsEdge (length_of kind) (slide_of kind) edge → edge ≤ time
+    → runs_within low edge new.slices ≡ runs_within low edge old.slices

@@ -1,5 +1,6 @@
 -- The window that a lane serves, and how its intervals lie.
-use Rattle.std.specs.Prelude.{◌≡◌, ◌≤◌, ◌+◌, ◌-◌, ◌*◌, ◌/◌, ◌⊎◌, ℕ, true, List, Some, slice_get, nat_lt, if◌then◌else◌}
+use Rattle.std.specs.Prelude.{◌≡◌, ◌≤◌, ◌+◌, ◌-◌, ◌*◌, ◌/◌, ◌⊎◌, ℕ, Bool, false, List, Some, slice_get, nat_lt, if◌then◌else◌}
+use Rattle.std.specs.Option.{option_map_or}
 use Rattle.stream_base.specs.declared.def.Def.{Def}
 use Rattle.stream_base.specs.declared.kept.Kept.{Kept}
 use Rattle.stream_base.specs.declared.kind.Kind.{Kind}
@@ -13,10 +14,8 @@ abbrev pub IsWindowAt : List Def → ℕ → Def → Type 0
 IsWindowAt windows window def = slice_get windows window ≡ Some def
 
 -- there is a window at a place, and it is tumbling or sliding
-pub record IsServed (windows : List Def) (window : ℕ) : Type 0 where
-  pub def : Def
-  pub stands : IsWindowAt windows window def
-  pub timed : is_timed def.kind ≡ true
+abbrev pub is_served : List Def → ℕ → Bool
+is_served windows window = option_map_or (λ def. is_timed def.kind) (slice_get windows window) false
 
 -- a watermark: a time, or the final one
 abbrev pub IsWater : ℕ → Type 0

@@ -1,5 +1,5 @@
 //! The lane of one window.
-ghost use Rattle.std.specs.Prelude.{◌≡◌, ◌≤◌, ◌<◌, ◌+◌, ◌-◌, ◌*◌, ◌^◌, ◌++◌, ◌||◌, ℕ, List, [], false, length, nat_lt, OnOk, IfOk, Option, vec_len, vec_capacity};
+ghost use Rattle.std.specs.Prelude.{◌≡◌, ◌≤◌, ◌<◌, ◌+◌, ◌-◌, ◌*◌, ◌^◌, ◌++◌, ◌||◌, ℕ, List, [], false, true, length, nat_lt, OnOk, IfOk, Option, vec_len, vec_capacity};
 ghost use Rattle.std.specs.BTreeSet.{insert_key};
 ghost use Rattle.std.specs.List.{flat_map};
 ghost use Rattle.stream_base.specs.declared.def.Def.{Def};
@@ -11,10 +11,10 @@ ghost use Rattle.stream_base.specs.Laws.{completions};
 ghost use Rattle.stream_base.specs.Model.Changes.{Moment, emissions};
 ghost use Rattle.window_laws.specs.After.{with_tuple};
 ghost use Rattle.slice_store.specs.Stored.{IsSliced, Stored, tuples_of};
-ghost use Rattle.time_lanes.specs.Lane.{IsAsBefore, Knows, KnowsAll, fresh_partials, fresh_to};
+ghost use Rattle.time_lanes.specs.Lane.{IsAsBefore, IsSameUpTo, Knows, KnowsAll, fresh_partials, fresh_to};
 ghost use Rattle.time_lanes.specs.Late.{IsFound, IsLate, complete_holding, formers_of};
 ghost use Rattle.time_lanes.specs.Moves.{MayMove, completed_starts, moment, slices_between, slices_due, slices_in_last};
-ghost use Rattle.time_lanes.specs.Spans.{IsServed, IsWater, IsWindowAt};
+ghost use Rattle.time_lanes.specs.Spans.{IsWater, IsWindowAt, is_served, last_end_of};
 
 use crate::due::{count_due, count_slices, tell_due};
 use crate::held::Held;
@@ -32,9 +32,9 @@ use stream_base::{Change, Defs, Former, KeyText, NoMemory};
 /// that intervals need which aren't complete. Contracts see the partials, up to where they go,
 /// whether one of them has changed since, for how many more there is room, and the credit.
 ///
-/// The window and the definitions that a call is handed are those of every call before it. That a
-/// lane knows the slices of its store at a watermark is told by `Knows`, which a new lane does where
-/// the store is empty, and which what comes to the store leaves as it is, where `touched` is told.
+/// The window and the definitions that a call is handed are those of every call before it. `Knows`
+/// says that a lane knows the slices of its store at a watermark. A new lane knows an empty store at
+/// every watermark; `laws` and `touched` say that it knows the store after each call on it.
 #[derive(Drop)]
 pub struct Lane<Q: AggQueue<Bundle>> {
     held: Held<Q>,
@@ -79,14 +79,14 @@ impl<Q: AggQueue<Bundle>> Lane<Q> {
         old: u64,
         new: u64,
     ) -> Result<u64, NoMemory>
-        requires served { IsServed defs.now.windows window }
+        requires served { is_served defs.now.windows window ≡ true }
         requires sliced { IsSliced defs.now.windows store.now }
         requires old { IsWater old }
         requires new { IsWater new }
         ensures kept { IsAsBefore self.old self.new }
         ensures spare { self.old.spare ≤ self.new.spare }
         ensures room { (def : Def) → IsWindowAt defs.now.windows window def → OnOk result
-            (length (slices_due def.kind self.old store.now old new) ≤ self.new.spare) }
+            (length (slices_due def.kind self.new store.now old new) ≤ self.new.spare) }
         ensures number { (def : Def) → IsWindowAt defs.now.windows window def → IfOk result
             (λ n. n ≡ length (completed_starts def.kind (tuples_of store.now) old new)) }
     {
@@ -120,7 +120,7 @@ impl<Q: AggQueue<Bundle>> Lane<Q> {
         out: &mut Vec<Change>,
         steps: &mut Steps<L>,
     )
-        requires served { IsServed defs.now.windows window }
+        requires served { is_served defs.now.windows window ≡ true }
         requires sliced { IsSliced defs.now.windows store.now }
         requires old { IsWater old }
         requires new { IsWater new }
@@ -184,7 +184,7 @@ impl<Q: AggQueue<Bundle>> Lane<Q> {
     /// How many changes `late` appends for a tuple at a time: one for each complete interval that
     /// holds it.
     pub fn late_count(&self, defs: &Defs, window: u32, time: u64, water: u64) -> u64
-        requires served { IsServed defs.now.windows window }
+        requires served { is_served defs.now.windows window ≡ true }
         requires time { time ≤ TIME_MAX }
         requires water { IsWater water }
         ensures number { (def : Def) → IsWindowAt defs.now.windows window def
@@ -198,9 +198,9 @@ impl<Q: AggQueue<Bundle>> Lane<Q> {
         complete_at(&Span::of(&def.kind), time, water).count
     }
 
-    /// Appends what stands of each complete interval that holds a time, by their starts: `None` where
-    /// it selects no tuple. Called before the store takes in a tuple of that time; `late_count` says
-    /// how many there are.
+    /// Appends what stands of each complete interval that holds a time, by their starts: `None`
+    /// where it selects no tuple. Called before the store takes in a tuple of that time;
+    /// `late_count` says how many there are.
     pub fn formers<T: AggTree<Bundle>, L>(
         &self,
         defs: &Defs,
@@ -211,7 +211,7 @@ impl<Q: AggQueue<Bundle>> Lane<Q> {
         into: &mut Vec<Option<Former>>,
         steps: &mut Steps<L>,
     )
-        requires served { IsServed defs.now.windows window }
+        requires served { is_served defs.now.windows window ≡ true }
         requires sliced { IsSliced defs.now.windows store.now }
         requires time { time ≤ TIME_MAX }
         requires water { IsWater water }
@@ -232,9 +232,9 @@ impl<Q: AggQueue<Bundle>> Lane<Q> {
         append_formers(def.func, &span, store, found, into, steps);
     }
 
-    /// Appends exactly the changes of a tuple that the store has just taken in: one for each complete
-    /// interval that selects it, by their starts. It is new where the interval selects that tuple
-    /// alone, and else an update with what stood, which `formers` told before.
+    /// Appends exactly the changes of a tuple that the store has just taken in: one for each
+    /// complete interval that selects it, by their starts. It is new where the interval selects that
+    /// tuple alone, and else an update with what stood, which `formers` told before.
     pub fn late<T: AggTree<Bundle>, L>(
         &self,
         defs: &Defs,
@@ -247,7 +247,7 @@ impl<Q: AggQueue<Bundle>> Lane<Q> {
         out: &mut Vec<Change>,
         steps: &mut Steps<L>,
     )
-        requires served { IsServed defs.now.windows window }
+        requires served { is_served defs.now.windows window ≡ true }
         requires sliced { IsSliced defs.now.windows store.now }
         requires time { time ≤ TIME_MAX }
         requires water { IsWater water }
@@ -277,14 +277,21 @@ impl<Q: AggQueue<Bundle>> Lane<Q> {
         append_late(owner, &span, store, found, formers, out, steps);
     }
 
-    /// Tells the lane that a slice which holds a time was changed other than at its end, as by a tuple
-    /// or a mark before the watermark.
+    /// Tells the lane that a slice which holds a time was changed other than at its end, as by a
+    /// tuple or a mark before the watermark. What it held of earlier slices it goes on to know.
     pub fn touched(&mut self, time: u64)
         ensures stale { self.new.stale ≡ (self.old.stale || nat_lt time self.old.to) }
         ensures partials { self.new.partials ≡ self.old.partials }
         ensures to { self.new.to ≡ self.old.to }
         ensures spare { self.new.spare ≡ self.old.spare }
         ensures credit { self.new.credit ≡ self.old.credit }
+        ensures knows { (kind : Kind) (water : ℕ) (old new : Stored)
+            → IsSameUpTo kind time old new → Knows kind water old self.old
+            → Knows kind water new self.new }
+        ensures knows_all { (kind : Kind) (water : ℕ) (old new : Stored)
+            → IsSameUpTo kind time old new → last_end_of kind water ≤ time
+            → Knows kind water old self.old → KnowsAll kind water old self.old
+            → KnowsAll kind water new self.new }
     {
         self.stale = self.stale || time < self.held.to();
     }

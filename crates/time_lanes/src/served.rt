@@ -4,7 +4,7 @@ ghost use Rattle.stream_base.specs.Laws.{is_timed};
 ghost use Rattle.stream_base.specs.Limits.{IsKindWithin};
 ghost use Rattle.window_laws.specs.Late.{length_of, slide_of};
 ghost use Rattle.slice_store.specs.Stored.{IsSliced, IsStore};
-ghost use Rattle.time_lanes.specs.Spans.{ArePartedAt, IsServed, IsWindowAt};
+ghost use Rattle.time_lanes.specs.Spans.{ArePartedAt, IsWindowAt, is_served};
 
 use crate::span::Span;
 use agg_laws::{AggTree, Bundle};
@@ -20,7 +20,7 @@ pub struct Served {
 
 // The window at a place, at whose starts and ends the slices of a store part.
 pub fn serve<T: AggTree<Bundle>>(defs: &Defs, window: u32, store: &SliceStore<T>) -> Served
-    requires served { IsServed defs.now.windows window }
+    requires served { is_served defs.now.windows window ≡ true }
     requires sliced { IsSliced defs.now.windows store.now }
     ensures stands { IsWindowAt defs.now.windows window result.def }
     ensures timed { is_timed result.def.kind ≡ true }
@@ -38,7 +38,7 @@ pub fn serve<T: AggTree<Bundle>>(defs: &Defs, window: u32, store: &SliceStore<T>
 
 // The window at a place.
 pub fn window_at(defs: &Defs, window: u32) -> Def
-    requires { IsServed defs.now.windows window }
+    requires { is_served defs.now.windows window ≡ true }
     ensures stands { IsWindowAt defs.now.windows window result }
     ensures timed { is_timed result.kind ≡ true }
     ensures within { IsKindWithin result.kind }

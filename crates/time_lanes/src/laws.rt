@@ -1,0 +1,56 @@
+//! What a lane knows of its store's slices after a call on the store, each as the contract of a
+//! function that does nothing.
+ghost use Rattle.std.specs.Prelude.{◌≡◌, ◌≤◌, List, ℕ, true, All};
+ghost use Rattle.std.specs.List.{flat_map};
+ghost use Rattle.stream_base.specs.declared.def.Def.{Def};
+ghost use Rattle.stream_base.specs.declared.kept.Kept.{Kept};
+ghost use Rattle.stream_base.specs.declared.kind.Kind.{Kind};
+ghost use Rattle.stream_base.specs.Laws.{is_timed};
+ghost use Rattle.stream_base.specs.Limits.{IsKindWithin};
+ghost use Rattle.window_laws.specs.Runs.{parted_at};
+ghost use Rattle.window_laws.specs.Walk.{next_start_of};
+ghost use Rattle.slice_store.specs.Entered.{IsPut, slices_from};
+ghost use Rattle.slice_store.specs.Stored.{IsSliced, IsStore, Stored};
+ghost use Rattle.time_lanes.specs.Lane.{IsAsBefore, IsSameUpTo, Knows, KnowsAll, Laned};
+ghost use Rattle.time_lanes.specs.Spans.{IsWindowAt};
+
+/// A tuple or a mark leaves the slices up to each end of an interval that lies at or before it.
+pub fn what_comes_leaves_earlier_slices()
+    ensures tuple { (windows : List Def) (window : ℕ) (def : Def) (old new : Stored) (x : Kept)
+        → All (λ w. IsKindWithin w.kind) windows → IsWindowAt windows window def
+        → is_timed def.kind ≡ true → IsStore old → IsSliced windows old → IsPut windows old x new
+        → IsSameUpTo def.kind x.time old new }
+    ensures mark { (windows : List Def) (window : ℕ) (def : Def) (old new : Stored) (time : ℕ)
+        → All (λ w. IsKindWithin w.kind) windows → IsWindowAt windows window def
+        → is_timed def.kind ≡ true → IsStore old → IsSliced windows old
+        → new.slices ≡ flat_map (parted_at time) old.slices → IsSameUpTo def.kind time old new }
+{}
+
+/// Where slices change from the watermark on alone, a lane goes on to know them, and to miss none
+/// of the complete intervals.
+pub fn lane_knows_what_comes_at_the_watermark()
+    ensures knows { (kind : Kind) (water time : ℕ) (old new : Stored) (lane : Laned)
+        → IsSameUpTo kind time old new → water ≤ time → Knows kind water old lane
+        → Knows kind water new lane }
+    ensures knows_all { (kind : Kind) (water time : ℕ) (old new : Stored) (lane : Laned)
+        → IsSameUpTo kind time old new → water ≤ time → KnowsAll kind water old lane
+        → KnowsAll kind water new lane }
+{}
+
+/// Where slices are dropped that lie before the next start, a lane goes on to know the others.
+pub fn lane_knows_what_a_purge_leaves()
+    ensures knows { (kind : Kind) (water time : ℕ) (old new : Stored) (lane : Laned)
+        → new.slices ≡ slices_from time old.slices → time ≤ next_start_of kind water
+        → Knows kind water old lane → Knows kind water new lane }
+    ensures knows_all { (kind : Kind) (water time : ℕ) (old new : Stored) (lane : Laned)
+        → new.slices ≡ slices_from time old.slices → KnowsAll kind water old lane
+        → KnowsAll kind water new lane }
+{}
+
+/// Room makes no difference to what a lane knows.
+pub fn lane_with_more_room_knows_the_same()
+    ensures knows { (kind : Kind) (water : ℕ) (s : Stored) (old new : Laned)
+        → IsAsBefore old new → Knows kind water s old → Knows kind water s new }
+    ensures knows_all { (kind : Kind) (water : ℕ) (s : Stored) (old new : Laned)
+        → IsAsBefore old new → KnowsAll kind water s old → KnowsAll kind water s new }
+{}
