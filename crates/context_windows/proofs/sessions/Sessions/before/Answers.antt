@@ -1,0 +1,26 @@
+-- What is kept are the sessions that stand of those near the time.
+use Rattle.std.proofs.Common.{◌≡◌, ◌∙◌, List, ◌++◌, refl, sym, subst, rules}
+use Rattle.std.specs.Prelude.{option_to_list}
+use Rattle.std.specs.List.{All}
+use Rattle.window_laws.proofs.Order.{All-split}
+use Rattle.context_windows.specs.declared.span.Span.{Span}
+use Rattle.context_windows.specs.Held.{IsAlignedWith}
+use Rattle.context_windows.specs.Spanned.{Spanned, gap_at, window_at}
+use Rattle.context_windows.specs.Spans.{AreApart, asked_of, is_near}
+use Rattle.context_windows.proofs.Apart.{apart_filter}
+use Rattle.context_windows.proofs.Changing.{remembered}
+use Rattle.context_windows.proofs.sessions.Sessions.before.Goals as goal
+
+pub first_standing-first-requires : goal.first_standing-first-requires
+first_standing-first-requires g c =
+    subst AreApart (search rules) (apart_filter (is_near c.gap_of.result c.args.time) c.self.inside.spans.items c.self.invariant)
+
+pub ask-self-inside-requires-2 : goal.ask-self-inside-requires-2
+ask-self-inside-requires-2 g c =
+    let is : option_to_list c.first_standing-first.result.0 ++ option_to_list c.first_standing-first.result.1 ≡ asked_of (gap_at c.args.defs.now c.args.window) c.args.time c.args.water c.args.self.now.spans = search rules in
+    (All-split (IsAlignedWith c.args.store.now.slices) (option_to_list c.first_standing-first.result.0) (option_to_list c.first_standing-first.result.1) (subst (All (IsAlignedWith c.args.store.now.slices)) (sym is) c.requires.aligned)).1
+
+pub returns-clause-remembers : goal.returns-clause-remembers
+returns-clause-remembers g c = λ kept f le held.
+    let is : option_to_list c.first_standing-first.result.0 ++ option_to_list c.first_standing-first.result.1 ≡ asked_of (gap_at c.args.defs.now c.args.window) c.args.time c.args.water c.args.self.now.spans = search rules in
+    remembered (window_at c.args.defs.now c.args.window) c.args.time c.args.water kept c.args.self.now _ c.args.store.now c.requires.session.session f le held c.first_standing-first.result.0 c.first_standing-first.result.1 is c.ask-self-inside.result c.ask-self-inside-2.result refl (λ is h. c.ask-self-inside.ensures.value is h ∙ search rules) (λ is h. c.ask-self-inside-2.ensures.value is h ∙ search rules)

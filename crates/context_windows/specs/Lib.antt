@@ -1,0 +1,4 @@
+pub mod Spans
+pub mod Spanned
+pub mod Telling
+pub mod Held

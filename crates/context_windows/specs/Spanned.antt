@@ -1,0 +1,85 @@
+-- What the sessions of a key are in contracts.
+use Rattle.std.specs.Prelude.{◌≡◌, ◌≤◌, ◌<◌, ◌^◌, ◌++◌, ◌&&◌, ℕ, List, [], ◌∷◌, filter, length, map, nat_lt, All, Option, slice_index_or}
+use Rattle.stream_base.specs.declared.change.Change.{Change}
+use Rattle.stream_base.specs.declared.def.Def.{Def}
+use Rattle.stream_base.specs.declared.func.Func.TheVariants.{Count}
+use Rattle.stream_base.specs.declared.kept.Kept.{Kept}
+use Rattle.stream_base.specs.declared.kind.Kind.{Kind}
+use Rattle.stream_base.specs.declared.kind.Kind.TheVariants.{Tumbling, Sliding, Session, Marks, Events}
+use Rattle.stream_base.specs.Laws.{TimesDoNotFall}
+use Rattle.stream_base.specs.Limits.{Definitions, IsKindWithin}
+use Rattle.stream_base.specs.Model.Changes.{Moment, emissions, retractions}
+use Rattle.stream_base.specs.Model.Windows.{Instance, sessions}
+use Rattle.window_laws.specs.After.{complete_at}
+use Rattle.context_windows.specs.declared.span.Span.{Span}
+use Rattle.context_windows.specs.declared.standing.Standing.{Standing}
+use Rattle.context_windows.specs.Spans.{asked_of, is_near, span_of}
+use Rattle.context_windows.specs.Telling.{as_standing}
+
+-- the spans of a key's sessions, oldest first; what was kept of those that stood before a tuple comes; up to which time sessions are forgotten; and for how many more there is room
+pub record Spanned : Type 0 where
+  pub spans : List Span
+  pub stood : List Standing
+  pub forgotten : ℕ
+  pub spare : ℕ
+
+-- only room differs
+pub record IsAsBefore (old new : Spanned) : Type 0 where
+  pub spans : new.spans ≡ old.spans
+  pub stood : new.stood ≡ old.stood
+  pub forgotten : new.forgotten ≡ old.forgotten
+
+-- the window at a place of the definitions
+abbrev pub window_at : Definitions → ℕ → Def
+window_at d window = slice_index_or d.windows window (record { kind = Marks; func = Count })
+
+-- the kind is a session window, with a gap within its limits
+abbrev pub IsSession : Kind → Type 0
+IsSession (Tumbling length) = ⊥
+IsSession (Sliding length slide) = ⊥
+IsSession (Session gap) = IsKindWithin (Session gap)
+IsSession Marks = ⊥
+IsSession (Events count) = ⊥
+
+-- the gap of a session window
+abbrev pub gap_of : Kind → ℕ
+gap_of (Tumbling length) = 0
+gap_of (Sliding length slide) = 0
+gap_of (Session gap) = gap
+gap_of Marks = 0
+gap_of (Events count) = 0
+
+-- one of the definitions is this session window
+pub record IsSessionAt (d : Definitions) (window : ℕ) : Type 0 where
+  pub within : window < length d.windows
+  pub session : IsSession (window_at d window).kind
+
+-- the gap of the window at a place of the definitions
+abbrev pub gap_at : Definitions → ℕ → ℕ
+gap_at d window = gap_of (window_at d window).kind
+
+-- the sessions that end after a time
+abbrev pub sessions_after : ℕ → ℕ → List Kept → List Instance
+sessions_after gap time kept = filter (λ i. nat_lt time i.high) (sessions gap kept)
+
+-- these are the spans of the sessions of the tuples that are not forgotten
+pub record Follows (gap : ℕ) (kept : List Kept) (s : Spanned) : Type 0 where
+  pub in_order : TimesDoNotFall kept
+  pub spans : s.spans ≡ map span_of (sessions_after gap s.forgotten kept)
+
+-- the sessions that stand of those less than the gap away from a time
+abbrev pub near_standing : ℕ → ℕ → ℕ → List Kept → List Instance
+near_standing gap time water kept =
+    complete_at water (filter (λ i. is_near gap time (span_of i)) (sessions gap kept))
+
+-- those that a tuple at a time may change are kept, whatever they show
+pub record HasAsked (gap time water : ℕ) (s : Spanned) : Type 0 where
+  pub spans : map (λ x. x.span) s.stood ≡ asked_of gap time water s.spans
+
+-- of those that a tuple at a time may change is kept what they show
+pub record Remembers (def : Def) (time water : ℕ) (kept : List Kept) (s : Spanned) : Type 0 where
+  pub stood : s.stood ≡ map (as_standing def.func) (near_standing (gap_of def.kind) time water kept)
+
+-- the changes of one window of a key from one moment to the next, retractions first
+abbrev pub changes_of : List ℕ → Moment → Moment → ℕ × Def → List Change
+changes_of key old new owner = retractions key old new owner ++ emissions key old new owner

@@ -1,0 +1,252 @@
+//! The sessions of one key.
+ghost use Rattle.std.specs.Prelude.{◌≡◌, ◌≤◌, ◌+◌, ◌-◌, ◌*◌, ◌++◌, ℕ, List, [], filter, length, max, nat_lt, OnOk, IfOk, vec_len, vec_capacity};
+ghost use Rattle.stream_base.specs.declared.kept.Kept.{Kept};
+ghost use Rattle.stream_base.specs.declared.limits.TheConstants.{TIME_MAX};
+ghost use Rattle.stream_base.specs.Laws.{completions};
+ghost use Rattle.stream_base.specs.Model.Changes.{Moment};
+ghost use Rattle.stream_base.specs.Model.Journal.{put_in_order};
+ghost use Rattle.window_laws.specs.After.{with_tuple};
+ghost use Rattle.context_windows.specs.Held.{AreAlignedWith, HoldsSessions};
+ghost use Rattle.context_windows.specs.Spanned.{Follows, HasAsked, IsAsBefore, IsSessionAt, Remembers, changes_of, gap_at, window_at};
+ghost use Rattle.context_windows.specs.Spans.{asked_of, due_of, put_changes, spans_with, told_at};
+
+use crate::joining::{changes_of_joining, joined, replace};
+use crate::near::{between, due, first_standing, near};
+use crate::span::Span;
+use crate::standing::Standing;
+use crate::telling::{Teller, ask, tell_all, tell_joined};
+use crate::windows::{gap_of, window_at};
+use agg_laws::{AggTree, Bundle, Steps};
+use slice_store::SliceStore;
+use std::alloc::Global;
+use std::marker::Model;
+use stream_base::{Change, Defs, KeyText, NoMemory};
+
+/// The sessions of one key for a session window of it: the span of each, and what those showed that a
+/// coming tuple may change. Contracts see these, up to which time sessions are forgotten, and for how
+/// many more there is room.
+///
+/// The definitions and the window that a call is handed are those of every call before it: what the
+/// sessions stand for is said under the gap of that window.
+#[derive(Debug, Drop)]
+pub struct Sessions {
+    spans: Vec<Span>,
+    first: Option<Standing>,
+    second: Option<Standing>,
+    forgotten: u64,
+}
+
+impl Model for Sessions {
+    ghost use Rattle.std.specs.Prelude.{◌-◌, ◌++◌, vec_len, vec_capacity, option_to_list};
+    ghost use Rattle.context_windows.specs.Spanned.{Spanned};
+    ghost use Rattle.context_windows.specs.Spans.{AreApart};
+
+    ghost Value = { Spanned };
+
+    ghost view = { λ s. record {
+      spans = s.spans.items;
+      stood = option_to_list s.first ++ option_to_list s.second;
+      forgotten = s.forgotten;
+      spare = vec_capacity s.spans - vec_len s.spans;
+    } };
+
+    ghost invariant = { λ s. AreApart s.spans.items };
+}
+
+impl Sessions {
+    /// No session yet.
+    pub fn new(alloc: Global) -> Sessions
+        ensures follows { (gap : ℕ) → Follows gap [] result }
+        ensures spans { (result).spans ≡ [] }
+        ensures stood { (result).stood ≡ [] }
+        ensures forgotten { (result).forgotten ≡ 0 }
+    {
+        Sessions {
+            spans: Vec::new(alloc),
+            first: None,
+            second: None,
+            forgotten: 0,
+        }
+    }
+
+    /// Makes room for a tuple at a time under a watermark, and answers how many changes its `put`
+    /// will append.
+    pub fn reserve(
+        &mut self,
+        defs: &Defs,
+        window: u32,
+        time: u64,
+        water: u64,
+    ) -> Result<u64, NoMemory>
+        requires session { IsSessionAt defs.now window }
+        requires time { time ≤ TIME_MAX }
+        ensures room { OnOk result (1 ≤ self.new.spare) }
+        ensures spare { self.old.spare ≤ self.new.spare }
+        ensures kept { IsAsBefore self.old self.new }
+        ensures number { IfOk result
+            (λ n. n ≡ put_changes (gap_at defs.now window) time water self.old.spans) }
+    {
+        self.spans.reserve(1)?;
+        let gap = gap_of(&window_at(defs, window).kind);
+        let places = near(&self.spans, gap, time);
+        let sessions = between(&self.spans, places);
+        let (first, second) = first_standing(sessions, water);
+        Ok(changes_of_joining(first, second, joined(sessions, gap, time), water))
+    }
+
+    /// Keeps what those sessions show that stand and that a tuple at a time may change, at most two.
+    /// It is called before the store takes the tuple in.
+    pub fn before<T: AggTree<Bundle>, L>(
+        &mut self,
+        defs: &Defs,
+        window: u32,
+        store: &SliceStore<T>,
+        time: u64,
+        water: u64,
+        steps: &mut Steps<L>,
+    )
+        requires session { IsSessionAt defs.now window }
+        requires time { time ≤ TIME_MAX }
+        requires aligned { AreAlignedWith store.now.slices
+            (asked_of (gap_at defs.now window) time water self.old.spans) }
+        ensures spans { self.new.spans ≡ self.old.spans }
+        ensures forgotten { self.new.forgotten ≡ self.old.forgotten }
+        ensures spare { self.new.spare ≡ self.old.spare }
+        ensures asked { HasAsked (gap_at defs.now window) time water self.new }
+        ensures remembers { (kept : List Kept) → Follows (gap_at defs.now window) kept self.old
+            → self.old.forgotten ≤ time
+            → HoldsSessions (gap_at defs.now window) time kept store.now
+            → Remembers (window_at defs.now window) time water kept self.new }
+        ensures cost { steps.new
+            ≤ steps.old + 64 * (store.now.reach + 2) * length self.new.stood }
+    {
+        let def = window_at(defs, window);
+        let places = near(&self.spans, gap_of(&def.kind), time);
+        let (first, second) = first_standing(between(&self.spans, places), water);
+        self.first = ask(store, first, def.func, steps);
+        self.second = ask(store, second, def.func, steps);
+    }
+
+    /// Takes in a tuple that the store has taken in, and appends exactly the window's changes: the
+    /// sessions less than the gap away from it become one with it, and those that stood and stand no
+    /// longer are taken back. `reserve` made the room, and said how many changes there will be;
+    /// `before` kept what stood.
+    pub fn put<T: AggTree<Bundle>, L>(
+        &mut self,
+        defs: &Defs,
+        window: u32,
+        store: &SliceStore<T>,
+        key: &KeyText,
+        time: u64,
+        water: u64,
+        out: &mut Vec<Change>,
+        steps: &mut Steps<L>,
+    )
+        requires session { IsSessionAt defs.now window }
+        requires time { time ≤ TIME_MAX }
+        requires room { 1 ≤ self.old.spare }
+        requires asked { HasAsked (gap_at defs.now window) time water self.old }
+        requires aligned { AreAlignedWith store.now.slices
+            (told_at (gap_at defs.now window) time water self.old.spans) }
+        requires spare { put_changes (gap_at defs.now window) time water self.old.spans
+            ≤ vec_capacity out.old - vec_len out.old }
+        ensures follows { (kept : List Kept) (x : Kept) → Follows (gap_at defs.now window) kept self.old
+            → self.old.forgotten ≤ time → x.time ≡ time
+            → Follows (gap_at defs.now window) (put_in_order kept x) self.new }
+        ensures changes { (m : Moment) (x : Kept) → Follows (gap_at defs.now window) m.kept self.old
+            → self.old.forgotten ≤ time → x.time ≡ time → m.water ≡ water
+            → Remembers (window_at defs.now window) time water m.kept self.old
+            → HoldsSessions (gap_at defs.now window) time (put_in_order m.kept x) store.now
+            → out.new.items ≡ out.old.items
+            ++ changes_of key.now m (with_tuple m x) (window, window_at defs.now window) }
+        ensures spans { self.new.spans
+            ≡ spans_with (gap_at defs.now window) time self.old.spans }
+        ensures number { vec_len out.new ≡ vec_len out.old
+            + put_changes (gap_at defs.now window) time water self.old.spans }
+        ensures forgotten { self.new.forgotten ≡ self.old.forgotten }
+        ensures room_left { self.old.spare ≤ self.new.spare + 1 }
+        ensures capacity { vec_capacity out.new ≡ vec_capacity out.old }
+        ensures cost { steps.new ≤ steps.old + 64 * (store.now.reach + 2)
+            * length (told_at (gap_at defs.now window) time water self.old.spans) }
+    {
+        let def = window_at(defs, window);
+        let gap = gap_of(&def.kind);
+        let places = near(&self.spans, gap, time);
+        let span = joined(between(&self.spans, places), gap, time);
+        replace(&mut self.spans, places.from, places.to, span);
+        let teller = Teller { window, key };
+        teller.tell_gone(self.first, span, water, out);
+        teller.tell_gone(self.second, span, water, out);
+        tell_joined(
+            &teller,
+            store,
+            self.first,
+            self.second,
+            span,
+            water,
+            def.func,
+            out,
+            steps,
+        );
+    }
+
+    /// How many sessions a move of the watermark completes.
+    pub fn due(&self, defs: &Defs, window: u32, old: u64, new: u64) -> u64
+        requires { IsSessionAt defs.now window }
+        ensures number { result ≡ length (due_of old new self.now.spans) }
+        ensures rows { (key : List ℕ) (m : Moment) → Follows (gap_at defs.now window) m.kept self.now
+            → self.now.forgotten ≤ old → m.water ≡ old
+            → result ≡ length (completions key m new (window, window_at defs.now window)) }
+    {
+        let places = due(&self.spans, old, new);
+        (places.to - places.from) as u64
+    }
+
+    /// Appends exactly the sessions that a move of the watermark completes, as new. `due` says how
+    /// many.
+    pub fn water<T: AggTree<Bundle>, L>(
+        &self,
+        defs: &Defs,
+        window: u32,
+        store: &SliceStore<T>,
+        key: &KeyText,
+        old: u64,
+        new: u64,
+        out: &mut Vec<Change>,
+        steps: &mut Steps<L>,
+    )
+        requires session { IsSessionAt defs.now window }
+        requires aligned { AreAlignedWith store.now.slices (due_of old new self.now.spans) }
+        requires spare { length (due_of old new self.now.spans)
+            ≤ vec_capacity out.old - vec_len out.old }
+        ensures changes { (m : Moment) → Follows (gap_at defs.now window) m.kept self.now
+            → self.now.forgotten ≤ old → m.water ≡ old
+            → HoldsSessions (gap_at defs.now window) old m.kept store.now
+            → out.new.items ≡ out.old.items
+            ++ completions key.now m new (window, window_at defs.now window) }
+        ensures number { vec_len out.new
+            ≡ vec_len out.old + length (due_of old new self.now.spans) }
+        ensures capacity { vec_capacity out.new ≡ vec_capacity out.old }
+        ensures cost { steps.new ≤ steps.old + 64 * (store.now.reach + 2)
+            * (vec_len out.new - vec_len out.old) }
+    {
+        let def = window_at(defs, window);
+        let places = due(&self.spans, old, new);
+        let teller = Teller { window, key };
+        let sessions = between(&self.spans, places);
+        tell_all(&teller, store, sessions, def.func, out, steps);
+    }
+
+    /// Forgets the sessions that end at or before a time. No tuple comes at an earlier time.
+    pub fn drop_settled(&mut self, time: u64)
+        ensures spans { self.new.spans ≡ filter (λ s. nat_lt time s.high) self.old.spans }
+        ensures stood { self.new.stood ≡ self.old.stood }
+        ensures forgotten { self.new.forgotten ≡ max self.old.forgotten time }
+        ensures spare { self.old.spare ≤ self.new.spare }
+        ensures follows { (gap : ℕ) (kept : List Kept) → Follows gap kept self.old
+            → Follows gap kept self.new }
+    {
+        self.spans.retain(|s| time < s.high);
+        self.forgotten = self.forgotten.max(time);
+    }
+}
