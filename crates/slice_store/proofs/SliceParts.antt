@@ -2,9 +2,9 @@
 use Rattle.std.proofs.Common.{◌≡◌, ◌∙◌, ℕ, suc, ◌+◌, ◌<◌, ◌≤◌, List, [], ◌∷◌, ◌++◌, length, get_or, take, drop, ap, sym, refl, subst, arith, inl, inr}
 use Rattle.std.specs.List.{All}
 use Rattle.std.proofs.lemmas.Bool.{cases_lt}
-use Rattle.std.proofs.lemmas.List.{length-append, get_or_append_left}
+use Rattle.std.proofs.lemmas.List.{append-nil, length-append, get_or_append_left}
 use Rattle.std.proofs.lemmas.List.Concat.{flat_map-append}
-use Rattle.std.proofs.lemmas.List.Elements.{All-append, All-weaker}
+use Rattle.std.proofs.lemmas.List.Elements.{All-append, All-head, All-tail, All-weaker}
 use Rattle.std.proofs.Math.Seq.{split_at}
 use Rattle.stream_base.specs.declared.kept.Kept.{Kept}
 use Rattle.stream_base.specs.Model.Windows.{first_time, last_time}
@@ -83,3 +83,34 @@ module _ (runs : List (List Kept)) (at start : ℕ) (tuples : List Kept) (l : at
       ∙ ap (λ n. take (length run) (drop n (before ++ (run ++ behind)))) start_is
       ∙ ap (take (length run)) (drop_own before (run ++ behind))
       ∙ take_own run behind
+
+-- ---- where slices end
+last_behind : (xs ys : List Kept) → 0 < length ys → last_time (xs ++ ys) ≡ last_time ys
+last_behind [] ys l = refl
+last_behind (x ∷ []) [] l = absurd (omega arith)
+last_behind (x ∷ []) (y ∷ ys) l = refl
+last_behind (x ∷ z ∷ zs) ys l = last_behind (z ∷ zs) ys l
+
+last_above : (m : ℕ) (y : Kept) (ys : List Kept) → All (λ z. m < z.time) (y ∷ ys) → m < last_time (y ∷ ys)
+last_above m y [] a = All-head (λ z. m < z.time) y [] a
+last_above m y (z ∷ zs) a = last_above m z zs (All-tail (λ z. m < z.time) y (z ∷ zs) a)
+
+ends_below : (p ys : List Kept) → All (λ y. last_time p < y.time) ys → last_time p ≤ last_time (p ++ ys)
+ends_below p [] a = omega (arith, ap last_time (append-nil p))
+ends_below p (y ∷ ys) a = omega (arith, last_behind p (y ∷ ys) (omega arith), last_above (last_time p) y ys a)
+
+run_some : (p : List Kept) → IsRun IsNear p → 0 < length p
+run_some [] r = absurd r
+run_some (x ∷ p) r = omega arith
+
+-- no slice ends behind the last tuple of all
+pub slice_ends : (runs : List (List Kept)) (at : ℕ) → at < length runs → AreInOrder runs → last_time (get_or runs at []) ≤ last_time (joined runs)
+slice_ends runs at l o =
+    let p = get_or runs at [] in
+    let before = take at runs in
+    let behind = drop (suc at) runs in
+    let order : AreInOrder (before ++ p ∷ behind) = subst AreInOrder (in_parts runs at l) o in
+    let b = behind_at before p behind order in
+    let own : last_time p ≤ last_time (p ++ joined behind) = ends_below p (joined behind) (above_slice p behind b.0 b.1) in
+    let some : 0 < length p = run_some p (part_at before p behind order) in
+    omega (arith, own, ap last_time (joined_parts runs at l), last_behind (joined before) (p ++ joined behind) (omega (arith, some, length-append p (joined behind))))

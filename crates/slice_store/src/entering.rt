@@ -156,6 +156,8 @@ fn enter_one<T: AggTree<Bundle>, L>(
     ensures reach { (partials.new).reach ≤ (partials.old).reach + 1 }
     ensures cost { steps.new ≤ steps.old + (128 * ((partials.old).reach + 3)
         + length (joined (slices_between at (at + 1) (runs.old).slices))) }
+    ensures in_order { last_time (joined (runs.old).slices) ≤ x.time
+        → steps.new ≤ steps.old + 128 * ((partials.old).reach + 3) }
 {
     let slice = runs.slice(at);
     if slice.high <= x.time {
@@ -187,6 +189,8 @@ pub fn enter<T: AggTree<Bundle>, L>(
     ensures reach { (partials.new).reach ≤ (partials.old).reach + 1 }
     ensures cost { steps.new ≤ steps.old + (128 * ((partials.old).reach + 3)
         + length (joined (slices_between from to (runs.old).slices))) }
+    ensures in_order { last_time (joined (runs.old).slices) ≤ x.time
+        → steps.new ≤ steps.old + 128 * ((partials.old).reach + 3) }
 {
     let count = to - from;
     if count == 0 {

@@ -1,5 +1,5 @@
 //! The store of a key's slices.
-ghost use Rattle.std.specs.Prelude.{◌≡◌, ◌≤◌, ◌<◌, ◌+◌, ◌*◌, List, [], length, filter, find, map, max, nat_le, nat_lt, OnOk, All, FitsSigned};
+ghost use Rattle.std.specs.Prelude.{◌≡◌, ◌≤◌, ◌<◌, ◌+◌, ◌*◌, List, [], length, filter, find, map, max, nat_le, nat_lt, OnOk, All, FitsSigned, true};
 ghost use Rattle.std.specs.Int.{w64};
 ghost use Rattle.std.specs.BTreeSet.{insert_key};
 ghost use Rattle.std.specs.List.{flat_map, list_any};
@@ -117,6 +117,10 @@ impl<T: AggTree<Bundle>> SliceStore<T> {
         ensures reach { self.new.reach ≤ self.old.reach + 1 }
         ensures cost { steps.new ≤ steps.old + (128 * (self.old.reach + 3)
             + length (joined (slices_near defs.now.windows time self.old))) }
+
+        // A tuple in order refolds no slice.
+        ensures in_order { is_last time self.old ≡ true
+            → steps.new ≤ steps.old + 128 * (self.old.reach + 3) }
     {
         let _windows = defs.windows();
         let at = self.runs.up_to(time);

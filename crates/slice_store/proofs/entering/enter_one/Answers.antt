@@ -1,0 +1,11 @@
+-- A tuple that is the last of all isn't before the end of its slice.
+use Rattle.std.proofs.Common.{◌<◌, ap, arith, length}
+use Rattle.slice_store.specs.declared.slice.Slice.{Slice}
+use Rattle.slice_store.proofs.SliceParts.{slice_ends}
+use Rattle.slice_store.proofs.entering.enter_one.Goals as goal
+
+pub returns-else-x-slice-clause-in_order : goal.returns-else-x-slice-clause-in_order
+returns-else-x-slice-clause-in_order g c = λ h.
+    let runs = c.args.runs.now.slices in
+    let l : c.args.at < length runs = omega (arith, c.requires.can.within) in
+    absurd (omega (arith, h, slice_ends runs c.args.at l c.slice-slice.ensures.holds.ordered, ap (λ (s : Slice). s.high) c.slice-slice.ensures.shown, c.if-slice-x.false))
