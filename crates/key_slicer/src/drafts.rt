@@ -54,8 +54,12 @@ pub fn put_in(kept: &mut Vec<Kept>, x: Kept)
     requires room { vec_len kept.old < vec_capacity kept.old }
     ensures { kept.new.items ≡ put_in_order kept.old.items x }
 {
-    let place = place_of(kept, x.time);
-    kept.insert(place, x).unwrap();
+    if is_last(kept, x.time) {
+        kept.push_reserved(x);
+    } else {
+        let place = place_of(kept, x.time);
+        kept.insert(place, x).unwrap();
+    }
 }
 
 /// Puts a tuple in the place of its stand-in.
