@@ -11,6 +11,7 @@ ghost use Rattle.stream_base.specs.Model.What.{is_progress};
 ghost use Rattle.stream_base.specs.Model.Watermark.{water_of};
 ghost use Rattle.shard_core.specs.Engines.{AreCurrent, AreMovable, AreSameSlots, IsMovedSlot, IsSameElsewhere, IsSameOutside, IsSameSlot, IsTableOf, IsTableWith, StandsIn, due_places, moves_of, place_of};
 
+use crate::dues::Dues;
 use crate::key_index::KeyIndex;
 use crate::past::Past;
 use crate::slot::Slot;
@@ -25,7 +26,7 @@ use stream_base::{Change, Defs, KeyText, NoMemory};
 pub struct KeyTable<K> {
     pub index: KeyIndex,
     pub slots: Vec<Slot<K>>,
-    pub dues: Vec<u64>,
+    pub dues: Dues,
 }
 
 impl<K: KeyWindows> KeyTable<K> {
@@ -37,7 +38,7 @@ impl<K: KeyWindows> KeyTable<K> {
         KeyTable {
             index: KeyIndex::new(alloc),
             slots: Vec::new(alloc),
-            dues: Vec::new(alloc),
+            dues: Dues::new(alloc),
         }
     }
 
@@ -77,7 +78,7 @@ impl<K: KeyWindows> KeyTable<K> {
             → AreCurrent K.key_of K.fits K.next_position defs.now sources journal self.new }
     {
         self.slots.reserve(1)?;
-        self.dues.reserve(1)?;
+        self.dues.reserve()?;
         let slot = Slot::fresh(alloc, defs, *key, water)?;
         let due = slot.due(defs);
         let place = self.index.add(key)?;
@@ -116,7 +117,7 @@ impl<K: KeyWindows> KeyTable<K> {
             return Ok(());
         }
         self.slots[place].catch_up(defs, water, out, steps)?;
-        self.dues[place] = self.slots[place].due(defs);
+        self.dues.set(place, self.slots[place].due(defs));
         Ok(())
     }
 
@@ -172,7 +173,7 @@ impl<K: KeyWindows> KeyTable<K> {
         let defs = past.defs();
         let position = past.journal().len() as u64;
         self.slots[place].put(defs, position, time, value, out, steps)?;
-        self.dues[place] = self.slots[place].due(defs);
+        self.dues.set(place, self.slots[place].due(defs));
         Ok(())
     }
 
@@ -201,7 +202,7 @@ impl<K: KeyWindows> KeyTable<K> {
         let place = self.prepare(alloc, past, key, out, steps)?;
         let defs = past.defs();
         self.slots[place].mark(defs, time, out, steps)?;
-        self.dues[place] = self.slots[place].due(defs);
+        self.dues.set(place, self.slots[place].due(defs));
         Ok(())
     }
 }

@@ -9,6 +9,7 @@
 use key_slicer::KeyState;
 
 mod applied;
+mod dues;
 mod intake;
 mod key_index;
 mod keys;

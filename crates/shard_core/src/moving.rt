@@ -50,6 +50,7 @@ impl<K: KeyWindows> KeyTable<K> {
         let room = self.reserve_moves(defs, places, new)?;
         out.reserve(room as usize)?;
         self.move_all(defs, places, new, out, steps);
+        self.dues.look_again(new);
         Ok(())
     }
 
@@ -59,10 +60,10 @@ impl<K: KeyWindows> KeyTable<K> {
         requires counted { length self.now.dues.items ≡ length self.now.index }
         ensures { IfOk result (λ places. places.items ≡ due_places self.now water) }
     {
-        if none_reached(&self.dues, water) {
+        if self.dues.none_reached(water) {
             return Ok(Vec::new(alloc));
         }
-        self.index.due(alloc, &self.dues, water)
+        self.index.due(alloc, self.dues.as_slice(), water)
     }
 
     // Makes room for the move of the state at a place, and answers for how many changes.
@@ -120,7 +121,7 @@ impl<K: KeyWindows> KeyTable<K> {
         ensures capacity { vec_capacity out.new ≡ vec_capacity out.old }
     {
         self.slots[place].move_to(defs, new, out, steps);
-        self.dues[place] = self.slots[place].due(defs);
+        self.dues.set(place, self.slots[place].due(defs));
     }
 
     // Makes room for the moves of the states at these places, and answers for how many changes.
@@ -196,11 +197,4 @@ fn sum_of(a: u64, b: u64) -> Result<u64, NoMemory>
         Some(sum) => Ok(sum),
         None => Err(NoMemory),
     }
-}
-
-// Whether a watermark reaches none of the due numbers.
-fn none_reached(dues: &[u64], water: u64) -> bool
-    ensures { IsTrue result ↔ EachIndex dues.now (λ i. water < slice_index dues.now i) }
-{
-    dues.iter().all(|due| water < *due)
 }

@@ -1,5 +1,5 @@
 -- The states that are due are moved, or the table stays.
-use Rattle.std.proofs.Common.{◌≡◌, ◌∙◌, ◌≤◌, ℕ, arith, sym}
+use Rattle.std.proofs.Common.{◌≡◌, ◌∙◌, ◌≤◌, ℕ, ap, arith, length, sym}
 use Rattle.stream_base.specs.Limits.{AreWithinLimits}
 use Rattle.stream_base.specs.Model.Journal.{kept_of, marks_of}
 use Rattle.stream_base.specs.Model.Watermark.{water_of}
@@ -74,9 +74,10 @@ returns-clause-taken g c =
     same_table key_of fits next d past.sources past.journal old ready c.reserve_moves.ensures.index c.reserve_moves.ensures.dues c.reserve_moves.ensures.same (rw c.defs-defs.ensures.value c.requires.current) in
     let places : c.as_slice-places.result.now ≡ due_places ready new = c.as_slice-places.ensures.value ∙ c.in_ok-due.ensures ∙ sym (same_places old ready new c.reserve_moves.ensures.index c.reserve_moves.ensures.dues) in
     let moved = c.move_all.ensures in
+    let same : c.look_again.new.self.items ≡ c.move_all.new.self.dues.items = c.look_again.ensures in
     rw (← c.defs-defs.ensures.value)
-    (moved_table key_of fits next d past.sources past.journal ready c.move_all.new.self c.args.entry.now new (rw c.defs-defs.ensures.value c.defs-defs.ensures.limits) c.requires.progress c.requires.new current
-    moved.index moved.len moved.aligned (rw (← places) moved.others) (rw (← places) moved.other_dues) (λ x. rw (← places) (moved.moved x)))
+    (moved_table key_of fits next d past.sources past.journal ready _ c.args.entry.now new (rw c.defs-defs.ensures.value c.defs-defs.ensures.limits) c.requires.progress c.requires.new current
+    moved.index moved.len (ap length same ∙ moved.aligned) (rw (← places) moved.others) (rw (← places, same) moved.other_dues) (λ x. rw (← places, same) (moved.moved x)))
 
 pub returns-clause-changes : goal.returns-clause-changes
 returns-clause-changes g c =

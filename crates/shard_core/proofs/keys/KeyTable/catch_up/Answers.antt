@@ -38,7 +38,7 @@ returns-clause-current g c sources journal key at w h =
     let d = c.args.defs.now in
     let was = current_at key_of fits next d sources journal c.args.self.now key c.args.place c.index_mut.result.now h at c.index_mut.ensures.value in
     let there : c.index-2.result.now ≡ c.catch_up.new.self = c.index-2.ensures ∙ get_or-set_same c.args.self.now.slots.items c.args.place c.catch_up.new.self c.index-2.result.now c.requires.place in
-    replaced key_of fits next d sources journal journal c.args.self.now _ key c.args.place c.catch_up.new.self c.due.result h at refl refl refl
+    replaced key_of fits next d sources journal journal c.args.self.now _ key c.args.place c.catch_up.new.self c.due.result h at refl refl c.set.ensures
     (λ q ne. same_for d sources journal q) (omega arith) refl
     (up_to_date key_of fits next d sources journal key c.index_mut.result.now c.catch_up.new.self (get_or c.args.self.now.dues.items c.args.place 0) c.due.result was c.catch_up.ensures.key c.catch_up.ensures.next c.catch_up.ensures.fits (c.in_ok-catch_up.ensures.water ∙ w)
     (λ kept marks f. subst (λ (s : Slot g.row.K.Denot). IsQuiet d (key_of s.state) kept marks s.water c.due.result) there (c.due.ensures kept marks (subst (λ (s : Slot g.row.K.Denot). fits d kept marks s.water s.state) (sym there) f))))

@@ -1,5 +1,5 @@
 -- Where no due number is reached, no place is due.
-use Rattle.std.proofs.Common.{◌∙◌, ◌<◌, List, ℕ, get_or, length, refl, subst, sym}
+use Rattle.std.proofs.Common.{◌∙◌, ◌<◌, ℕ, get_or, length, refl}
 use Rattle.std.specs.Prelude.{nat_le}
 use Rattle.std.specs.Map.{values_of}
 use Rattle.std.proofs.lemmas.Bool.{lt-leb}
@@ -12,6 +12,6 @@ returns-then-none_reached g c =
     let dues = c.args.self.now.dues.items in
     c.new.ensures.items
     ∙ none_passes (λ (p : ℕ). nat_le (get_or dues p 0) c.args.water) (values_of c.args.self.now.index)
-    (λ p m. let within : p < length c.deref.result.now = subst (λ (l : List ℕ). p < length l) (sym c.deref.ensures.value) (All-contains (λ (n : ℕ). n < length dues) (values_of c.args.self.now.index) p c.requires.places m) in
-    let later : c.args.water < get_or dues p 0 = subst (λ (l : List ℕ). c.args.water < get_or l p 0) c.deref.ensures.value (c.if-none_reached.ensures.0 refl p within) in
+    (λ p m. let within : p < length dues = All-contains (λ (n : ℕ). n < length dues) (values_of c.args.self.now.index) p c.requires.places m in
+    let later : c.args.water < get_or dues p 0 = c.if-none_reached.ensures refl p within in
     lt-leb (get_or dues p 0) c.args.water later)

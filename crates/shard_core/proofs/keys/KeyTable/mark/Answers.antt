@@ -46,7 +46,7 @@ returns-clause-taken g c e is =
     let kept = kept_of d.lateness past.sources key past.journal in
     let marks = marks_of d.lateness past.sources key past.journal in
     rw (← c.defs-defs.ensures.value)
-    (keyed_table key_of fits next d past.sources past.journal e key (ap key_in is) table _ place slot new c.due.result current c.in_ok-place.ensures.place c.index_mut.ensures.value water refl refl refl
+    (keyed_table key_of fits next d past.sources past.journal e key (ap key_in is) table _ place slot new c.due.result current c.in_ok-place.ensures.place c.index_mut.ensures.value water refl refl c.set.ensures
     c.in_ok-mark.ensures.key c.in_ok-mark.ensures.water (omega (arith, c.in_ok-mark.ensures.next, (current_at key_of fits next d past.sources past.journal table key place slot current c.in_ok-place.ensures.place c.index_mut.ensures.value).position))
     (λ f. rw (kept_with_mark d past.sources past.journal e key c.args.time is accepted, marks_with_mark d past.sources past.journal e key c.args.time is accepted) (c.in_ok-mark.ensures.fits kept marks f))
     (λ kept marks f. subst (λ (s : Slot g.row.K.Denot). IsQuiet d (key_of s.state) kept marks s.water c.due.result) there (c.due.ensures kept marks (subst (λ (s : Slot g.row.K.Denot). fits d kept marks s.water s.state) (sym there) f))))

@@ -54,7 +54,7 @@ returns-clause-taken g c e is =
     let kept = kept_of d.lateness past.sources key past.journal in
     let marks = marks_of d.lateness past.sources key past.journal in
     rw (← c.defs-defs.ensures.value)
-    (keyed_table key_of fits next d past.sources past.journal e key (ap key_in is) table _ place slot new c.due.result current c.in_ok-place.ensures.place c.index_mut.ensures.value water refl refl refl
+    (keyed_table key_of fits next d past.sources past.journal e key (ap key_in is) table _ place slot new c.due.result current c.in_ok-place.ensures.place c.index_mut.ensures.value water refl refl c.set.ensures
     c.in_ok-put.ensures.key c.in_ok-put.ensures.water (omega (arith, c.in_ok-put.ensures.next, at))
     (λ f. rw (kept_with_tuple d past.sources past.journal e key c.args.time c.args.value is accepted, marks_with_tuple d past.sources past.journal e key c.args.time c.args.value is accepted)
     (subst (λ n. fits d (put_in_order kept (kept_at n c.args.time c.args.value)) marks new.water new.state) at
