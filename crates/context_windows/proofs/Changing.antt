@@ -1,17 +1,17 @@
 -- What is told of sessions are their changes.
-use Rattle.std.proofs.Common.{◌≡◌, ◌∙◌, ℕ, suc, ◌+◌, ◌<◌, ◌≤◌, Bool, true, false, cond, not, List, [], ◌∷◌, ◌++◌, length, get_or, map, ap, sym, refl, subst, arith, inl, inr, ⊎_elim, Option, None, Some, append_assoc}
+use Rattle.std.proofs.Common.{◌≡◌, ◌∙◌, ℕ, suc, ◌+◌, ◌<◌, ◌≤◌, Bool, true, false, cond, not, List, [], ◌∷◌, ◌++◌, length, map, ap, sym, refl, subst, arith, inl, inr, Option, None, Some, append_assoc}
 use Rattle.std.specs.Prelude.{◌⊎◌, ◌&&◌, ◌||◌, ◌==◌, ◌^◌, nat_le, nat_lt, option_to_list, find, pos}
 use Rattle.std.specs.List.{All, Contains, filter, filter_map, flat_map, list_any, cons_option}
 use Rattle.std.proofs.lemmas.Bool.{and_parts, cases_Bool, false_from_ne_true, false≢true, lt-ltb, ltb-true}
 use Rattle.std.proofs.lemmas.List.{length-append, map-append}
-use Rattle.std.proofs.lemmas.List.Elements.{All-append, All-cons, All-nil, All-head, All-tail, All-weaker, All-filter, All-contains, filter-append, Contains-append_right}
+use Rattle.std.proofs.lemmas.List.Elements.{All-cons, All-nil, All-head, All-tail, All-weaker, All-filter, All-contains, filter-append, Contains-append_right}
 use Rattle.stream_base.specs.declared.change.Change.{Change}
 use Rattle.stream_base.specs.declared.change.Change.TheVariants.{Gone, New, Again}
 use Rattle.stream_base.specs.declared.def.Def.{Def}
 use Rattle.stream_base.specs.declared.func.Func.{Func}
 use Rattle.stream_base.specs.declared.kept.Kept.{Kept}
 use Rattle.stream_base.specs.Laws.{becomes_complete, completions}
-use Rattle.stream_base.specs.Model.Changes.{Moment, are_same_tuples, emission, emissions, emitted, former_of, is_same, retraction, retractions, row_of}
+use Rattle.stream_base.specs.Model.Changes.{Moment, are_same_tuples, emission, emissions, emitted, former_of, is_same, retractions, row_of}
 use Rattle.stream_base.specs.Model.Journal.{put_in_order}
 use Rattle.stream_base.specs.Model.Windows.{Instance, sessions, within}
 use Rattle.stream_base.proofs.Rising.{Contains-cons_cases, Contains-head, Contains-tail, none_in_nil}
@@ -27,7 +27,7 @@ use Rattle.context_windows.specs.Spanned.{Follows, IsSession, Remembers, Spanned
 use Rattle.context_windows.specs.Spans.{asked_of, due_of, goes, is_due, is_near, is_same_span, joined_span, near_of, span_alone, span_of, spans_with, stands}
 use Rattle.context_windows.specs.Telling.{as_standing, come_of, gone_of, row_for, told_as}
 use Rattle.context_windows.proofs.Apart.{high_rises}
-use Rattle.context_windows.proofs.Following.{asked_is, bounds_are_ends, completions_are, due_is, gap_some, joined_is, near_are, near_complete, session_kind, session_within, spans_become, spans_near}
+use Rattle.context_windows.proofs.Following.{asked_is, bounds_are_ends, completions_are, due_is, gap_some, joined_is, near_complete, session_kind, session_within, spans_become, spans_near}
 use Rattle.window_laws.proofs.SessionFacts.{put_times, sessions_after_put}
 
 or_false : (b : Bool) → (b || false) ≡ b

@@ -1,5 +1,5 @@
 -- How many values a bundle has.
-use Rattle.std.proofs.Common.{◌≡◌, ◌∙◌, ℤ, ℕ, ◌+◌, ◌<◌, List, [], ◌∷◌, length, map, ap, refl, arith}
+use Rattle.std.proofs.Common.{◌≡◌, ◌∙◌, ℤ, ℕ, ◌+◌, ◌<◌, List, [], ◌∷◌, length, map, ap, arith}
 use Rattle.std.specs.Prelude.{◌%◌, ◌^◌, pos}
 use Rattle.std.specs.List.{fold}
 use Rattle.stream_base.specs.declared.func.Func.TheVariants.{Count}

@@ -1,7 +1,8 @@
 -- One session in the place of some.
-use Rattle.std.proofs.Common.{◌≡◌, ◌∙◌, ℕ, zero, suc, ◌+◌, ◌-◌, ◌<◌, ◌≤◌, List, [], ◌∷◌, ◌++◌, length, set, take, drop, ap, sym, refl, arith}
-use Rattle.std.specs.List.{remove}
-use Rattle.std.proofs.lemmas.List.{drop-set-lt}
+use Rattle.std.proofs.Common.{◌≡◌, ◌∙◌, ℕ, zero, suc, ◌+◌, ◌-◌, ◌<◌, ◌≤◌, List, [], ◌∷◌, ◌++◌, length, set, take, drop, ap, refl, arith}
+use Rattle.std.specs.List.{insert, remove}
+use Rattle.std.proofs.lemmas.List.{drop-set-lt, length-take-le}
+use Rattle.std.proofs.lemmas.List.Edits.{insert-append_right}
 use Rattle.std.proofs.Math.Seq.{take-suc-set}
 
 module _ {X : Type 0} where
@@ -31,3 +32,16 @@ module _ {X : Type 0} where
       regroup : (ys zs : List X) → (ys ++ x ∷ []) ++ zs ≡ ys ++ x ∷ zs
       regroup [] zs = refl
       regroup (y ∷ ys) zs = ap (λ r. y ∷ r) (regroup ys zs)
+
+  -- two elements in the place of some
+  pub both_put : (xs : List X) (from to : ℕ) (x y : X) → from ≤ length xs → insert (take from xs ++ x ∷ drop to xs) (from + 1) y ≡ take from xs ++ ((x ∷ y ∷ []) ++ drop to xs)
+  both_put xs from to x y l =
+      let front : length (take from xs) ≡ from = length-take-le from xs l in
+      let one : from + 1 - from ≡ 1 = omega arith in
+      insert-append_right (take from xs) (x ∷ drop to xs) from (from + 1) y front (omega arith)
+      ∙ ap (λ k. take from xs ++ insert (x ∷ drop to xs) k y) one
+      ∙ ap (λ r. take from xs ++ r) (second (drop to xs))
+    where
+      second : (ys : List X) → insert (x ∷ ys) 1 y ≡ x ∷ y ∷ ys
+      second [] = refl
+      second (z ∷ zs) = refl

@@ -1,10 +1,10 @@
 -- Spans that follow the sessions of tuples.
-use Rattle.std.proofs.Common.{◌≡◌, ◌∙◌, ℕ, ◌+◌, ◌<◌, ◌≤◌, Bool, true, false, cond, List, [], ◌∷◌, ◌++◌, length, get_or, take, map, max, min, ◌-◌, ap, sym, refl, subst, arith, inl, inr, ⊎_elim}
-use Rattle.std.specs.Prelude.{◌⊎◌, ◌&&◌, nat_le, nat_lt, pos}
-use Rattle.std.specs.List.{All, Contains, filter, flat_map}
-use Rattle.std.proofs.lemmas.Bool.{and_from, and_left, and_right, cases_lt, cases_Bool, le-leb, lt-leb, le-ltb, lt-ltb, ltb-false}
-use Rattle.std.proofs.lemmas.List.{length-append, length-map, map-append}
-use Rattle.std.proofs.lemmas.List.Elements.{All-cons, All-nil, All-head, All-tail, All-weaker, All-filter, All-contains, Contains-append_left, Contains-append_right, filter-append}
+use Rattle.std.proofs.Common.{◌≡◌, ◌∙◌, ℕ, ◌+◌, ◌<◌, ◌≤◌, Bool, true, false, cond, List, [], ◌∷◌, ◌++◌, length, get_or, take, map, max, min, ◌-◌, ap, sym, refl, subst, arith, ⊎_elim}
+use Rattle.std.specs.Prelude.{nat_le, nat_lt}
+use Rattle.std.specs.List.{All, filter}
+use Rattle.std.proofs.lemmas.Bool.{and_from, and_left, and_right, cases_lt, le-leb, lt-leb, le-ltb, lt-ltb}
+use Rattle.std.proofs.lemmas.List.{length-map, map-append}
+use Rattle.std.proofs.lemmas.List.Elements.{All-head, All-tail, All-weaker, All-filter, filter-append}
 use Rattle.stream_base.specs.declared.change.Change.TheVariants.{New}
 use Rattle.stream_base.specs.declared.def.Def.{Def}
 use Rattle.stream_base.specs.declared.kept.Kept.{Kept}
@@ -16,16 +16,14 @@ use Rattle.stream_base.specs.Model.Changes.{Moment, row_of}
 use Rattle.stream_base.specs.Model.Journal.{put_in_order}
 use Rattle.stream_base.specs.Model.Windows.{Instance, first_time, instances_of, last_time, pieces_of, session, sessions}
 use Rattle.stream_base.proofs.Members.{filter_map_of}
-use Rattle.stream_base.proofs.Rising.{Contains-head}
 use Rattle.window_laws.specs.After.{complete_at}
 use Rattle.window_laws.specs.Runs.{AreInOrder, AreParted, IsPartFrom, IsRun}
 use Rattle.window_laws.specs.Sessions.{IsPutInSessions, joined_session}
 use Rattle.window_laws.proofs.InstanceFacts.{gap_cut, session_far, session_near, session_runs}
 use Rattle.window_laws.proofs.Order.{All-map_of, All-split, IsApart, IsNear, filter_all, run_spans, runs_are_runs}
 use Rattle.window_laws.proofs.RunEdits.{parted}
-use Rattle.window_laws.proofs.SessionFacts.{put_times, sessions_after_put}
 use Rattle.slice_store.specs.declared.slice.Slice.{Slice}
-use Rattle.slice_store.specs.Slices.{joined, slice_of}
+use Rattle.slice_store.specs.Slices.{joined}
 use Rattle.slice_store.proofs.SliceEdits.{entered_shown}
 use Rattle.slice_store.proofs.SliceOrder.{first_below_last}
 use Rattle.context_windows.specs.declared.span.Span.{Span}
@@ -76,7 +74,7 @@ own_runs gap [] = refl
 own_runs gap (run ∷ runs) = ap (λ r. run ∷ r) (own_runs gap runs)
 
 -- ---- tests of times
-later_forgotten : (f t h : ℕ) → nat_lt (max f t) h ≡ cond (nat_lt f h) (nat_lt t h) false
+pub later_forgotten : (f t h : ℕ) → nat_lt (max f t) h ≡ cond (nat_lt f h) (nat_lt t h) false
 later_forgotten f t h =
     ⊎_elim
     (λ l. ⊎_elim
@@ -87,7 +85,7 @@ later_forgotten f t h =
     (cases_lt f h)
 
 -- a test that fails of what is forgotten
-only_later : (f h : ℕ) (b : Bool) → (h ≤ f → b ≡ false) → b ≡ cond (nat_lt f h) b false
+pub only_later : (f h : ℕ) (b : Bool) → (h ≤ f → b ≡ false) → b ≡ cond (nat_lt f h) b false
 only_later f h b n =
     ⊎_elim
     (λ l. sym (ap (λ c. cond c b false) (lt-ltb f h l)))

@@ -6,3 +6,9 @@ pub mod Parts
 pub mod Following
 pub mod Changing
 pub mod Holding
+pub mod MarkSides
+pub mod Filled
+pub mod Thirds
+pub mod Intervals
+pub mod Stretching
+pub mod Marking

@@ -1,14 +1,14 @@
 -- Which sessions lie near a time, by two searches.
-use Rattle.std.proofs.Common.{◌≡◌, ◌∙◌, ℕ, zero, suc, ◌+◌, ◌-◌, ◌<◌, ◌≤◌, Bool, true, false, cond, List, [], ◌∷◌, ◌++◌, length, get_or, take, drop, ap, sym, refl, subst, arith, inl, inr, ⊎_elim, Some, None}
-use Rattle.std.specs.Prelude.{◌⊎◌, ◌&&◌, nat_le, nat_lt, option_to_list}
-use Rattle.std.specs.List.{All, filter}
+use Rattle.std.proofs.Common.{◌≡◌, ◌∙◌, ℕ, zero, suc, ◌+◌, ◌-◌, ◌<◌, ◌≤◌, Bool, true, false, cond, List, [], ◌∷◌, ◌++◌, length, get_or, take, drop, ap, sym, refl, arith, inl, inr, ⊎_elim, Some, None}
+use Rattle.std.specs.Prelude.{◌⊎◌, nat_le, nat_lt, option_to_list}
+use Rattle.std.specs.List.{filter}
 use Rattle.std.specs.List.Sorted.{IsPartitionPoint}
 use Rattle.std.proofs.lemmas.Bool.{leb-true, leb-false, ltb-true, ltb-false, le-leb, lt-leb, le-ltb, lt-ltb, and_from, and_left, and_right, cases_lt, cases_Bool}
 use Rattle.std.proofs.lemmas.List.{length-drop}
 use Rattle.slice_store.proofs.NearFacts.{stretch}
 use Rattle.window_laws.proofs.Order.{filter_none}
 use Rattle.context_windows.specs.declared.span.Span.{Span}
-use Rattle.context_windows.specs.Spans.{AreApart, AreNearAt, IsPlaceOf, due_of, head_standing, is_due, is_near, near_of, stands}
+use Rattle.context_windows.specs.Spans.{AreApart, AreNearAt, IsPlaceOf, due_of, head_standing, is_due, is_near, stands}
 use Rattle.context_windows.proofs.Apart.{proper}
 
 -- some span, for lemmas that want one

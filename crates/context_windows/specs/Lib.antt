@@ -2,3 +2,4 @@ pub mod Spans
 pub mod Spanned
 pub mod Telling
 pub mod Held
+pub mod Marked

@@ -1,5 +1,5 @@
 -- Sessions as spans of time.
-use Rattle.std.specs.Prelude.{◌≡◌, ◌≤◌, ◌<◌, ◌+◌, ◌-◌, ◌++◌, ◌==◌, ◌&&◌, ℕ, Bool, true, false, List, [], ◌∷◌, filter, fold, length, max, min, not, nat_le, nat_lt, take, drop, Option, None, Some, if◌then◌else◌, All}
+use Rattle.std.specs.Prelude.{◌≡◌, ◌≤◌, ◌+◌, ◌-◌, ◌++◌, ◌==◌, ◌&&◌, ℕ, Bool, true, false, List, [], ◌∷◌, filter, fold, length, max, min, not, nat_le, nat_lt, take, drop, Option, None, Some, if◌then◌else◌, All}
 use Rattle.std.specs.List.{AllWithin}
 use Rattle.stream_base.specs.Model.Windows.{Instance}
 use Rattle.context_windows.specs.declared.span.Span.{Span}

@@ -1,5 +1,5 @@
 -- How instances are told.
-use Rattle.std.specs.Prelude.{◌≡◌, ◌++◌, ℕ, Bool, List, [], ◌∷◌, filter, find, map, Option, None, Some, if◌then◌else◌}
+use Rattle.std.specs.Prelude.{ℕ, List, [], ◌∷◌, filter, find, map, Option, None, Some, if◌then◌else◌}
 use Rattle.stream_base.specs.declared.change.Change.{Change}
 use Rattle.stream_base.specs.declared.change.Change.TheVariants.{Gone, New, Again}
 use Rattle.stream_base.specs.declared.func.Func.{Func}

@@ -53,7 +53,7 @@ pub fn replace(spans: &mut Vec<Span>, from: usize, to: usize, span: Span)
 }
 
 // Removes the sessions from one place up to another.
-fn remove_between(spans: &mut Vec<Span>, from: usize, to: usize)
+pub fn remove_between(spans: &mut Vec<Span>, from: usize, to: usize)
     requires order { from ≤ to }
     requires within { to ≤ vec_len spans.old }
     ensures items { spans.new.items ≡ take from spans.old.items ++ drop to spans.old.items }

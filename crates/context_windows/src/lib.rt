@@ -7,14 +7,18 @@
 //! counted. A late tuple joins sessions that had stood apart, and each of those is taken back.
 #![tactic(auto)]
 
+mod edges;
 mod joining;
+mod mark_windows;
 mod near;
+mod parting;
 mod sessions;
 mod span;
 mod standing;
 mod telling;
 mod windows;
 
+pub use mark_windows::MarkWindows;
 pub use sessions::Sessions;
 pub use span::Span;
 pub use standing::Standing;

@@ -1,5 +1,6 @@
 //! Which sessions lie near a time.
 ghost use Rattle.std.specs.Prelude.{◌≡◌, ◌≤◌, ◌+◌, ◌-◌, ◌++◌, length, take, drop, filter, nat_le, nat_lt, option_to_list};
+ghost use Rattle.context_windows.specs.Marked.{first_or, head_before};
 ghost use Rattle.context_windows.specs.Spans.{AreApart, AreNearAt, IsPlaceOf, due_of, head_standing, stands};
 
 use crate::span::Span;
@@ -82,4 +83,43 @@ pub fn between(spans: &[Span], places: Places) -> &[Span]
     ensures { result.now ≡ take (places.to - places.from) (drop places.from spans.now) }
 {
     &spans[places.from..places.to]
+}
+
+// The interval from one place up to another, if there is one, or else another one.
+pub fn first_or(spans: &[Span], places: Places, other: Span) -> Span
+    requires within { places.to ≤ length spans.now }
+    ensures { result
+        ≡ first_or other (take (places.to - places.from) (drop places.from spans.now)) }
+{
+    if places.from < places.to {
+        spans[places.from]
+    } else {
+        other
+    }
+}
+
+// The interval from one place up to another, if there is one and it stands.
+pub fn first_asked(spans: &[Span], places: Places, water: u64) -> Option<Span>
+    requires within { places.to ≤ length spans.now }
+    ensures { result ≡ head_standing water
+        (take (places.to - places.from) (drop places.from spans.now)) }
+{
+    if places.from < places.to && spans[places.from].high <= water {
+        Some(spans[places.from])
+    } else {
+        None
+    }
+}
+
+// The interval from one place up to another, if there is one and it starts before a time.
+pub fn first_before(spans: &[Span], places: Places, time: u64) -> Option<Span>
+    requires within { places.to ≤ length spans.now }
+    ensures { result ≡ head_before time
+        (take (places.to - places.from) (drop places.from spans.now)) }
+{
+    if places.from < places.to && spans[places.from].low < time {
+        Some(spans[places.from])
+    } else {
+        None
+    }
 }

@@ -6,6 +6,7 @@ ghost use Rattle.stream_base.specs.Model.Windows.{Instance};
 ghost use Rattle.agg_laws.specs.Bundled.{bundle_of};
 ghost use Rattle.context_windows.specs.declared.standing.Standing.{Standing};
 ghost use Rattle.context_windows.specs.Held.{AreAlignedWith, AreHeld, IsAlignedWith, IsHeld};
+ghost use Rattle.context_windows.specs.Marked.{come_if, gone_if, shown_if};
 ghost use Rattle.context_windows.specs.Spans.{is_same_span, stands};
 ghost use Rattle.context_windows.specs.Telling.{as_standing, come_of, gone_of, row_for, told_as};
 
@@ -244,5 +245,59 @@ pub fn ask<T: AggTree<Bundle>, L>(
     match span {
         Some(span) => Some(standing(store, span, func, steps)),
         None => None,
+    }
+}
+
+// Tells the interval over a span as gone, if it stands.
+pub fn tell_taken<T: AggTree<Bundle>, L>(
+    teller: &Teller,
+    store: &SliceStore<T>,
+    span: Span,
+    water: u64,
+    func: Func,
+    out: &mut Vec<Change>,
+    steps: &mut Steps<L>,
+)
+    requires aligned { IsAlignedWith store.now.slices span }
+    requires spare { length (filter (stands water) (span ∷ []))
+        ≤ vec_capacity out.old - vec_len out.old }
+    ensures told { (i : Instance) → IsHeld span store.now i → i.bound ≡ i.high
+        → out.new.items ≡ out.old.items
+        ++ gone_if teller.now.window teller.now.key.now func water i }
+    ensures len { vec_len out.new ≡ vec_len out.old + length (filter (stands water) (span ∷ [])) }
+    ensures capacity { vec_capacity out.new ≡ vec_capacity out.old }
+    ensures cost { steps.new ≤ steps.old
+        + 64 * (store.now.reach + 2) * (vec_len out.new - vec_len out.old) }
+{
+    if span.high <= water {
+        let was = standing(store, span, func, steps);
+        out.push_reserved(Change::Gone(teller.row_for(&was)));
+    }
+}
+
+// Tells the interval over a span as new, if it has a tuple and stands.
+pub fn tell_part<T: AggTree<Bundle>, L>(
+    teller: &Teller,
+    store: &SliceStore<T>,
+    span: Span,
+    filled: bool,
+    water: u64,
+    func: Func,
+    out: &mut Vec<Change>,
+    steps: &mut Steps<L>,
+)
+    requires aligned { IsAlignedWith store.now.slices span }
+    requires spare { length (shown_if filled water span)
+        ≤ vec_capacity out.old - vec_len out.old }
+    ensures told { (i : Instance) → IsHeld span store.now i → out.new.items ≡ out.old.items
+        ++ come_if teller.now.window teller.now.key.now func filled water i }
+    ensures len { vec_len out.new ≡ vec_len out.old + length (shown_if filled water span) }
+    ensures capacity { vec_capacity out.new ≡ vec_capacity out.old }
+    ensures cost { steps.new ≤ steps.old
+        + 64 * (store.now.reach + 2) * (vec_len out.new - vec_len out.old) }
+{
+    if filled && span.high <= water {
+        let now = standing(store, span, func, steps);
+        teller.tell_new(&now, out);
     }
 }

@@ -1,6 +1,6 @@
 -- What ended by the old watermark lies in front.
-use Rattle.std.proofs.Common.{◌≡◌, ◌<◌, ◌≤◌, arith, inl, inr, ⊎_elim}
-use Rattle.std.specs.Prelude.{◌⊎◌, max}
+use Rattle.std.proofs.Common.{◌≡◌, arith, inl, inr, ⊎_elim}
+use Rattle.std.specs.Prelude.{max}
 use Rattle.std.proofs.lemmas.Bool.{cases_lt}
 use Rattle.context_windows.proofs.Searches.{due_at}
 use Rattle.context_windows.proofs.near.due.Goals as goal

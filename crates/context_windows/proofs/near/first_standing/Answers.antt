@@ -1,5 +1,5 @@
 -- Where the first doesn't stand, no later one does.
-use Rattle.std.proofs.Common.{◌≡◌, ◌∙◌, ◌++◌}
+use Rattle.std.proofs.Common.{◌∙◌, ◌++◌}
 use Rattle.std.specs.Prelude.{option_to_list}
 use Rattle.context_windows.proofs.Searches.{two_standing}
 use Rattle.context_windows.proofs.near.first_standing.Goals as goal

@@ -1,5 +1,5 @@
 -- The count of the bundle is that of the tuples.
-use Rattle.std.proofs.Common.{◌≡◌, ◌∙◌, length, map}
+use Rattle.std.proofs.Common.{◌∙◌, length, map}
 use Rattle.stream_base.specs.declared.kept.Kept.{Kept}
 use Rattle.context_windows.proofs.Counting.{count_shows}
 use Rattle.context_windows.proofs.telling.former.Goals as goal

@@ -1,8 +1,7 @@
 -- One instance more is told behind those so far.
-use Rattle.std.proofs.Common.{◌≡◌, ◌∙◌, ◌≤◌, ◌<◌, ◌+◌, ◌*◌, [], ◌∷◌, ◌++◌, length, map, take, get_or, ap, arith, rules}
+use Rattle.std.proofs.Common.{◌∙◌, ◌≤◌, ◌<◌, ◌+◌, ◌*◌, ◌++◌, length, map, ap, arith, rules}
 use Rattle.stream_base.specs.declared.change.Change.TheVariants.{New}
 use Rattle.stream_base.specs.Model.Changes.{row_of}
-use Rattle.context_windows.specs.Telling.{row_for}
 use Rattle.context_windows.proofs.Holding.{all_told, more_told, steps_more}
 use Rattle.context_windows.proofs.telling.tell_all.Goals as goal
 

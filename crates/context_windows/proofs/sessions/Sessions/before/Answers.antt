@@ -1,11 +1,10 @@
 -- What is kept are the sessions that stand of those near the time.
-use Rattle.std.proofs.Common.{◌≡◌, ◌∙◌, List, ◌++◌, refl, sym, subst, rules}
+use Rattle.std.proofs.Common.{◌≡◌, ◌∙◌, ◌++◌, refl, sym, subst, rules}
 use Rattle.std.specs.Prelude.{option_to_list}
 use Rattle.std.specs.List.{All}
 use Rattle.window_laws.proofs.Order.{All-split}
-use Rattle.context_windows.specs.declared.span.Span.{Span}
 use Rattle.context_windows.specs.Held.{IsAlignedWith}
-use Rattle.context_windows.specs.Spanned.{Spanned, gap_at, window_at}
+use Rattle.context_windows.specs.Spanned.{gap_at, window_at}
 use Rattle.context_windows.specs.Spans.{AreApart, asked_of, is_near}
 use Rattle.context_windows.proofs.Apart.{apart_filter}
 use Rattle.context_windows.proofs.Changing.{remembered}

@@ -1,12 +1,9 @@
 -- The sessions near the tuple are one with it, and what is told is what that changes.
 use Rattle.std.proofs.Common.{◌≡◌, ◌∙◌, ◌≤◌, ◌++◌, [], ap, sym, subst, rules}
 use Rattle.std.specs.Prelude.{option_to_list}
-use Rattle.stream_base.specs.declared.kept.Kept.{Kept}
-use Rattle.stream_base.specs.Model.Changes.{Moment}
 use Rattle.stream_base.specs.Model.Journal.{put_in_order}
-use Rattle.context_windows.specs.declared.span.Span.{Span}
 use Rattle.context_windows.specs.Held.{HoldsSessions}
-use Rattle.context_windows.specs.Spanned.{Follows, Remembers, Spanned, gap_at, window_at}
+use Rattle.context_windows.specs.Spanned.{Remembers, Spanned, gap_at, window_at}
 use Rattle.context_windows.specs.Spans.{AreApart, joined_span, near_of, spans_with}
 use Rattle.context_windows.proofs.Apart.{apart_with}
 use Rattle.context_windows.proofs.Changing.{put_follows, put_told}

@@ -1,6 +1,6 @@
 -- The sessions near the time are apart as all are.
-use Rattle.std.proofs.Common.{◌≡◌, ◌∙◌, sym, subst, rules}
-use Rattle.context_windows.specs.Spans.{AreApart, is_near, near_of}
+use Rattle.std.proofs.Common.{subst, rules}
+use Rattle.context_windows.specs.Spans.{AreApart, is_near}
 use Rattle.context_windows.proofs.Apart.{apart_filter}
 use Rattle.context_windows.proofs.sessions.Sessions.reserve.Goals as goal
 

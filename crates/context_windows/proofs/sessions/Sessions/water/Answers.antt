@@ -1,14 +1,9 @@
 -- The sessions that are due are told.
-use Rattle.std.proofs.Common.{◌≡◌, ◌∙◌, ◌<◌, ◌≤◌, ◌++◌, map, ap, sym, subst, rules}
-use Rattle.std.specs.Prelude.{nat_le, nat_lt}
-use Rattle.std.specs.List.{All, filter}
-use Rattle.stream_base.specs.declared.change.Change.TheVariants.{New}
-use Rattle.stream_base.specs.Laws.{becomes_complete}
-use Rattle.stream_base.specs.Model.Changes.{row_of}
-use Rattle.stream_base.specs.Model.Windows.{sessions}
-use Rattle.context_windows.specs.Held.{AreHeld, IsAlignedWith}
-use Rattle.context_windows.specs.Spanned.{gap_at, window_at}
-use Rattle.context_windows.specs.Spans.{due_of, span_of}
+use Rattle.std.proofs.Common.{◌≡◌, ◌∙◌, sym, subst, rules}
+use Rattle.std.specs.List.{All}
+use Rattle.context_windows.specs.Held.{IsAlignedWith}
+use Rattle.context_windows.specs.Spanned.{window_at}
+use Rattle.context_windows.specs.Spans.{due_of}
 use Rattle.context_windows.proofs.Changing.{move_told}
 use Rattle.context_windows.proofs.sessions.Sessions.water.Goals as goal
 

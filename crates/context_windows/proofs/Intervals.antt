@@ -1,0 +1,229 @@
+-- Intervals between marks, apart and between edges, with a tuple or a mark more.
+use Rattle.std.proofs.Common.{◌≡◌, ◌∙◌, ℕ, ◌+◌, ◌<◌, ◌≤◌, fold, max, min, Bool, true, false, cond, List, [], ◌∷◌, ◌++◌, None, Some, sym, refl, subst, arith, inl, inr}
+use Rattle.std.specs.Prelude.{◌⊎◌, ◌&&◌, nat_le, nat_lt, option_to_list}
+use Rattle.std.specs.BTreeSet.{insert_key}
+use Rattle.std.specs.List.{All, Contains, filter}
+use Rattle.std.specs.Ordering.{nat_cmp}
+use Rattle.std.proofs.lemmas.Bool.{and_parts, leb-true, ltb-true}
+use Rattle.std.proofs.lemmas.List.Elements.{All-append, All-cons, All-nil, All-contains, All-filter, All-weaker}
+use Rattle.std.proofs.lemmas.Map.Lookups.{exact_unsigned}
+use Rattle.stream_base.specs.declared.limits.TheConstants.{FINAL, TIME_MAX}
+use Rattle.stream_base.proofs.Members.{filter_members}
+use Rattle.stream_base.proofs.Rising.{Contains-head, Contains-insert_key, Contains-insert_key_cases, Contains-insert_key_self, Contains-tail}
+use Rattle.stream_base.proofs.Distinct.{All_from_members}
+use Rattle.slice_store.proofs.MarkFacts.{rising_more}
+use Rattle.context_windows.specs.declared.span.Span.{Span}
+use Rattle.context_windows.specs.Marked.{AreIntervals, IsEdge, back_of, first_or, front_of, head_before, holder_in, holder_of, part_if, parted_of}
+use Rattle.context_windows.specs.Spans.{AreApart, is_near, near_of}
+use Rattle.context_windows.proofs.Apart.{All_filtered, append_apart, apart_filter, ordered, proper}
+use Rattle.context_windows.proofs.MarkSides.{last_by, last_from, next_behind, next_by, next_final}
+
+-- ---- a span between those that end by a time and those that start behind it
+pub record IsBetween (spans : List Span) (marks : List ℕ) (time : ℕ) (s : Span) : Type 0 where
+  pub proper : s.low ≤ s.high
+  pub fronts : (t : Span) → Contains spans t → t.high ≤ time → t.high ≤ s.low
+  pub backs : (t : Span) → Contains spans t → time + 1 ≤ t.low → s.high ≤ t.low
+  pub low : IsEdge marks s.low
+  pub high : IsEdge marks s.high
+
+most_is : (start : ℕ) (xs : List ℕ) → (fold max start xs ≡ start) ⊎ Contains xs (fold max start xs)
+most_is start [] = inl refl
+most_is start (x ∷ xs) =
+    elim (most_is (max start x) xs) [
+      | inl e ↦ elim (larger start x) [
+        | inl f ↦ inl (e ∙ f)
+        | inr f ↦ inr (subst (Contains (x ∷ xs)) (sym (e ∙ f)) (Contains-head x xs))
+      ]
+      | inr c ↦ inr (Contains-tail x xs (fold max (max start x) xs) c)
+    ]
+  where
+    larger : (a b : ℕ) → (max a b ≡ a) ⊎ (max a b ≡ b)
+    larger a b = grind arith
+
+least_is : (start : ℕ) (xs : List ℕ) → (fold min start xs ≡ start) ⊎ Contains xs (fold min start xs)
+least_is start [] = inl refl
+least_is start (x ∷ xs) =
+    elim (least_is (min start x) xs) [
+      | inl e ↦ elim (smaller start x) [
+        | inl f ↦ inl (e ∙ f)
+        | inr f ↦ inr (subst (Contains (x ∷ xs)) (sym (e ∙ f)) (Contains-head x xs))
+      ]
+      | inr c ↦ inr (Contains-tail x xs (fold min (min start x) xs) c)
+    ]
+  where
+    smaller : (a b : ℕ) → (min a b ≡ a) ⊎ (min a b ≡ b)
+    smaller a b = grind arith
+
+module _ (spans : List Span) (marks : List ℕ) (time : ℕ) (h : AreIntervals spans marks) (l : time ≤ TIME_MAX) where
+  early : time < FINAL
+  early = omega arith
+
+  -- the interval that holds the time
+  pub between_near : (s : Span) → Contains spans s → is_near 1 time s ≡ true → IsBetween spans marks time s
+  between_near s c e =
+      let n = and_parts (nat_lt time s.high) (nat_lt s.low (time + 1)) e in
+      let n1 : time < s.high = ltb-true time s.high n.0 in
+      let n2 : s.low < time + 1 = ltb-true s.low (time + 1) n.1 in
+      let p : s.low ≤ s.high = All-contains (λ (s : Span). s.low ≤ s.high) spans s (proper spans h.apart) c in
+      let g = All-contains (λ (s : Span). IsEdge marks s.low × IsEdge marks s.high) spans s h.edges c in
+      record {
+        proper = p;
+        fronts = λ t d m. elim (ordered spans t s h.apart d c) [
+          | inl f ↦ absurd (let k : s.high ≤ time = subst (λ (k : Span). k.high ≤ time) f m in omega arith)
+          | inr f ↦ elim f [
+            | inl k ↦ k
+            | inr k ↦ absurd (let q : t.low ≤ t.high = All-contains (λ (s : Span). s.low ≤ s.high) spans t (proper spans h.apart) d in omega arith)
+          ]
+        ];
+        backs = λ t d m. elim (ordered spans s t h.apart c d) [
+          | inl f ↦ absurd (let k : time + 1 ≤ s.low = subst (λ (k : Span). time + 1 ≤ k.low) (sym f) m in omega arith)
+          | inr f ↦ elim f [
+            | inl k ↦ k
+            | inr k ↦ absurd (let q : t.low ≤ t.high = All-contains (λ (s : Span). s.low ≤ s.high) spans t (proper spans h.apart) d in omega arith)
+          ]
+        ];
+        low = g.0;
+        high = g.1;
+      }
+
+  -- the interval between the marks at its sides
+  between_marks : IsBetween spans marks time (holder_of marks time)
+  between_marks = record {
+    proper = (let a = last_by marks time in let b = next_behind marks time early in omega arith);
+    fronts = λ t d m. elim (All-contains (λ (s : Span). IsEdge marks s.low × IsEdge marks s.high) spans t h.edges d).1 [
+      | inl e ↦ omega arith
+      | inr e ↦ elim e [
+        | inl c ↦ last_from marks time t.high c m
+        | inr f ↦ absurd (omega arith)
+      ]
+    ];
+    backs = λ t d m. elim (All-contains (λ (s : Span). IsEdge marks s.low × IsEdge marks s.high) spans t h.edges d).0 [
+      | inl e ↦ absurd (omega arith)
+      | inr e ↦ elim e [
+        | inl c ↦ next_by marks time t.low c (omega arith)
+        | inr f ↦ (let n = next_final marks time in omega arith)
+      ]
+    ];
+    low = elim (most_is 0 (filter (λ m. nat_le m time) marks)) [ inl e ↦ inl e | inr c ↦ inr (inl (filter_members (λ m. nat_le m time) marks (fold max 0 (filter (λ m. nat_le m time) marks)) c).0) ];
+    high = elim (least_is FINAL (filter (λ m. nat_lt time m) marks)) [ inl e ↦ inr (inr e) | inr c ↦ inr (inl (filter_members (λ m. nat_lt time m) marks (fold min FINAL (filter (λ m. nat_lt time m) marks)) c).0) ];
+  }
+
+  near_head : (near : List Span) → near_of 1 time spans ≡ near → IsBetween spans marks time (first_or (holder_of marks time) near)
+  near_head [] e = between_marks
+  near_head (s ∷ ss) e =
+      let c : Contains (near_of 1 time spans) s = subst (λ l. Contains l s) (sym e) (Contains-head s ss) in
+      let d = filter_members (is_near 1 time) spans s c in
+      between_near s d.0 d.1
+
+  pub holder_between : IsBetween spans marks time (holder_in time spans marks)
+  holder_between = near_head (near_of 1 time spans) refl
+
+  -- some spans in the place of those that hold the time
+  around : (mid : List Span) → AreApart mid → ((s : Span) → Contains spans s → s.high ≤ time → All (λ m. s.high ≤ m.low) mid) → All (λ m. (t : Span) → Contains spans t → time + 1 ≤ t.low → m.high ≤ t.low) mid → AreApart (filter (λ s. nat_le s.high time) spans ++ (mid ++ filter (λ s. nat_le (time + 1) s.low) spans))
+  around mid a f b =
+      append_apart (filter (λ s. nat_le s.high time) spans) (mid ++ filter (λ s. nat_le (time + 1) s.low) spans)
+      (apart_filter (λ s. nat_le s.high time) spans h.apart)
+      (append_apart mid (filter (λ s. nat_le (time + 1) s.low) spans) a (apart_filter (λ s. nat_le (time + 1) s.low) spans h.apart)
+      (All-weaker (λ (m : Span). (t : Span) → Contains spans t → time + 1 ≤ t.low → m.high ≤ t.low) (λ m. All (λ (t : Span). m.high ≤ t.low) (filter (λ s. nat_le (time + 1) s.low) spans)) (λ m k. All_filtered (λ s. nat_le (time + 1) s.low) (λ (t : Span). m.high ≤ t.low) spans (λ t c e. k t c (leb-true (time + 1) t.low e))) mid b))
+      (All_filtered (λ s. nat_le s.high time) (λ (s : Span). All (λ t. s.high ≤ t.low) (mid ++ filter (λ s. nat_le (time + 1) s.low) spans)) spans (λ s c e.
+      let m : s.high ≤ time = leb-true s.high time e in
+      All-append (λ (t : Span). s.high ≤ t.low) mid (filter (λ s. nat_le (time + 1) s.low) spans) (f s c m)
+      (All_filtered (λ s. nat_le (time + 1) s.low) (λ (t : Span). s.high ≤ t.low) spans (λ t d g. let n : time + 1 ≤ t.low = leb-true (time + 1) t.low g in omega arith))))
+
+  -- ---- a tuple more
+  pub intervals_with : AreIntervals (filter (λ s. nat_le s.high time) spans ++ holder_in time spans marks ∷ filter (λ s. nat_le (time + 1) s.low) spans) marks
+  intervals_with =
+      let b = holder_between in
+      record {
+        apart = around (holder_in time spans marks ∷ []) (b.proper, All-nil (λ (t : Span). (holder_in time spans marks).high ≤ t.low), tt)
+            (λ s c m. All-cons (λ (t : Span). s.high ≤ t.low) (holder_in time spans marks) [] (b.fronts s c m) (All-nil (λ (t : Span). s.high ≤ t.low)))
+            (All-cons (λ (m : Span). (t : Span) → Contains spans t → time + 1 ≤ t.low → m.high ≤ t.low) (holder_in time spans marks) [] b.backs (All-nil (λ (m : Span). (t : Span) → Contains spans t → time + 1 ≤ t.low → m.high ≤ t.low)));
+        rising = h.rising;
+        in_time = h.in_time;
+        edges = All-append (λ (s : Span). IsEdge marks s.low × IsEdge marks s.high) (filter (λ s. nat_le s.high time) spans) (holder_in time spans marks ∷ filter (λ s. nat_le (time + 1) s.low) spans)
+            (All-filter (λ s. nat_le s.high time) (λ (s : Span). IsEdge marks s.low × IsEdge marks s.high) spans h.edges)
+            (All-cons (λ (s : Span). IsEdge marks s.low × IsEdge marks s.high) (holder_in time spans marks) (filter (λ s. nat_le (time + 1) s.low) spans) (b.low, b.high)
+            (All-filter (λ s. nat_le (time + 1) s.low) (λ (s : Span). IsEdge marks s.low × IsEdge marks s.high) spans h.edges));
+      }
+
+  -- ---- a mark more
+  edge_stays : (e : ℕ) → IsEdge marks e → IsEdge (insert_key nat_cmp marks time) e
+  edge_stays e (inl z) = inl z
+  edge_stays e (inr (inl c)) = inr (inl (Contains-insert_key nat_cmp time marks e c))
+  edge_stays e (inr (inr f)) = inr (inr f)
+
+  mark_edge : IsEdge (insert_key nat_cmp marks time) time
+  mark_edge = inr (inl (Contains-insert_key_self nat_cmp exact_unsigned time marks))
+
+  edges_stay : (ss : List Span) → All (λ (s : Span). IsEdge marks s.low × IsEdge marks s.high) ss → All (λ (s : Span). IsEdge (insert_key nat_cmp marks time) s.low × IsEdge (insert_key nat_cmp marks time) s.high) ss
+  edges_stay ss a = All-weaker (λ (s : Span). IsEdge marks s.low × IsEdge marks s.high) (λ (s : Span). IsEdge (insert_key nat_cmp marks time) s.low × IsEdge (insert_key nat_cmp marks time) s.high) (λ s e. (edge_stays s.low e.0, edge_stays s.high e.1)) ss a
+
+  in_time_with : All (λ m. m ≤ TIME_MAX) (insert_key nat_cmp marks time)
+  in_time_with =
+      All_from_members (λ m. m ≤ TIME_MAX) (insert_key nat_cmp marks time)
+      (λ m c. elim (Contains-insert_key_cases nat_cmp time marks m c) [
+        | inl e ↦ subst (λ n. n ≤ TIME_MAX) e l
+        | inr d ↦ All-contains (λ m. m ≤ TIME_MAX) marks m h.in_time d
+      ])
+
+  pub intervals_marked : AreIntervals spans (insert_key nat_cmp marks time)
+  intervals_marked = record { apart = h.apart; rising = rising_more marks time h.rising; in_time = in_time_with; edges = edges_stay spans h.edges }
+
+  part_cases : (filled : Bool) (forgotten : ℕ) (s : Span) (P : Span → Type 0) → P s → All P (option_to_list (part_if filled forgotten s))
+  part_cases filled forgotten s P p = by (filled && nat_lt forgotten s.high)
+    where
+      by : (b : Bool) → All P (option_to_list (cond b (Some s) None))
+      by true = All-cons P s [] p (All-nil P)
+      by false = All-nil P
+
+  part_apart : (filled : Bool) (forgotten : ℕ) (s : Span) → s.low ≤ s.high → AreApart (option_to_list (part_if filled forgotten s))
+  part_apart filled forgotten s p = by (filled && nat_lt forgotten s.high)
+    where
+      by : (b : Bool) → AreApart (option_to_list (cond b (Some s) None))
+      by true = (p, All-nil (λ (t : Span). s.high ≤ t.low), tt)
+      by false = tt
+
+  near_before : (near : List Span) (s : Span) → head_before time near ≡ Some s → Contains near s × (s.low < time)
+  near_before [] s e = absurd (ne e)
+    where
+      ne : None ≡ Some s → ⊥
+      ne e = cc
+  near_before (n ∷ ns) s e = by (nat_lt n.low time) refl e
+    where
+      by : (b : Bool) → nat_lt n.low time ≡ b → cond b (Some n) None ≡ Some s → Contains (n ∷ ns) s × (s.low < time)
+      by true t e = let same : n ≡ s = cc in (subst (Contains (n ∷ ns)) same (Contains-head n ns), subst (λ (k : Span). k.low < time) same (ltb-true n.low time t))
+      by false t e = absurd (ne e)
+        where
+          ne : None ≡ Some s → ⊥
+          ne e = cc
+
+  pub intervals_parted : (s : Span) → parted_of time spans ≡ Some s → (front back : Bool) (forgotten : ℕ) → AreIntervals (filter (λ s. nat_le s.high time) spans ++ ((option_to_list (part_if front forgotten (front_of time s)) ++ option_to_list (part_if back forgotten (back_of time s))) ++ filter (λ s. nat_le (time + 1) s.low) spans)) (insert_key nat_cmp marks time)
+  intervals_parted s e front back forgotten =
+      let n = near_before (near_of 1 time spans) s e in
+      let d = filter_members (is_near 1 time) spans s n.0 in
+      let b = between_near s d.0 d.1 in
+      let late : time < s.high = ltb-true time s.high (and_parts (nat_lt time s.high) (nat_lt s.low (time + 1)) d.1).0 in
+      let f = option_to_list (part_if front forgotten (front_of time s)) in
+      let k = option_to_list (part_if back forgotten (back_of time s)) in
+      let before : s.low < time = n.1 in
+      record {
+        apart = around (f ++ k)
+            (append_apart f k (part_apart front forgotten (front_of time s) (omega arith)) (part_apart back forgotten (back_of time s) (omega arith))
+            (part_cases front forgotten (front_of time s) (λ (m : Span). All (λ (t : Span). m.high ≤ t.low) k) (part_cases back forgotten (back_of time s) (λ (t : Span). time ≤ t.low) (omega arith))))
+            (λ t c m. All-append (λ (m : Span). t.high ≤ m.low) f k (part_cases front forgotten (front_of time s) (λ (m : Span). t.high ≤ m.low) (b.fronts t c m)) (part_cases back forgotten (back_of time s) (λ (m : Span). t.high ≤ m.low) m))
+            (All-append (λ (m : Span). (t : Span) → Contains spans t → time + 1 ≤ t.low → m.high ≤ t.low) f k
+            (part_cases front forgotten (front_of time s) (λ (m : Span). (t : Span) → Contains spans t → time + 1 ≤ t.low → m.high ≤ t.low) (λ t c m. omega arith))
+            (part_cases back forgotten (back_of time s) (λ (m : Span). (t : Span) → Contains spans t → time + 1 ≤ t.low → m.high ≤ t.low) b.backs));
+        rising = rising_more marks time h.rising;
+        in_time = in_time_with;
+        edges = All-append (λ (s : Span). IsEdge (insert_key nat_cmp marks time) s.low × IsEdge (insert_key nat_cmp marks time) s.high) (filter (λ s. nat_le s.high time) spans) ((f ++ k) ++ filter (λ s. nat_le (time + 1) s.low) spans)
+            (All-filter (λ s. nat_le s.high time) (λ (s : Span). IsEdge (insert_key nat_cmp marks time) s.low × IsEdge (insert_key nat_cmp marks time) s.high) spans (edges_stay spans h.edges))
+            (All-append (λ (s : Span). IsEdge (insert_key nat_cmp marks time) s.low × IsEdge (insert_key nat_cmp marks time) s.high) (f ++ k) (filter (λ s. nat_le (time + 1) s.low) spans)
+            (All-append (λ (s : Span). IsEdge (insert_key nat_cmp marks time) s.low × IsEdge (insert_key nat_cmp marks time) s.high) f k
+            (part_cases front forgotten (front_of time s) (λ (s : Span). IsEdge (insert_key nat_cmp marks time) s.low × IsEdge (insert_key nat_cmp marks time) s.high) (edge_stays s.low b.low, mark_edge))
+            (part_cases back forgotten (back_of time s) (λ (s : Span). IsEdge (insert_key nat_cmp marks time) s.low × IsEdge (insert_key nat_cmp marks time) s.high) (mark_edge, edge_stays s.high b.high)))
+            (All-filter (λ s. nat_le (time + 1) s.low) (λ (s : Span). IsEdge (insert_key nat_cmp marks time) s.low × IsEdge (insert_key nat_cmp marks time) s.high) spans (edges_stay spans h.edges)));
+      }
+
+pub intervals_left : (spans : List Span) (marks : List ℕ) (p : Span → Bool) → AreIntervals spans marks → AreIntervals (filter p spans) marks
+intervals_left spans marks p h = record { apart = apart_filter p spans h.apart; rising = h.rising; in_time = h.in_time; edges = All-filter p (λ (s : Span). IsEdge marks s.low × IsEdge marks s.high) spans h.edges }

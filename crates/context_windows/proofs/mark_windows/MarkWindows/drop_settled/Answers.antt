@@ -1,0 +1,29 @@
+-- The intervals that end later are left.
+use Rattle.std.proofs.Common.{◌≡◌, ◌∙◌, ap, sym, subst, rules}
+use Rattle.std.specs.Prelude.{max, nat_lt}
+use Rattle.std.specs.List.{filter}
+use Rattle.std.proofs.lemmas.Fn.{filter_same}
+use Rattle.context_windows.specs.declared.span.Span.{Span}
+use Rattle.context_windows.specs.Marked.{AreIntervals, Marked}
+use Rattle.context_windows.proofs.Intervals.{intervals_left}
+use Rattle.context_windows.proofs.Stretching.{marks_later}
+use Rattle.context_windows.proofs.mark_windows.MarkWindows.drop_settled.Goals as goal
+
+pub invariant_of-self : goal.invariant_of-self
+invariant_of-self c =
+    let time = c.args.time in
+    let spans = c.self.inside.spans.items in
+    let left : c.retain.new.self.items ≡ filter (λ (s : Span). nat_lt time s.high) spans = filter_same _ (λ (s : Span). nat_lt time s.high) _ (λ x b f' k. search rules) _ _ c.retain.ensures.filtered in
+    subst (λ l. AreIntervals l c.self.inside.marks.items) (sym left) (intervals_left spans c.self.inside.marks.items (λ (s : Span). nat_lt time s.high) c.self.invariant)
+
+pub returns-clause-spans : goal.returns-clause-spans
+returns-clause-spans c =
+    let time = c.args.time in
+    let spans = c.self.inside.spans.items in
+    let left : c.retain.new.self.items ≡ filter (λ (s : Span). nat_lt time s.high) spans = filter_same _ (λ (s : Span). nat_lt time s.high) _ (λ x b f' k. search rules) _ _ c.retain.ensures.filtered in
+    left ∙ ap (λ (v : Marked). filter (λ (s : Span). nat_lt time s.high) v.spans) c.self.view_is
+
+pub returns-clause-follows : goal.returns-clause-follows
+returns-clause-follows c = λ marks kept f.
+    let at : c.max-self-inside.result ≡ max c.args.self.now.forgotten c.args.time = search rules in
+    marks_later c.args.time marks kept c.args.self.now _ f (returns-clause-spans c) (search rules) at

@@ -1,0 +1,16 @@
+-- The intervals that are due are those that become complete.
+use Rattle.std.proofs.Common.{◌≡◌, ◌∙◌, ◌≤◌, ◌-◌, length, take, drop, ap, sym, arith, rules}
+use Rattle.std.proofs.lemmas.List.{length-drop, length-take}
+use Rattle.context_windows.specs.Spans.{due_of}
+use Rattle.context_windows.proofs.Stretching.{marks_due_length}
+use Rattle.context_windows.proofs.mark_windows.MarkWindows.due.Goals as goal
+
+pub returns-clause-rows : goal.returns-clause-rows
+returns-clause-rows c = λ key func m f le at.
+    let from = c.due-places.result.from in
+    let to = c.due-places.result.to in
+    let is : due_of c.args.old c.args.new c.args.self.now.spans ≡ take (to - from) (drop from c.deref.result.now) = search rules in
+    let within : to ≤ length c.deref.result.now = c.due-places.ensures.within in
+    let number : length (take (to - from) (drop from c.deref.result.now)) ≡ to - from = simp (length-take, length-drop) (omega arith) in
+    sym number ∙ ap length (sym is)
+    ∙ marks_due_length c.args.window func key m c.args.old c.args.new c.args.self.now f le at

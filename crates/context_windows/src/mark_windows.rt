@@ -1,0 +1,309 @@
+//! The intervals between the marks of one key.
+ghost use Rattle.std.specs.Prelude.{◌≡◌, ◌≤◌, ◌+◌, ◌-◌, ◌*◌, ◌++◌, ℕ, List, [], filter, length, max, nat_lt, OnOk, IfOk, vec_len, vec_capacity, take, drop, suc, Some, map, option_to_list};
+ghost use Rattle.std.specs.BTreeSet.{insert_key};
+ghost use Rattle.std.specs.Ordering.{nat_cmp};
+ghost use Rattle.stream_base.specs.declared.kept.Kept.{Kept};
+ghost use Rattle.stream_base.specs.declared.limits.TheConstants.{TIME_MAX};
+ghost use Rattle.stream_base.specs.Laws.{completions};
+ghost use Rattle.stream_base.specs.Model.Changes.{Moment};
+ghost use Rattle.stream_base.specs.Model.Journal.{put_in_order};
+ghost use Rattle.window_laws.specs.After.{with_mark, with_tuple};
+ghost use Rattle.context_windows.specs.Held.{AreAlignedWith};
+ghost use Rattle.context_windows.specs.Marked.{FollowsMarks, HoldsStretches, IsMarkedAsBefore, RemembersHolder, asked_at, entered_at, holder_in, marks_window, most_changes, parted_of, with_parts};
+ghost use Rattle.context_windows.specs.Spanned.{changes_of};
+ghost use Rattle.context_windows.specs.Spans.{due_of};
+
+use crate::edges::{add_mark, holder};
+use crate::joining::replace;
+use crate::near::{between, due, first_asked, first_before, first_or, near};
+use crate::parting::{back_of, front_of, is_filled, part, part_if};
+use crate::span::Span;
+use crate::standing::Standing;
+use crate::telling::{Teller, ask, tell_all, tell_joined, tell_part, tell_taken};
+use agg_laws::{AggTree, Bundle, Steps};
+use slice_store::SliceStore;
+use std::alloc::Global;
+use std::marker::Model;
+use stream_base::{Change, Func, KeyText, NoMemory};
+
+/// The intervals between the marks of one key, for a marks window of it: the span of each that has a
+/// tuple, the marks, and what the interval showed that a coming tuple may change. Contracts see these,
+/// up to which time intervals are forgotten, and for how many more there is room.
+#[derive(Debug, Drop)]
+pub struct MarkWindows {
+    spans: Vec<Span>,
+    marks: Vec<u64>,
+    stood: Option<Standing>,
+    forgotten: u64,
+}
+
+impl Model for MarkWindows {
+    ghost use Rattle.std.specs.Prelude.{◌-◌, min, vec_len, vec_capacity, option_to_list};
+    ghost use Rattle.context_windows.specs.Marked.{AreIntervals, Marked};
+
+    ghost Value = { Marked };
+
+    ghost view = { λ s. record {
+      spans = s.spans.items;
+      marks = s.marks.items;
+      stood = option_to_list s.stood;
+      forgotten = s.forgotten;
+      spare = min (vec_capacity s.spans - vec_len s.spans) (vec_capacity s.marks - vec_len s.marks);
+    } };
+
+    ghost invariant = { λ s. AreIntervals s.spans.items s.marks.items };
+}
+
+impl MarkWindows {
+    /// No tuple and no mark yet.
+    pub fn new(alloc: Global) -> MarkWindows
+        ensures follows { FollowsMarks [] [] result }
+        ensures forgotten { (result).forgotten ≡ 0 }
+    {
+        MarkWindows {
+            spans: Vec::new(alloc),
+            marks: Vec::new(alloc),
+            stood: None,
+            forgotten: 0,
+        }
+    }
+
+    /// Makes room for a tuple or a mark at a time under a watermark, and answers a number that is at
+    /// least how many changes its `put` or `mark` will append.
+    pub fn reserve(&mut self, window: u32, time: u64, water: u64) -> Result<u64, NoMemory>
+        requires { time ≤ TIME_MAX }
+        ensures room { OnOk result (1 ≤ self.new.spare) }
+        ensures spare { self.old.spare ≤ self.new.spare }
+        ensures kept { IsMarkedAsBefore self.old self.new }
+        ensures number { IfOk result (λ n. n
+            ≡ most_changes time water (holder_in time self.old.spans self.old.marks)) }
+    {
+        self.spans.reserve(1)?;
+        self.marks.reserve(1)?;
+        let places = near(&self.spans, 1, time);
+        let span = first_or(&self.spans, places, holder(&self.marks, time));
+        Ok(most_changes(span, time, water))
+    }
+
+    /// Keeps what the interval shows that holds a time, if it stands. It is called before the store
+    /// takes the tuple in.
+    pub fn before<T: AggTree<Bundle>, L>(
+        &mut self,
+        window: u32,
+        func: Func,
+        store: &SliceStore<T>,
+        time: u64,
+        water: u64,
+        steps: &mut Steps<L>,
+    )
+        requires time { time ≤ TIME_MAX }
+        requires aligned { AreAlignedWith store.now.slices (asked_at time water self.old.spans) }
+        ensures spans { self.new.spans ≡ self.old.spans }
+        ensures marks { self.new.marks ≡ self.old.marks }
+        ensures forgotten { self.new.forgotten ≡ self.old.forgotten }
+        ensures spare { self.new.spare ≡ self.old.spare }
+        ensures remembers { (marks : List ℕ) (kept : List Kept) → FollowsMarks marks kept self.old
+            → self.old.forgotten ≤ time → HoldsStretches time marks kept store.now
+            → RemembersHolder func time water marks kept self.new }
+        ensures cost { steps.new
+            ≤ steps.old + 64 * (store.now.reach + 2) * length self.new.stood }
+    {
+        let places = near(&self.spans, 1, time);
+        self.stood = ask(store, first_asked(&self.spans, places, water), func, steps);
+    }
+
+    /// Takes in a tuple that the store has taken in, and appends exactly the window's changes: at most
+    /// one, of the interval that holds it. `reserve` made the room; `before` kept what stood.
+    pub fn put<T: AggTree<Bundle>, L>(
+        &mut self,
+        window: u32,
+        func: Func,
+        store: &SliceStore<T>,
+        key: &KeyText,
+        time: u64,
+        water: u64,
+        out: &mut Vec<Change>,
+        steps: &mut Steps<L>,
+    )
+        requires time { time ≤ TIME_MAX }
+        requires room { 1 ≤ self.old.spare }
+        requires aligned { AreAlignedWith store.now.slices (entered_at time water self.old) }
+        requires spare { length (entered_at time water self.old)
+            ≤ vec_capacity out.old - vec_len out.old }
+        ensures follows { (marks : List ℕ) (kept : List Kept) (x : Kept)
+            → FollowsMarks marks kept self.old → self.old.forgotten ≤ time → x.time ≡ time
+            → FollowsMarks marks (put_in_order kept x) self.new }
+        ensures changes { (m : Moment) (x : Kept) → FollowsMarks m.marks m.kept self.old
+            → self.old.forgotten ≤ time → x.time ≡ time → m.water ≡ water
+            → RemembersHolder func time water m.marks m.kept self.old
+            → HoldsStretches time m.marks (put_in_order m.kept x) store.now
+            → out.new.items ≡ out.old.items
+            ++ changes_of key.now m (with_tuple m x) (window, marks_window func) }
+        ensures number { vec_len out.new
+            ≡ vec_len out.old + length (entered_at time water self.old) }
+        ensures marks { self.new.marks ≡ self.old.marks }
+        ensures forgotten { self.new.forgotten ≡ self.old.forgotten }
+        ensures room_left { self.old.spare ≤ self.new.spare + 1 }
+        ensures capacity { vec_capacity out.new ≡ vec_capacity out.old }
+        ensures cost { steps.new ≤ steps.old + 64 * (store.now.reach + 2)
+            * (vec_len out.new - vec_len out.old) }
+    {
+        let places = near(&self.spans, 1, time);
+        let span = first_or(&self.spans, places, holder(&self.marks, time));
+        replace(&mut self.spans, places.from, places.to, span);
+        let teller = Teller { window, key };
+        tell_joined(
+            &teller, store, self.stood, None, span, water, func, out, steps,
+        );
+    }
+
+    /// Takes in a mark that the store has taken in, and appends exactly the window's changes: the
+    /// interval that the mark parts is taken back where it stood, and each of its parts that has a
+    /// tuple and stands is new. `reserve` made the room.
+    pub fn mark<T: AggTree<Bundle>, L>(
+        &mut self,
+        window: u32,
+        func: Func,
+        store: &SliceStore<T>,
+        key: &KeyText,
+        time: u64,
+        water: u64,
+        out: &mut Vec<Change>,
+        steps: &mut Steps<L>,
+    )
+        requires time { time ≤ TIME_MAX }
+        requires room { 1 ≤ self.old.spare }
+        requires aligned { AreAlignedWith store.now.slices
+            (with_parts time (parted_of time self.old.spans)) }
+        requires spare { most_changes time water (holder_in time self.old.spans self.old.marks)
+            ≤ vec_capacity out.old - vec_len out.old }
+        ensures follows { (marks : List ℕ) (kept : List Kept) → FollowsMarks marks kept self.old
+            → self.old.forgotten ≤ time → HoldsStretches time marks kept store.now
+            → FollowsMarks (insert_key nat_cmp marks time) kept self.new }
+        ensures changes { (m : Moment) → FollowsMarks m.marks m.kept self.old
+            → self.old.forgotten ≤ time → m.water ≡ water
+            → HoldsStretches time m.marks m.kept store.now
+            → out.new.items ≡ out.old.items
+            ++ changes_of key.now m (with_mark m time) (window, marks_window func) }
+        ensures number { vec_len out.new ≤ vec_len out.old
+            + most_changes time water (holder_in time self.old.spans self.old.marks) }
+        ensures marks { self.new.marks ≡ insert_key nat_cmp self.old.marks time }
+        ensures forgotten { self.new.forgotten ≡ self.old.forgotten }
+        ensures room_left { self.old.spare ≤ self.new.spare + 1 }
+        ensures capacity { vec_capacity out.new ≡ vec_capacity out.old }
+        ensures cost { steps.new ≤ steps.old + 64 * (store.now.reach + 2)
+            * (vec_len out.new - vec_len out.old) }
+    {
+        let places = near(&self.spans, 1, time);
+        let parted = first_before(&self.spans, places, time);
+        add_mark(&mut self.marks, time);
+        if let Some(span) = parted {
+            let front = is_filled(store, front_of(span, time));
+            let back = is_filled(store, back_of(span, time));
+            let first = part_if(front, self.forgotten, front_of(span, time));
+            let second = part_if(back, self.forgotten, back_of(span, time));
+            part(&mut self.spans, places.from, places.to, first, second);
+            let teller = Teller { window, key };
+            tell_taken(&teller, store, span, water, func, out, steps);
+            tell_part(
+                &teller,
+                store,
+                front_of(span, time),
+                front,
+                water,
+                func,
+                out,
+                steps,
+            );
+            tell_part(
+                &teller,
+                store,
+                back_of(span, time),
+                back,
+                water,
+                func,
+                out,
+                steps,
+            );
+        }
+    }
+
+    /// How many intervals a move of the watermark completes.
+    pub fn due(&self, window: u32, old: u64, new: u64) -> u64
+        ensures number { result ≡ length (due_of old new self.now.spans) }
+        ensures rows { (key : List ℕ) (func : Func) (m : Moment)
+            → FollowsMarks m.marks m.kept self.now
+            → self.now.forgotten ≤ old → m.water ≡ old
+            → result ≡ length (completions key m new (window, marks_window func)) }
+    {
+        let places = due(&self.spans, old, new);
+        (places.to - places.from) as u64
+    }
+
+    /// Appends exactly the intervals that a move of the watermark completes, as new. `due` says how
+    /// many.
+    pub fn water<T: AggTree<Bundle>, L>(
+        &self,
+        window: u32,
+        func: Func,
+        store: &SliceStore<T>,
+        key: &KeyText,
+        old: u64,
+        new: u64,
+        out: &mut Vec<Change>,
+        steps: &mut Steps<L>,
+    )
+        requires aligned { AreAlignedWith store.now.slices (due_of old new self.now.spans) }
+        requires spare { length (due_of old new self.now.spans)
+            ≤ vec_capacity out.old - vec_len out.old }
+        ensures changes { (m : Moment) → FollowsMarks m.marks m.kept self.now
+            → self.now.forgotten ≤ old → m.water ≡ old
+            → HoldsStretches old m.marks m.kept store.now
+            → out.new.items ≡ out.old.items
+            ++ completions key.now m new (window, marks_window func) }
+        ensures number { vec_len out.new
+            ≡ vec_len out.old + length (due_of old new self.now.spans) }
+        ensures capacity { vec_capacity out.new ≡ vec_capacity out.old }
+        ensures cost { steps.new ≤ steps.old + 64 * (store.now.reach + 2)
+            * (vec_len out.new - vec_len out.old) }
+    {
+        let places = due(&self.spans, old, new);
+        let teller = Teller { window, key };
+        tell_all(
+            &teller,
+            store,
+            between(&self.spans, places),
+            func,
+            out,
+            steps,
+        );
+    }
+
+    /// Forgets the intervals that end at or before a time. No tuple and no mark comes at an earlier
+    /// time.
+    pub fn drop_settled(&mut self, time: u64)
+        ensures spans { self.new.spans ≡ filter (λ s. nat_lt time s.high) self.old.spans }
+        ensures marks { self.new.marks ≡ self.old.marks }
+        ensures stood { self.new.stood ≡ self.old.stood }
+        ensures forgotten { self.new.forgotten ≡ max self.old.forgotten time }
+        ensures spare { self.old.spare ≤ self.new.spare }
+        ensures follows { (marks : List ℕ) (kept : List Kept) → FollowsMarks marks kept self.old
+            → FollowsMarks marks kept self.new }
+    {
+        self.spans.retain(|s| time < s.high);
+        self.forgotten = self.forgotten.max(time);
+    }
+}
+
+// At least as many as the changes of a tuple or a mark at a time in this interval.
+fn most_changes(span: Span, time: u64, water: u64) -> u64
+    ensures { result ≡ most_changes time water span }
+{
+    if span.high <= water {
+        3
+    } else if time <= water {
+        1
+    } else {
+        0
+    }
+}
