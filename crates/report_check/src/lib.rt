@@ -29,6 +29,8 @@ mod routes;
 mod same;
 mod step;
 mod tell;
+#[cfg(test)]
+mod tests;
 mod told;
 mod waters;
 mod words;
