@@ -25,7 +25,7 @@ complete_starts length slide time water =
 abbrev pub ended : ℕ → ℕ → ℕ → ℕ
 ended length slide water = if nat_lt water length then 0 else (water - length) / slide + 1
 
--- the same of a window that is tumbling or sliding
+-- the starts of a tumbling or sliding window's complete intervals that hold a time
 abbrev pub complete_holding : Kind → ℕ → ℕ → List ℕ
 complete_holding kind time water = complete_starts (length_of kind) (slide_of kind) time water
 

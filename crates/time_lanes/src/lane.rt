@@ -234,7 +234,8 @@ impl<Q: AggQueue<Bundle>> Lane<Q> {
 
     /// Appends exactly the changes of a tuple that the store has just taken in: one for each
     /// complete interval that selects it, by their starts. It is new where the interval selects that
-    /// tuple alone, and else an update with what stood, which `formers` told before.
+    /// tuple alone, and else an update with what stood, which `formers` told before. A tuple
+    /// retracts no interval.
     pub fn late<T: AggTree<Bundle>, L>(
         &self,
         defs: &Defs,
