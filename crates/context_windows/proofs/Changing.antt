@@ -1,8 +1,8 @@
 -- What is told of sessions are their changes.
-use Rattle.std.proofs.Common.{◌≡◌, ◌∙◌, ℕ, suc, ◌+◌, ◌<◌, ◌≤◌, Bool, true, false, cond, not, List, [], ◌∷◌, ◌++◌, length, map, ap, sym, refl, subst, arith, inl, inr, Option, None, Some, append_assoc}
-use Rattle.std.specs.Prelude.{◌⊎◌, ◌&&◌, ◌||◌, ◌==◌, ◌^◌, nat_le, nat_lt, option_to_list, find, pos}
+use Rattle.std.proofs.Common.{◌≡◌, ◌∙◌, ℕ, suc, ◌+◌, ◌<◌, ◌≤◌, Bool, true, false, cond, not, List, [], ◌∷◌, ◌++◌, length, map, ap, sym, refl, subst, arith, Option, None, Some, append_assoc}
+use Rattle.std.specs.Prelude.{◌&&◌, ◌||◌, ◌==◌, ◌^◌, nat_le, nat_lt, option_to_list, find, pos}
 use Rattle.std.specs.List.{All, Contains, filter, filter_map, flat_map, list_any, cons_option}
-use Rattle.std.proofs.lemmas.Bool.{and_parts, cases_Bool, false_from_ne_true, false≢true, lt-ltb, ltb-true}
+use Rattle.std.proofs.lemmas.Bool.{and_parts, false_from_ne_true, lt-ltb, ltb-true}
 use Rattle.std.proofs.lemmas.List.{length-append, map-append}
 use Rattle.std.proofs.lemmas.List.Elements.{All-cons, All-nil, All-head, All-tail, All-weaker, All-filter, All-contains, filter-append, Contains-append_right}
 use Rattle.stream_base.specs.declared.change.Change.{Change}
@@ -14,7 +14,8 @@ use Rattle.stream_base.specs.Laws.{becomes_complete, completions}
 use Rattle.stream_base.specs.Model.Changes.{Moment, are_same_tuples, emission, emissions, emitted, former_of, is_same, retractions, row_of}
 use Rattle.stream_base.specs.Model.Journal.{put_in_order}
 use Rattle.stream_base.specs.Model.Windows.{Instance, sessions, within}
-use Rattle.stream_base.proofs.Rising.{Contains-cons_cases, Contains-head, Contains-tail, none_in_nil}
+use Rattle.stream_base.proofs.Members.{filter_has, filter_members}
+use Rattle.stream_base.proofs.Rising.{Contains-head, Contains-tail}
 use Rattle.window_laws.specs.After.{complete_at, emissions_between, retractions_between, with_tuple}
 use Rattle.window_laws.specs.Sessions.{AreChangesOfNear, IsPutInSessions, joined_session}
 use Rattle.window_laws.proofs.PartFacts.{session_changes}
@@ -99,35 +100,7 @@ joined_differs gap near x =
     (λ i l. longer_differs i.chosen (put_in_order (flat_map (λ (i : Instance). i.chosen) near) x) (omega (arith, put_length (flat_map (λ (i : Instance). i.chosen) near) x)))
     near (each_within near)
 
--- ---- members that pass a test
-contains_passing : (p : Instance → Bool) (xs : List Instance) (x : Instance) → Contains xs x → p x ≡ true → Contains (filter p xs) x
-contains_passing p [] x c e = absurd (none_in_nil x c)
-contains_passing p (y ∷ ys) x c e = by (cases_Bool (p y)) (Contains-cons_cases y ys x c) (λ d. contains_passing p ys x d e)
-  where
-    here : (b : Bool) → p y ≡ b → Contains (cond b (y ∷ filter p ys) (filter p ys)) x → Contains (filter p (y ∷ ys)) x
-    here b f d = subst (λ b. Contains (cond b (y ∷ filter p ys) (filter p ys)) x) (sym f) d
-
-    by : (p y ≡ true) ⊎ (p y ≡ false) → (y ≡ x) ⊎ Contains ys x → (Contains ys x → Contains (filter p ys) x) → Contains (filter p (y ∷ ys)) x
-    by (inl f) (inl g) later = here true f (subst (λ z. Contains (y ∷ filter p ys) z) g (Contains-head y (filter p ys)))
-    by (inl f) (inr d) later = here true f (Contains-tail y (filter p ys) x (later d))
-    by (inr f) (inl g) later = absurd (false≢true (sym f ∙ ap p g ∙ e))
-    by (inr f) (inr d) later = here false f (later d)
-
-passing_contains : (p : Instance → Bool) (xs : List Instance) (x : Instance) → Contains (filter p xs) x → Contains xs x × (p x ≡ true)
-passing_contains p [] x c = absurd (none_in_nil x c)
-passing_contains p (y ∷ ys) x c = by (cases_Bool (p y)) (passing_contains p ys x)
-  where
-    tail : (Contains ys x × (p x ≡ true)) → Contains (y ∷ ys) x × (p x ≡ true)
-    tail d = (Contains-tail y ys x d.0, d.1)
-
-    by : (p y ≡ true) ⊎ (p y ≡ false) → (Contains (filter p ys) x → Contains ys x × (p x ≡ true)) → Contains (y ∷ ys) x × (p x ≡ true)
-    by (inl f) later =
-        elim (Contains-cons_cases y (filter p ys) x (subst (λ b. Contains (cond b (y ∷ filter p ys) (filter p ys)) x) f c)) [
-          | inl g ↦ (subst (λ z. Contains (y ∷ ys) z) g (Contains-head y ys), sym (ap p g) ∙ f)
-          | inr d ↦ tail (later d)
-        ]
-    by (inr f) later = tail (later (subst (λ b. Contains (cond b (y ∷ filter p ys) (filter p ys)) x) f c))
-
+-- ---- retractions of two lists
 gone_both : (window : ℕ) (key : List ℕ) (water : ℕ) (span : Span) (xs ys : List Standing) → gone_of window key water span (xs ++ ys) ≡ gone_of window key water span xs ++ gone_of window key water span ys
 gone_both window key water span xs ys =
     ap (map (λ s. Gone (row_for window key s))) (filter-append (λ (s : Standing). goes water span s.span) xs ys)
@@ -156,7 +129,7 @@ module _ (window : ℕ) (def : Def) (key : List ℕ) (m : Moment) (x : Kept) (s 
 
   one_after : Contains (sessions_after (gap_of def.kind) x.time (put_in_order m.kept x)) (joined_session (gap_of def.kind) (session_changes window key (gap_of def.kind) def m x (session_kind def.kind e) (session_within def.kind e) f.in_order).put.near x)
   one_after =
-      contains_passing (λ (i : Instance). nat_lt x.time i.high) (sessions (gap_of def.kind) (put_in_order m.kept x)) (joined_session (gap_of def.kind) known.put.near x)
+      filter_has (λ (i : Instance). nat_lt x.time i.high) (sessions (gap_of def.kind) (put_in_order m.kept x)) (joined_session (gap_of def.kind) known.put.near x)
       (subst (λ l. Contains l (joined_session (gap_of def.kind) known.put.near x)) (sym known.put.is)
       (Contains-append_right known.put.front (joined_session (gap_of def.kind) known.put.near x ∷ known.put.back) (joined_session (gap_of def.kind) known.put.near x) (Contains-head (joined_session (gap_of def.kind) known.put.near x) known.put.back)))
       (lt-ltb x.time (joined_session (gap_of def.kind) known.put.near x).high one_ends)
@@ -218,7 +191,7 @@ held_all gap time kept store h (i ∷ is) c = (
 pub held_of : (gap time : ℕ) (kept : List Kept) (store : Stored) → HoldsSessions gap time kept store → (q : Instance → Bool) → ((i : Instance) → q i ≡ true → time < i.high) → AreHeld (map span_of (filter q (sessions gap kept))) store (filter q (sessions gap kept))
 held_of gap time kept store h q later =
     held_all gap time kept store h (filter q (sessions gap kept))
-    (λ i c. let d = passing_contains q (sessions gap kept) i c in contains_passing (λ (i : Instance). nat_lt time i.high) (sessions gap kept) i d.0 (lt-ltb time i.high (later i d.1)))
+    (λ i c. let d = filter_members q (sessions gap kept) i c in filter_has (λ (i : Instance). nat_lt time i.high) (sessions gap kept) i d.0 (lt-ltb time i.high (later i d.1)))
 
 -- two optional spans that are those of some instances
 pub record AreBoth (first second : Option Span) (store : Stored) (is : List Instance) : Type 0 where
@@ -276,9 +249,9 @@ remembered def time water kept old new store e f le held first second asked r q 
     held_near =
         held_all (gap_of def.kind) time kept store held (near_standing (gap_of def.kind) time water kept)
         (λ i c.
-        let a = passing_contains (λ (i : Instance). nat_le i.bound water) (filter (λ (i : Instance). is_near (gap_of def.kind) time (span_of i)) (sessions (gap_of def.kind) kept)) i c in
-        let b = passing_contains (λ (i : Instance). is_near (gap_of def.kind) time (span_of i)) (sessions (gap_of def.kind) kept) i a.0 in
-        contains_passing (λ (i : Instance). nat_lt time i.high) (sessions (gap_of def.kind) kept) i b.0 (lt-ltb time i.high (near_later i b.1)))
+        let a = filter_members (λ (i : Instance). nat_le i.bound water) (filter (λ (i : Instance). is_near (gap_of def.kind) time (span_of i)) (sessions (gap_of def.kind) kept)) i c in
+        let b = filter_members (λ (i : Instance). is_near (gap_of def.kind) time (span_of i)) (sessions (gap_of def.kind) kept) i a.0 in
+        filter_has (λ (i : Instance). nat_lt time i.high) (sessions (gap_of def.kind) kept) i b.0 (lt-ltb time i.high (near_later i b.1)))
 
 -- ---- a move of the watermark
 held_due : (gap old new : ℕ) (kept : List Kept) (store : Stored) → HoldsSessions gap old kept store → AreHeld (map span_of (filter (becomes_complete old new) (sessions gap kept))) store (filter (becomes_complete old new) (sessions gap kept))

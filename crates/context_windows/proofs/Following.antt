@@ -1,10 +1,10 @@
 -- Spans that follow the sessions of tuples.
-use Rattle.std.proofs.Common.{◌≡◌, ◌∙◌, ℕ, ◌+◌, ◌<◌, ◌≤◌, Bool, true, false, cond, List, [], ◌∷◌, ◌++◌, length, get_or, take, map, max, min, ◌-◌, ap, sym, refl, subst, arith, ⊎_elim}
+use Rattle.std.proofs.Common.{◌≡◌, ◌∙◌, ℕ, ◌+◌, ◌<◌, ◌≤◌, Bool, false, cond, List, [], ◌∷◌, ◌++◌, length, take, map, max, min, ◌-◌, ap, sym, refl, subst, arith, ⊎_elim}
 use Rattle.std.specs.Prelude.{nat_le, nat_lt}
 use Rattle.std.specs.List.{All, filter}
-use Rattle.std.proofs.lemmas.Bool.{and_from, and_left, and_right, cases_lt, le-leb, lt-leb, le-ltb, lt-ltb}
+use Rattle.std.proofs.lemmas.Bool.{and_left, cases_lt, le-ltb, lt-ltb}
 use Rattle.std.proofs.lemmas.List.{length-map, map-append}
-use Rattle.std.proofs.lemmas.List.Elements.{All-head, All-tail, All-weaker, All-filter, filter-append}
+use Rattle.std.proofs.lemmas.List.Elements.{All-head, All-tail, All-weaker, filter-append}
 use Rattle.stream_base.specs.declared.change.Change.TheVariants.{New}
 use Rattle.stream_base.specs.declared.def.Def.{Def}
 use Rattle.stream_base.specs.declared.kept.Kept.{Kept}
@@ -29,7 +29,8 @@ use Rattle.slice_store.proofs.SliceOrder.{first_below_last}
 use Rattle.context_windows.specs.declared.span.Span.{Span}
 use Rattle.context_windows.specs.Spanned.{Follows, IsSession, Spanned, gap_of, near_standing, sessions_after}
 use Rattle.context_windows.specs.Spans.{asked_of, due_of, is_due, is_near, joined_span, near_of, span_of, spans_with, stands}
-use Rattle.context_windows.proofs.Parts.{filter_alike, filter_back, filter_front, filter_near, filter_twice, fewer_pass, take_few}
+use Rattle.context_windows.proofs.Parts.{filter_alike, filter_twice, fewer_pass, take_few}
+use Rattle.context_windows.proofs.Thirds.{InThirds, backs_later, mids_are, spans_back, spans_front, spans_mid}
 
 pub session_kind : (kind : Kind) → IsSession kind → kind ≡ Session (gap_of kind)
 session_kind (Tumbling length) h = absurd h
@@ -179,101 +180,40 @@ module _ (gap : ℕ) (some : 1 ≤ gap) (kept : List Kept) (x : Kept) (h : Times
   all_proper : All (λ (i : Instance). i.low < i.high) p.front × All (λ (i : Instance). i.low < i.high) (p.near ++ p.back)
   all_proper = All-split (λ (i : Instance). i.low < i.high) p.front (p.near ++ p.back) (subst (All (λ (i : Instance). i.low < i.high)) p.was (sessions_proper gap kept some h))
 
-  back_proper : All (λ (i : Instance). i.low < i.high) p.back
-  back_proper = (All-split (λ (i : Instance). i.low < i.high) p.near p.back all_proper.1).1
-
-  back_late : All (λ (i : Instance). (x.time + gap ≤ i.low) × (x.time < i.high)) p.back
-  back_late k d l =
-      let a = p.start_behind k d l in
-      let b = back_proper k d l in
-      (a, omega arith)
+  -- those in front of the tuple, near it and behind it
+  thirds : InThirds gap x.time (sessions gap kept) p.front p.near p.back
+  thirds = record {
+    was = p.was;
+    fronts = λ k d l. let a = p.end_before k d l in let b = all_proper.0 k d l in (a, omega arith);
+    mids = λ k d l. (p.end_near k d l, p.start_near k d l);
+    backs = λ k d l.
+        let a = p.start_behind k d l in
+        let b = (All-split (λ (i : Instance). i.low < i.high) p.near p.back all_proper.1).1 k d l in
+        (a, omega arith);
+  }
 
   -- which sessions are near
-  pub near_are : filter (λ (i : Instance). is_near gap x.time (span_of i)) (sessions gap kept) ≡ p.near
-  near_are =
-      ap (filter (λ (i : Instance). is_near gap x.time (span_of i))) p.was
-      ∙ filter_near (λ (i : Instance). is_near gap x.time (span_of i)) p.front p.near p.back fronts nears backs
-    where
-      fronts : All (λ (i : Instance). is_near gap x.time (span_of i) ≡ false) p.front
-      fronts = All-weaker (λ (i : Instance). i.high ≤ x.time) (λ i. is_near gap x.time (span_of i) ≡ false) (λ i l. and_left (nat_lt x.time i.high) (nat_lt i.low (x.time + gap)) (le-ltb x.time i.high l)) p.front p.end_before
+  near_are : filter (λ (i : Instance). is_near gap x.time (span_of i)) (sessions gap kept) ≡ p.near
+  near_are = mids_are gap x.time (sessions gap kept) p.front p.near p.back thirds
 
-      nears : All (λ (i : Instance). is_near gap x.time (span_of i) ≡ true) p.near
-      nears k d l = and_from (nat_lt x.time (get k d).high) (nat_lt (get k d).low (x.time + gap)) (lt-ltb x.time (get k d).high (p.end_near k d l)) (lt-ltb (get k d).low (x.time + gap) (p.start_near k d l))
-        where
-          get : ℕ → Instance → Instance
-          get k d = get_or p.near k d
+  module _ (forgotten : ℕ) (le : forgotten ≤ x.time) (spans : List Span) (is : spans ≡ map span_of (sessions_after gap forgotten kept)) where
+    pub spans_near : near_of gap x.time spans ≡ map span_of p.near
+    spans_near = spans_mid gap x.time (sessions gap kept) p.front p.near p.back thirds forgotten le spans is
 
-      backs : All (λ (i : Instance). is_near gap x.time (span_of i) ≡ false) p.back
-      backs = All-weaker (λ (i : Instance). (x.time + gap ≤ i.low) × (x.time < i.high)) (λ i. is_near gap x.time (span_of i) ≡ false) (λ i l. and_right (nat_lt x.time i.high) (nat_lt i.low (x.time + gap)) (le-ltb i.low (x.time + gap) l.0)) p.back back_late
-
-  module _ (forgotten : ℕ) (le : forgotten ≤ x.time) where
-    abbrev later : Instance → Bool
-    later i = nat_lt forgotten i.high
-
-    near_later : All (λ (i : Instance). nat_lt forgotten i.high ≡ true) p.near
-    near_later = All-weaker (λ (i : Instance). x.time < i.high) (λ i. nat_lt forgotten i.high ≡ true) (λ i l. lt-ltb forgotten i.high (omega arith)) p.near p.end_near
-
-    back_later : All (λ (i : Instance). nat_lt forgotten i.high ≡ true) p.back
-    back_later = All-weaker (λ (i : Instance). (x.time + gap ≤ i.low) × (x.time < i.high)) (λ i. nat_lt forgotten i.high ≡ true) (λ i l. lt-ltb forgotten i.high (omega (arith, l.1))) p.back back_late
-
-    -- the sessions that aren't forgotten, in three parts
-    abbrev fronts : List Instance
-    fronts = filter (λ i. nat_lt forgotten i.high) p.front
-
-    parts : sessions_after gap forgotten kept ≡ filter (λ i. nat_lt forgotten i.high) p.front ++ (p.near ++ p.back)
-    parts =
-        ap (filter (λ i. nat_lt forgotten i.high)) p.was
-        ∙ filter-append (λ (i : Instance). nat_lt forgotten i.high) p.front (p.near ++ p.back)
-        ∙ ap (λ l. filter (λ i. nat_lt forgotten i.high) p.front ++ l)
-        (filter-append (λ (i : Instance). nat_lt forgotten i.high) p.near p.back
-        ∙ (λ k. filter_all (λ (i : Instance). nat_lt forgotten i.high) p.near near_later k ++ filter_all (λ (i : Instance). nat_lt forgotten i.high) p.back back_later k))
-
-    fronts_end : All (λ (i : Instance). i.high ≤ x.time) (filter (λ i. nat_lt forgotten i.high) p.front)
-    fronts_end = All-filter (λ (i : Instance). nat_lt forgotten i.high) (λ (i : Instance). i.high ≤ x.time) p.front p.end_before
-
-    module _ (spans : List Span) (is : spans ≡ map span_of (sessions_after gap forgotten kept)) where
-      read : (q : Span → Bool) → filter q spans ≡ map span_of (filter (λ i. q (span_of i)) (filter (λ i. nat_lt forgotten i.high) p.front ++ (p.near ++ p.back)))
-      read q = ap (filter q) (is ∙ ap (map span_of) parts) ∙ filter_map_of q span_of (filter (λ i. nat_lt forgotten i.high) p.front ++ (p.near ++ p.back))
-
-      pub spans_near : near_of gap x.time spans ≡ map span_of p.near
-      spans_near =
-          ap (near_of gap x.time) is
-          ∙ filter_map_of (is_near gap x.time) span_of (sessions_after gap forgotten kept)
-          ∙ ap (map span_of) (filter_twice (λ (i : Instance). is_near gap x.time (span_of i)) (λ i. nat_lt forgotten i.high) (λ i. is_near gap x.time (span_of i)) (λ i. only_later forgotten i.high (is_near gap x.time (span_of i)) (λ l. and_left (nat_lt x.time i.high) (nat_lt i.low (x.time + gap)) (le-ltb x.time i.high (omega arith)))) (sessions gap kept) ∙ near_are)
-
-      spans_front : filter (λ s. nat_le s.high x.time) spans ≡ map span_of (filter (λ i. nat_lt forgotten i.high) p.front)
-      spans_front =
-          read (λ s. nat_le s.high x.time)
-          ∙ ap (map span_of) (filter_front (λ (i : Instance). nat_le i.high x.time) (filter (λ i. nat_lt forgotten i.high) p.front) p.near p.back
-          (All-weaker (λ (i : Instance). i.high ≤ x.time) (λ i. nat_le i.high x.time ≡ true) (λ i l. le-leb i.high x.time l) (filter (λ i. nat_lt forgotten i.high) p.front) fronts_end)
-          (All-weaker (λ (i : Instance). x.time < i.high) (λ i. nat_le i.high x.time ≡ false) (λ i l. lt-leb i.high x.time l) p.near p.end_near)
-          (All-weaker (λ (i : Instance). (x.time + gap ≤ i.low) × (x.time < i.high)) (λ i. nat_le i.high x.time ≡ false) (λ i l. lt-leb i.high x.time l.1) p.back back_late))
-
-      front_low : All (λ (i : Instance). i.low < i.high) (filter (λ i. nat_lt forgotten i.high) p.front)
-      front_low = All-filter (λ (i : Instance). nat_lt forgotten i.high) (λ (i : Instance). i.low < i.high) p.front all_proper.0
-
-      spans_back : filter (λ s. nat_le (x.time + gap) s.low) spans ≡ map span_of p.back
-      spans_back =
-          read (λ s. nat_le (x.time + gap) s.low)
-          ∙ ap (map span_of) (filter_back (λ (i : Instance). nat_le (x.time + gap) i.low) (filter (λ i. nat_lt forgotten i.high) p.front) p.near p.back
-          (λ k d l. let a = fronts_end k d l in let b = front_low k d l in lt-leb (x.time + gap) (get_or (filter (λ i. nat_lt forgotten i.high) p.front) k d).low (omega arith))
-          (All-weaker (λ (i : Instance). i.low < x.time + gap) (λ i. nat_le (x.time + gap) i.low ≡ false) (λ i l. lt-leb (x.time + gap) i.low l) p.near p.start_near)
-          (All-weaker (λ (i : Instance). x.time + gap ≤ i.low) (λ i. nat_le (x.time + gap) i.low ≡ true) (λ i l. le-leb (x.time + gap) i.low l) p.back p.start_behind))
-
-      pub spans_become : joined_span gap x.time (map span_of p.near) ≡ span_of (joined_session gap p.near x) → x.time < (joined_session gap p.near x).high → spans_with gap x.time spans ≡ map span_of (sessions_after gap forgotten (put_in_order kept x))
-      spans_become same ends =
-          (λ k. spans_front k ++ joined_span gap x.time (spans_near k) ∷ spans_back k)
-          ∙ ap (λ s. map span_of (filter (λ i. nat_lt forgotten i.high) p.front) ++ s ∷ map span_of p.back) same
-          ∙ sym (map-append span_of (filter (λ i. nat_lt forgotten i.high) p.front) (joined_session gap p.near x ∷ p.back))
-          ∙ ap (map span_of) (sym new_parts)
-        where
-          new_parts : sessions_after gap forgotten (put_in_order kept x) ≡ filter (λ i. nat_lt forgotten i.high) p.front ++ (joined_session gap p.near x ∷ p.back)
-          new_parts =
-              ap (filter (λ i. nat_lt forgotten i.high)) p.is
-              ∙ filter-append (λ (i : Instance). nat_lt forgotten i.high) p.front (joined_session gap p.near x ∷ p.back)
-              ∙ ap (λ l. filter (λ i. nat_lt forgotten i.high) p.front ++ l)
-              (ap (λ b. cond b (joined_session gap p.near x ∷ filter (λ i. nat_lt forgotten i.high) p.back) (filter (λ i. nat_lt forgotten i.high) p.back)) (lt-ltb forgotten (joined_session gap p.near x).high (omega arith))
-              ∙ ap (λ l. joined_session gap p.near x ∷ l) (filter_all (λ (i : Instance). nat_lt forgotten i.high) p.back back_later))
+    pub spans_become : joined_span gap x.time (map span_of p.near) ≡ span_of (joined_session gap p.near x) → x.time < (joined_session gap p.near x).high → spans_with gap x.time spans ≡ map span_of (sessions_after gap forgotten (put_in_order kept x))
+    spans_become same ends =
+        (λ k. spans_front gap x.time (sessions gap kept) p.front p.near p.back thirds forgotten le spans is k ++ joined_span gap x.time (spans_near k) ∷ spans_back gap x.time (sessions gap kept) p.front p.near p.back thirds forgotten le spans is k)
+        ∙ ap (λ s. map span_of (filter (λ i. nat_lt forgotten i.high) p.front) ++ s ∷ map span_of p.back) same
+        ∙ sym (map-append span_of (filter (λ i. nat_lt forgotten i.high) p.front) (joined_session gap p.near x ∷ p.back))
+        ∙ ap (map span_of) (sym new_parts)
+      where
+        new_parts : sessions_after gap forgotten (put_in_order kept x) ≡ filter (λ i. nat_lt forgotten i.high) p.front ++ (joined_session gap p.near x ∷ p.back)
+        new_parts =
+            ap (filter (λ i. nat_lt forgotten i.high)) p.is
+            ∙ filter-append (λ (i : Instance). nat_lt forgotten i.high) p.front (joined_session gap p.near x ∷ p.back)
+            ∙ ap (λ l. filter (λ i. nat_lt forgotten i.high) p.front ++ l)
+            (ap (λ b. cond b (joined_session gap p.near x ∷ filter (λ i. nat_lt forgotten i.high) p.back) (filter (λ i. nat_lt forgotten i.high) p.back)) (lt-ltb forgotten (joined_session gap p.near x).high (omega arith))
+            ∙ ap (λ l. joined_session gap p.near x ∷ l) (filter_all (λ (i : Instance). nat_lt forgotten i.high) p.back (backs_later gap x.time (sessions gap kept) p.front p.near p.back thirds forgotten le)))
 
   -- ---- the one session that they become
   near_runs : AreParted (IsNear (gap_cut gap)) (IsApart (gap_cut gap)) (map (λ (i : Instance). i.chosen) p.near)

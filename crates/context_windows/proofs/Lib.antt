@@ -12,3 +12,4 @@ pub mod Thirds
 pub mod Intervals
 pub mod Stretching
 pub mod Marking
+pub mod Aligning

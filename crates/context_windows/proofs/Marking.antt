@@ -32,7 +32,7 @@ use Rattle.context_windows.specs.Spans.{is_same_span, near_of, span_of}
 use Rattle.context_windows.specs.Telling.{as_standing, come_of, told_as}
 use Rattle.context_windows.proofs.Parts.{fewer_pass, filter_twice}
 use Rattle.context_windows.proofs.Stretching.{held_each, holder_is, marked_thirds, put_thirds}
-use Rattle.context_windows.proofs.Thirds.{backs_later, near_are, spans_back, spans_front, spans_mid}
+use Rattle.context_windows.proofs.Thirds.{backs_later, mids_are, spans_back, spans_front, spans_mid}
 
 -- ---- a put
 same_span : (s : Span) → is_same_span s s ≡ true
@@ -72,7 +72,7 @@ marks_put_told window func key m x s early f le water store at r held span is st
     let near : option_to_list stood ++ [] ≡ map (as_standing func) (complete_at water (if_selecting q.low q.high m.kept)) =
     append-nil (option_to_list stood)
     ∙ kept_so ∙ r.stood
-    ∙ ap (λ l. map (as_standing func) (complete_at water l)) (near_are 1 x.time (stretches m.marks m.kept) q.front (if_selecting q.low q.high m.kept) q.back (put_thirds m.marks m.kept x (stretches m.marks (put_in_order m.kept x)) q)) in
+    ∙ ap (λ l. map (as_standing func) (complete_at water l)) (mids_are 1 x.time (stretches m.marks m.kept) q.front (if_selecting q.low q.high m.kept) q.back (put_thirds m.marks m.kept x (stretches m.marks (put_in_order m.kept x)) q)) in
     let comes : emissions key m (with_tuple m x) (window, marks_window func) ≡ come_of window key water (option_to_list stood ++ []) (as_standing func j) =
     known.comes
     ∙ ap (λ w. cond (nat_le q.high w) (interval_change window key func q.low q.high m.kept x ∷ []) []) at

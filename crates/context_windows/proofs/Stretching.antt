@@ -33,7 +33,7 @@ use Rattle.context_windows.specs.Spans.{due_of, head_standing, is_due, is_near, 
 use Rattle.context_windows.specs.Telling.{as_standing}
 use Rattle.context_windows.proofs.Following.{later_forgotten, only_later}
 use Rattle.context_windows.proofs.Parts.{filter_alike, filter_twice}
-use Rattle.context_windows.proofs.Thirds.{InThirds, IsMid, backs_later, near_are, spans_back, spans_front, spans_mid}
+use Rattle.context_windows.proofs.Thirds.{InThirds, IsMid, backs_later, mids_are, spans_back, spans_front, spans_mid}
 
 -- each interval ends behind its start, and its bound is its end
 pub stretch_ends : (marks : List ℕ) (kept : List Kept) → All (λ (i : Instance). (i.low < i.high) × (i.bound ≡ i.high)) (stretches marks kept)
@@ -159,7 +159,7 @@ pub marks_remembered : (func : Func) (time water : ℕ) (marks : List ℕ) (kept
 marks_remembered func time water marks kept old new store early f le held asked is r stood told =
     let p = stretches_after_mark marks kept time early in
     let t = marked_thirds marks kept time (stretches (insert_key nat_cmp marks time) kept) p in
-    let near : holder_standing time water marks kept ≡ complete_at water (if_selecting p.low p.high kept) = ap (complete_at water) (near_are 1 time (stretches marks kept) p.front (if_selecting p.low p.high kept) p.back t) in
+    let near : holder_standing time water marks kept ≡ complete_at water (if_selecting p.low p.high kept) = ap (complete_at water) (mids_are 1 time (stretches marks kept) p.front (if_selecting p.low p.high kept) p.back t) in
     let spans : option_to_list asked ≡ map span_of (holder_standing time water marks kept) =
     is
     ∙ ap (λ l. option_to_list (head_standing water l)) (spans_mid 1 time (stretches marks kept) p.front (if_selecting p.low p.high kept) p.back t old.forgotten le old.spans f.spans)

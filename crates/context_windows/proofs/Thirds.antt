@@ -36,8 +36,8 @@ module _ (gap time : ℕ) (all front mid back : List Instance) (p : InThirds gap
   near_back : (i : Instance) → IsBack gap time i → is_near gap time (span_of i) ≡ false
   near_back i h = and_right (nat_lt time i.high) (nat_lt i.low (time + gap)) (le-ltb i.low (time + gap) h.0)
 
-  pub near_are : filter (λ (i : Instance). is_near gap time (span_of i)) all ≡ mid
-  near_are =
+  pub mids_are : filter (λ (i : Instance). is_near gap time (span_of i)) all ≡ mid
+  mids_are =
       ap (filter (λ (i : Instance). is_near gap time (span_of i))) p.was
       ∙ filter_near (λ (i : Instance). is_near gap time (span_of i)) front mid back
       (All-weaker (IsFront gap time) (λ i. is_near gap time (span_of i) ≡ false) near_front front p.fronts)

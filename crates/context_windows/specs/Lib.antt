@@ -3,3 +3,4 @@ pub mod Spanned
 pub mod Telling
 pub mod Held
 pub mod Marked
+pub mod Aligned

@@ -9,6 +9,7 @@
 
 mod edges;
 mod joining;
+pub mod laws;
 mod mark_windows;
 mod near;
 mod parting;

@@ -1,0 +1,35 @@
+//! Slices part where instances start and end, so that a store whose slices are those of the windows
+//! can be handed to each call. Each law is the contract of a function that does nothing.
+ghost use Rattle.std.specs.Prelude.{◌≤◌, ℕ, List};
+ghost use Rattle.stream_base.specs.declared.def.Def.{Def};
+ghost use Rattle.stream_base.specs.declared.kept.Kept.{Kept};
+ghost use Rattle.stream_base.specs.Model.Journal.{put_in_order};
+ghost use Rattle.window_laws.specs.Runs.{IsAligned};
+ghost use Rattle.slice_store.specs.Stored.{Stored};
+ghost use Rattle.context_windows.specs.Aligned.{IsOfSessions, IsOfWindows};
+ghost use Rattle.context_windows.specs.Held.{AreAlignedWith};
+ghost use Rattle.context_windows.specs.Marked.{IsEdge};
+ghost use Rattle.context_windows.specs.Spanned.{Follows, Spanned, gap_of};
+ghost use Rattle.context_windows.specs.Spans.{asked_of, due_of, told_at};
+
+/// What `before`, `put` and `water` of sessions ask of the slices: of a store that holds some of the
+/// key's tuples, with the new one among them in `put`.
+pub fn slices_part_at_sessions()
+    ensures asked { (windows : List Def) (w : Def) (kept : List Kept) (store : Stored) (s : Spanned)
+        (time water : ℕ) → IsOfSessions windows w kept store → Follows (gap_of w.kind) kept s
+        → AreAlignedWith store.slices (asked_of (gap_of w.kind) time water s.spans) }
+    ensures told { (windows : List Def) (w : Def) (kept : List Kept) (x : Kept) (store : Stored)
+        (s : Spanned) (water : ℕ) → IsOfSessions windows w (put_in_order kept x) store
+        → Follows (gap_of w.kind) kept s → s.forgotten ≤ x.time
+        → AreAlignedWith store.slices (told_at (gap_of w.kind) x.time water s.spans) }
+    ensures due { (windows : List Def) (w : Def) (kept : List Kept) (store : Stored) (s : Spanned)
+        (old new : ℕ) → IsOfSessions windows w kept store → Follows (gap_of w.kind) kept s
+        → AreAlignedWith store.slices (due_of old new s.spans) }
+{}
+
+/// What the calls of marks windows ask of the slices: that each start and end is an edge by the marks
+/// of the store.
+pub fn slices_part_at_edges()
+    ensures { (windows : List Def) (store : Stored) (e : ℕ) → IsOfWindows windows store
+        → IsEdge store.marks e → IsAligned store.slices e }
+{}
