@@ -7,7 +7,7 @@ use std::marker::Model;
 use stream_base::Sink;
 
 // How many bytes are pending at most.
-const ROOM: usize = 4_096;
+const ROOM: usize = 65_536;
 
 /// A buffer in front of a sink, so that many short texts go out in one write. A contract sees the
 /// bytes that are pending: they are given to the sink by a later `add`, or by `flush`.
