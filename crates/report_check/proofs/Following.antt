@@ -7,12 +7,12 @@ use Rattle.std.specs.List.Sorted.{IsStrictlyIncreasing, IsStrictlySortedBy}
 use Rattle.std.specs.Ordering.{match_ordering, nat_cmp}
 use Rattle.std.specs.Option.{option_map_or}
 use Rattle.std.specs.declared.cmp.Ordering.TheVariants.{Less, Equal, Greater}
-use Rattle.std.specs.Prelude.{nat_lt}
+use Rattle.std.specs.Prelude.{◌^◌, ◌&&◌, nat_le, nat_lt}
 use Rattle.std.proofs.Common.{⊎_elim}
-use Rattle.std.proofs.lemmas.List.{drop_more, get_or-map, get_or-set_other, length-map, length_push, map-set, set-get_or, take_at}
+use Rattle.std.proofs.lemmas.List.{drop_more, get_or-map, get_or_push, get_or-set_other, length-map, length_push, map-set, set-get_or, take_at}
 use Rattle.std.proofs.lemmas.List.Elements.{All-take, All-nil, All-cons, All-head, All-tail, All-weaker, AllWithin-more_set}
 use Rattle.std.proofs.lemmas.Cmp.{nat_list_cmp_total}
-use Rattle.std.proofs.lemmas.Bool.{false≢true}
+use Rattle.std.proofs.lemmas.Bool.{and_parts, false≢true, leb-true}
 use Rattle.std.proofs.lemmas.Slice.Eq.{bytes_eq-Decides}
 use Rattle.stream_base.specs.declared.change.Change.{Change}
 use Rattle.stream_base.specs.declared.entry.Entry.{Entry}
@@ -21,23 +21,25 @@ use Rattle.stream_base.specs.declared.what.What.{What}
 use Rattle.stream_base.specs.declared.what.What.TheVariants.{Tuple, Mark, Water, Idle, End}
 use Rattle.std.specs.Str.{bytes_eq}
 use Rattle.stream_base.specs.Laws.{accepted_tuple}
-use Rattle.stream_base.specs.Limits.{AreWithinLimits, Definitions}
+use Rattle.stream_base.specs.Limits.{AreWithinLimits, Definitions, is_value}
 use Rattle.stream_base.specs.Model.Changes.{changes_between, moment_of}
 use Rattle.stream_base.specs.Model.Journals.{is_entry_within}
 use Rattle.stream_base.specs.Model.Journal.{keys_of, kept_of, marks_of, on_time, put_in_order}
 use Rattle.stream_base.specs.Model.Watermark.{least_water, water_of}
-use Rattle.stream_base.specs.Model.What.{is_late, is_progress, key_in, mark_in, tuple_in}
+use Rattle.stream_base.specs.Model.What.{is_late, is_progress, is_what_within, key_in, mark_in, tuple_in}
+use Rattle.stream_base.specs.Key.{is_key}
+use Rattle.stream_base.specs.declared.limits.TheConstants.{FINAL, TIME_MAX}
 use Rattle.stream_base.specs.ReadBack.{AreEntriesWithin}
 use Rattle.stream_base.proofs.Absent.{key_comes, keys_stay, nothing_kept}
 use Rattle.stream_base.proofs.Accepted.{kept_times_within, marks_within}
 use Rattle.stream_base.proofs.ChangeFacts.{changes_at_water, no_changes_at_rest}
-use Rattle.stream_base.proofs.ChangesAfter.{keys_in_order, keys_of_water}
+use Rattle.stream_base.proofs.ChangesAfter.{changes_of_keyed, keys_in_order, keys_of_water}
 use Rattle.stream_base.proofs.EventOrder.{from_the_front, kept_in_event_order, kept_times_do_not_fall, put_in_order_cons}
 use Rattle.stream_base.proofs.Growing.{keys_of_nil, keys_of_push, kept_of_nil, kept_of_push, marks_of_nil, marks_of_other}
 use Rattle.stream_base.proofs.Rising.{Contains-insert_key, Contains-insert_key_cases, nat_rising_increases, same_members_same_list, sorted_insert_key}
 use Rattle.stream_base.proofs.Watermarks.{water_of_nil, water_of_same, water_rises}
 use Rattle.window_laws.specs.After.{at_water, with_mark, with_tuple}
-use Rattle.window_laws.proofs.AfterFacts.{mark_is_keyed}
+use Rattle.window_laws.proofs.AfterFacts.{mark_is_keyed, tuple_after_changes_nothing}
 use Rattle.window_laws.proofs.MomentFacts.{moment_of_late, moment_of_mark, moment_of_other, moment_of_progress, moment_of_tuple}
 use Rattle.plain_windows.specs.Changing.{all_completions}
 use Rattle.plain_windows.specs.Views.{AreWindows, IsMoment}
@@ -233,6 +235,32 @@ behind_tuple s h time value step stands is =
 
 pub behind_mark : (s : Step) (h : Held) (time : ℕ) → IsStep s → StandsBefore s h → (s.entry.now).what ≡ Mark h.key time → StandsBehind s (held_with_mark h time)
 behind_mark s h time step stands is = after_mark s h time step stands (ap (mark_in h.key) is ∙ own_mark h.key time)
+
+-- ---- a tuple strictly after the watermark
+last_within : (past : List Entry) (e : Entry) → IsReadable (past ++ e ∷ []) → is_entry_within e ≡ true
+last_within past e h = subst (λ x. is_entry_within x ≡ true) (get_or_push past e e (length past) refl) (h.within (length past) e (omega (arith, length_push past e)))
+
+early_enough : (s : Step) (key : List ℕ) (time : ℕ) (value : ℤ) → IsStep s → (s.entry.now).what ≡ Tuple key time value → time < FINAL
+early_enough s key time value step is =
+    let what : is_what_within (s.entry.now).what ≡ true = (and_parts (nat_lt (s.entry.now).source (2 ^ 16)) (is_what_within (s.entry.now).what) (last_within s.past.now s.entry.now step.readable)).1 in
+    let tuple : is_what_within (Tuple key time value) ≡ true = sym (ap is_what_within is) ∙ what in
+    let le : time ≤ TIME_MAX = leb-true time TIME_MAX (and_parts (nat_le time TIME_MAX) (is_value value && is_key key) tuple).0 in
+    omega (arith, le)
+
+-- it changes nothing
+pub followed_ahead : (s : Step) (h new : Held) (out : List Change) (time : ℕ) (value : ℤ) → IsStep s → StandsBefore s h → (s.entry.now).what ≡ Tuple h.key time value → s.old < time
+    → new ≡ held_with_tuple h (record { position = length s.past.now; time = time; value = value }) → IsFollowed s h new out out
+followed_ahead s h new out time value step stands is ahead e =
+    let d = s.defs.now in
+    let none : changes_in s h.key ≡ [] =
+    sym (changes_of_keyed d s.sources s.past.now s.entry.now h.key step.limits (ap key_in is) step.on_time)
+    ∙ tuple_after_changes_nothing d s.sources s.past.now s.entry.now h.key (record { position = length s.past.now; time = time; value = value }) step.limits
+    (ap (tuple_in h.key (length s.past.now)) is ∙ own_tuple h.key (length s.past.now) time value) (early_enough s h.key time value step is) (subst (λ w. w < time) step.old_is ahead) step.on_time in
+    record {
+      same_key = ap (λ (x : Held). x.key) e;
+      stands = subst (StandsBehind s) (sym e) (behind_tuple s h time value step stands is);
+      told = sym (ap (λ cs. out ++ cs) none ∙ append-nil out);
+    }
 
 -- ---- ledgers
 pub empty_ledger : (d : Definitions) (sources : ℕ) (l : Ledger) → l.sources ≡ sources → l.water ≡ least_water sources [] → l.keys.items ≡ [] → IsLedger d sources [] l

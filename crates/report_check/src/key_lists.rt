@@ -110,6 +110,12 @@ impl KeyLists {
     {
         let x = kept_at(step.past.len() as u64, time, value);
         let next = self.next_by_tuple(alloc, x)?;
+        let water = step.old;
+        if water < time {
+            // What comes after the watermark changes nothing that stands.
+            *self = next;
+            return Ok(());
+        }
         self.move_to(next, step, out, steps)
     }
 
