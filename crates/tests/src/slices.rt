@@ -130,6 +130,13 @@ fn a_tuple_between_two_sessions_merges_their_slices(rt: HostRuntime) -> Result<(
         fold_all(&store, &mut steps).show(Func::Last),
         Shown::Whole(4)
     );
+    assert_eq!(rt; mark(&mut store, &defs, 4, &mut steps)?, true);
+    assert_eq!(rt; mark(&mut store, &defs, 4, &mut steps)?, false);
+    assert_eq!(rt;
+        put(&mut store, &defs, 4, 6, 16, &mut steps)?,
+        Placed::Joined
+    );
+    assert_eq!(rt; store.slice_count(), 2);
     Ok(())
 }
 

@@ -28,3 +28,15 @@ fn idle_sources_hold_nothing_back_and_the_watermark_never_falls(
     assert_eq!(rt; waters.end(1), FINAL);
     Ok(())
 }
+
+#[test]
+fn a_tuple_may_be_late_by_the_lateness(rt: HostRuntime) -> Result<(), Fail> {
+    let mut waters = Waters::new(rt.alloc(), 2, 5)?;
+    assert_eq!(rt; waters.raise(0, 20), 0);
+    assert_eq!(rt; waters.raise(1, 10), 10);
+    assert_eq!(rt; waters.verdict(5), Verdict::Accepted);
+    assert_eq!(rt; waters.verdict(4), Verdict::Late);
+    assert_eq!(rt; waters.end(1), 20);
+    assert_eq!(rt; waters.end(0), FINAL);
+    Ok(())
+}
