@@ -9,6 +9,8 @@ mod aggregates;
 #[cfg(test)]
 mod counts;
 #[cfg(test)]
+mod lanes;
+#[cfg(test)]
 mod queues;
 #[cfg(test)]
 mod slices;
