@@ -4,6 +4,6 @@ use Rattle.window_defs.specs.Reading.{reading_of}
 use Rattle.scotty_cli.specs.Called.{by_defs, unknown}
 use Rattle.scotty_cli.proofs.deciding.refused_definitions_call_for_their_fault.Goals as goal
 
-pub returns-clause : goal.returns-clause
-returns-clause c told run bytes cause named refused =
+pub returns : goal.returns
+returns c told run bytes cause named refused =
     ap (λ file. option_map_or (λ b. by_defs told run (reading_of b)) file unknown) named ∙ ap (by_defs told run) refused
