@@ -7,6 +7,8 @@
 #[cfg(test)]
 mod aggregates;
 #[cfg(test)]
+mod contexts;
+#[cfg(test)]
 mod counts;
 #[cfg(test)]
 mod lanes;

@@ -1,0 +1,21 @@
+-- How a test keeps a store together with the windows that are told from it.
+use Rattle.std.specs.Prelude.{◌≤◌, ℕ, length}
+use Rattle.stream_base.specs.Limits.{Definitions}
+use Rattle.slice_store.specs.Stored.{IsSliced, Stored, tuples_of}
+use Rattle.context_windows.specs.Marked.{FollowsMarks, Marked}
+use Rattle.context_windows.specs.Spanned.{Follows, IsSessionAt, Spanned, gap_at}
+
+-- the sessions are those of all tuples in the store, whose slices are those of the definitions
+pub record AreOfSessions (d : Definitions) (store : Stored) (s : Spanned) : Type 0 where
+  pub session : IsSessionAt d 0
+  pub sliced : IsSliced d.windows store
+  pub follows : Follows (gap_at d 0) (tuples_of store) s
+
+-- the intervals are those of all tuples and marks in the store, whose slices are those of the definitions
+pub record AreOfMarks (d : Definitions) (store : Stored) (s : Marked) : Type 0 where
+  pub sliced : IsSliced d.windows store
+  pub follows : FollowsMarks store.marks (tuples_of store) s
+
+-- the store has no more tuples than there are positions before this one
+pub record HaveCome (position : ℕ) (store : Stored) : Type 0 where
+  pub few : length (tuples_of store) ≤ position
