@@ -3,7 +3,7 @@ use Rattle.std.specs.Prelude.{ℕ, List, [], ◌∷◌, codes, decimal}
 use Rattle.stream_base.specs.Model.Text.{line_of}
 use Rattle.emission_text.specs.DefsFaults.{defs_words, place_text, why_text}
 use Rattle.emission_text.specs.declared.fault.Fault.{Fault}
-use Rattle.emission_text.specs.declared.fault.Fault.TheVariants.{Usage, Defs, Unopened, Row, Read, FullSource, FullShard, NoMemory}
+use Rattle.emission_text.specs.declared.fault.Fault.TheVariants.{Usage, Defs, Unopened, Row, Read, FullSource, FullShard, ReportOpen, ReportRead, ReportFull, NoMemory}
 
 -- the words of a fault
 abbrev pub fault_words : Fault → List (List ℕ)
@@ -15,6 +15,9 @@ fault_words (Row source number why) =
 fault_words (Read place) = codes "read" ∷ place_text (codes "defs") place ∷ []
 fault_words (FullSource source) = codes "full" ∷ codes "source" ∷ decimal source ∷ []
 fault_words (FullShard shard) = codes "full" ∷ codes "shard" ∷ decimal shard ∷ []
+fault_words ReportOpen = codes "open" ∷ codes "report" ∷ []
+fault_words ReportRead = codes "read" ∷ codes "report" ∷ []
+fault_words ReportFull = codes "full" ∷ codes "report" ∷ []
 fault_words NoMemory = codes "memory" ∷ []
 
 -- the line of a fault

@@ -30,6 +30,12 @@ pub enum Fault {
     FullShard {
         shard: u16,
     },
+    /// The report that is to be judged couldn't be opened.
+    ReportOpen,
+    /// A read of that report failed.
+    ReportRead,
+    /// That report has too many bytes.
+    ReportFull,
     /// An allocation was refused.
     NoMemory,
 }

@@ -41,6 +41,9 @@ fn put_fault<K: Sink>(fault: &Fault, out: &mut Pending, sink: &mut K) -> Result<
         Fault::Read { place } => put_placed(b"fault read ", b"defs", *place, out, sink),
         Fault::FullSource { source } => put_numbered(b"fault full source ", *source, out, sink),
         Fault::FullShard { shard } => put_numbered(b"fault full shard ", *shard, out, sink),
+        Fault::ReportOpen => put_pieces(&[b"fault open report\n"], out, sink),
+        Fault::ReportRead => put_pieces(&[b"fault read report\n"], out, sink),
+        Fault::ReportFull => put_pieces(&[b"fault full report\n"], out, sink),
         Fault::NoMemory => put_pieces(&[b"fault memory\n"], out, sink),
     }
 }

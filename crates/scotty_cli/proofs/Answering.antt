@@ -24,8 +24,8 @@ use Rattle.emission_text.specs.declared.report_form.ReportForm.{ReportForm}
 use Rattle.emission_text.specs.declared.report_form.ReportForm.TheVariants.{One, Two}
 use Rattle.emission_text.proofs.Reports.{report_text-alike}
 use Rattle.emission_text.specs.declared.fault.Fault.{Fault}
-use Rattle.emission_text.specs.declared.fault.Fault.TheVariants.{Usage, Defs, Unopened, Row, Read, FullSource, FullShard, NoMemory}
-use Rattle.scotty_cli.specs.Answer.{CallsForFault, IsAnswer, IsReportOf, IsReportText, IsStopped, Says}
+use Rattle.emission_text.specs.declared.fault.Fault.TheVariants.{Usage, Defs, Unopened, Row, Read, FullSource, FullShard, ReportOpen, ReportRead, ReportFull, NoMemory}
+use Rattle.scotty_cli.specs.Answer.{CallsForFault, IsAnswer, IsReportText, IsStopped, Says}
 use Rattle.scotty_cli.specs.Called.{Called, by_shards, called_for, count_routed, full_shards, report}
 use Rattle.scotty_cli.specs.Causes.{AreDefsOf, AreShardsOfFiles, StopsAtDefs, StopsAtFiles, StopsAtSources}
 use Rattle.scotty_cli.specs.Outside.{Counts, Telling}
@@ -118,6 +118,9 @@ module _ {K : Type 0} (written : K → Option (List ℕ)) (faults : K → ℕ) (
   at_defs (Read place) h said = record { rose = h.1; place = None; place_is = tt; said = subst (λ (p : Option ℕ). Says written faults (Read p) old new) h.0 said }
   at_defs (FullSource s) h said = absurd h
   at_defs (FullShard s) h said = absurd h
+  at_defs ReportOpen h said = absurd h
+  at_defs ReportRead h said = absurd h
+  at_defs ReportFull h said = absurd h
   at_defs NoMemory h said = said
 
   -- a fault that the sources call for is called for behind definitions that are accepted
@@ -143,6 +146,9 @@ module _ {K : Type 0} (written : K → Option (List ℕ)) (faults : K → ℕ) (
       stopped (FullSource s) status.Full refl (behind_defs told run d read (λ c. CallsForFault c (FullSource s)) tt (refused_source told run d s too_long h)) said
   behind d read (FullShard k) h said =
       stopped (FullShard k) status.Full refl (behind_defs told run d read (λ c. CallsForFault c (FullShard k)) tt (overfull_shard told run d k h)) said
+  behind d read ReportOpen h said = absurd h
+  behind d read ReportRead h said = absurd h
+  behind d read ReportFull h said = absurd h
   behind d read NoMemory h said = said
 
   -- a fault that stops the files of a run is its answer

@@ -4,14 +4,14 @@ use Rattle.std.specs.Prelude.{IfOk, IfErr}
 use Rattle.stream_base.specs.Limits.{Definitions}
 use Rattle.shard_core.specs.Shard.{Sharded}
 use Rattle.emission_text.specs.declared.fault.Fault.{Fault}
-use Rattle.emission_text.specs.declared.fault.Fault.TheVariants.{Usage, Defs, Unopened, Row, Read, FullSource, FullShard, NoMemory}
+use Rattle.emission_text.specs.declared.fault.Fault.TheVariants.{Usage, Defs, Unopened, Row, Read, FullSource, FullShard, ReportOpen, ReportRead, ReportFull, NoMemory}
 use Rattle.scotty_cli.specs.Causes.{AreDefsOf, AreShardsOf, AreShardsOfFiles, StopsAtFiles, StopsAtSources}
 use Rattle.scotty_cli.specs.Outside.{Counts, Telling}
 use Rattle.scotty_cli.specs.Words.{Run}
 use Rattle.scotty_cli.proofs.Opened.{rose_since}
 
 -- counts that began earlier
-stops_since : (told : Telling) (run : Run) (d : Definitions) (old now : Counts) → old.opens.after ≡ now.opens.after → old.reads.after ≡ now.reads.after → old.opens.before ≤ now.opens.before → old.reads.before ≤ now.reads.before
+pub stops_since : (told : Telling) (run : Run) (d : Definitions) (old now : Counts) → old.opens.after ≡ now.opens.after → old.reads.after ≡ now.reads.after → old.opens.before ≤ now.opens.before → old.reads.before ≤ now.reads.before
     → (fault : Fault) → StopsAtSources told run d now fault → StopsAtSources told run d old fault
 stops_since told run d old now a b o r Usage h = h
 stops_since told run d old now a b o r (Defs fault) h = h
@@ -22,6 +22,9 @@ stops_since told run d old now a b o r (Read None) h = h
 stops_since told run d old now a b o r (Read (Some source)) h = (h.0, rose_since old.reads.before now.reads.before old.reads.after r (rw b h.1), h.2)
 stops_since told run d old now a b o r (FullSource source) h = h
 stops_since told run d old now a b o r (FullShard k) h = h
+stops_since told run d old now a b o r ReportOpen h = h
+stops_since told run d old now a b o r ReportRead h = h
+stops_since told run d old now a b o r ReportFull h = h
 stops_since told run d old now a b o r NoMemory h = h
 
 module _ {T : Type 0} (items : T → List Sharded) (told mid : Telling) (run : Run) (d : Definitions) (same : (which : List ℕ) → mid which ≡ told which) (read : AreDefsOf (told run.defs) d) where

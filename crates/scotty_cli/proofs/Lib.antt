@@ -9,3 +9,6 @@ pub mod Ends
 pub mod Filled
 pub mod Makings
 pub mod Answering
+pub mod Draining
+pub mod Checking
+pub mod Judged

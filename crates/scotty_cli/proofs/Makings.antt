@@ -1,17 +1,17 @@
 -- The feeds and the shards of a made run.
 use Rattle.std.proofs.Common.{◌≡◌, ◌∙◌, ◌<◌, ◌≤◌, ◌+◌, ◌++◌, ◌⊎◌, ℕ, List, [], ◌∷◌, All, length, map, take, get_or, ap, sym, subst, arith, inl, inr, ⊎_elim, length-append, IfSome}
-use Rattle.std.specs.List.{flat_map, range_with_len}
+use Rattle.std.specs.List.{range_with_len}
 use Rattle.std.proofs.lemmas.Bool.{cases_lt}
 use Rattle.std.proofs.lemmas.Grind.{flat_map-append}
-use Rattle.std.proofs.lemmas.List.{append-nil, get_or-map, get_or_append_left, get_or_default, get_or_push, length-map, map-append, take_more}
+use Rattle.std.proofs.lemmas.List.{append-nil, get_or-map, get_or_append_left, get_or_push, length-map, map-append, take_more}
 use Rattle.std.proofs.lemmas.List.FromFn.{get_or-range_with_len, length-range_with_len}
 use Rattle.stream_base.specs.Model.Changes.{standing_rows}
-use Rattle.stream_base.specs.Model.Routes.{IsLawful, entries_from, routed}
+use Rattle.stream_base.specs.Model.Routes.{entries_from, routed}
 use Rattle.stream_base.specs.declared.entry.Entry.{Entry}
 use Rattle.stream_base.specs.declared.row.Row.{Row}
 use Rattle.shard_core.specs.Shard.{Sharded}
 use Rattle.source_feed.specs.FeedState.{FeedState}
-use Rattle.source_feed.specs.Generated.{made_definitions, made_entries, made_sources, made_stream}
+use Rattle.source_feed.specs.Generated.{made_definitions, made_entries, made_sources}
 use Rattle.source_feed.specs.declared.feed_fault.FeedFault.{FeedFault}
 use Rattle.fan_in.specs.declared.gathered.FeedEnd.{FeedEnd}
 use Rattle.fan_in.specs.declared.outcome.Outcome.{Outcome}

@@ -12,7 +12,7 @@ use Rattle.window_defs.specs.declared.read.TheConstants.{BYTES_MAX}
 use Rattle.window_defs.specs.declared.defs_fault.DefsFault.TheVariants.{Long, Toml, Shape, Limit, Many}
 use Rattle.window_defs.specs.declared.defs_fault.DefsFault.TheVariants.{NoMemory as NoRoom}
 use Rattle.emission_text.specs.declared.fault.Fault.{Fault}
-use Rattle.emission_text.specs.declared.fault.Fault.TheVariants.{Usage, Defs, Unopened, Row, Read, FullSource, FullShard, NoMemory}
+use Rattle.emission_text.specs.declared.fault.Fault.TheVariants.{Usage, Defs, Unopened, Row, Read, FullSource, FullShard, ReportOpen, ReportRead, ReportFull, NoMemory}
 use Rattle.scotty_cli.specs.Causes.{StopsAtBytes, StopsAtDefs, StopsAtReading}
 use Rattle.scotty_cli.specs.Outside.{Counts}
 
@@ -63,6 +63,9 @@ stops_at_bytes told counts read is (Row source number why) h = h
 stops_at_bytes told counts read is (Read place) h = absurd h
 stops_at_bytes told counts read is (FullSource source) h = h
 stops_at_bytes told counts read is (FullShard shard) h = h
+stops_at_bytes told counts read is ReportOpen h = h
+stops_at_bytes told counts read is ReportRead h = h
+stops_at_bytes told counts read is ReportFull h = h
 stops_at_bytes told counts read is NoMemory h = tt
 
 -- why a definitions file stops a run, by what came of reading it

@@ -1,5 +1,5 @@
 -- What the tests of the words say of a list of words.
-use Rattle.std.proofs.Common.{◌≡◌, ℕ, ◌-◌, ◌^◌, ◌<◌, ◌≤◌, ◌↔◌, Bool, true, false, List, [], ◌∷◌, length, map, take, drop, get_or, refl, sym, subst, ap, ◌∙◌, arith, rules, decimal, codes, All, IsTrue, Ok, Err, Result, inl, inr}
+use Rattle.std.proofs.Common.{◌≡◌, ℕ, ◌-◌, ◌^◌, ◌<◌, ◌≤◌, ◌↔◌, Bool, true, false, List, [], ◌∷◌, length, map, take, drop, get_or, refl, ap, ◌∙◌, arith, rules, decimal, codes, All, IsTrue, Ok, Err, Result, inl, inr}
 use Rattle.std.specs.Bool.{MatchBool}
 use Rattle.std.specs.List.{AllWithin, HoldsAt}
 use Rattle.std.specs.Str.Parse.{ParsesUnsigned}
@@ -11,7 +11,8 @@ use Rattle.emission_text.specs.declared.report_form.ReportForm.{ReportForm}
 use Rattle.emission_text.specs.declared.report_form.ReportForm.TheVariants.{One, Two}
 use Rattle.scotty_cli.specs.declared.way.Way.{Way}
 use Rattle.scotty_cli.specs.declared.way.Way.TheVariants.{Turns, Mail}
-use Rattle.scotty_cli.specs.Words.{Made, Run, IsMade, IsMadeOf, IsName, IsNumberWithin, IsRun, IsRunOf, run_word, way_word}
+use Rattle.std.specs.Prelude.{◌⊎◌}
+use Rattle.scotty_cli.specs.Words.{Check, Made, Run, IsCheck, IsCheckOf, IsMade, IsMadeOf, IsName, IsNumberWithin, IsRun, IsRunOf, run_word, way_word}
 
 -- a number that is written within the bounds is what `parse` returns
 pub reads_within : {E : Type 0} (least most : ℕ) (word : List ℕ) (r : Result ℕ E) → most < 2 ^ 64 → ParsesUnsigned 64 10 word r → IsNumberWithin least most word → (n : ℕ) × (r ≡ Ok n) × (least ≤ n) × (n ≤ most) × (word ≡ decimal n)
@@ -120,3 +121,34 @@ runs_are_not_made words (run, is) (m, made) =
     let one = is.spelled in
     let two = made.spelled in
     run_not_made run.form cc
+
+-- words are those of one check at most
+pub one_check : (words : List (List ℕ)) (c other : Check) → IsCheckOf words c → IsCheckOf words other → c ≡ other
+one_check words c other first second =
+    let one = first.spelled in
+    let two = second.spelled in
+    let few = first.few_shards in
+    let many = second.few_shards in
+    let shards : c.shards ≡ other.shards = decimal_injective c.shards other.shards (omega arith) (omega arith) cc in
+    let defs : c.defs ≡ other.defs = cc in
+    let report : c.report ≡ other.report = cc in
+    let sources : c.sources ≡ other.sources = cc in
+    λ i. record { defs = defs i; shards = shards i; report = report i; sources = sources i }
+
+-- no check is a run, or a made run
+run_not_check : (form : ReportForm) → run_word form ≡ codes "check" → ⊥
+run_not_check One h = let first : 114 ≡ 99 = ap (λ (w : List ℕ). get_or w 0 0) h in omega (arith, first)
+run_not_check Two h = let first : 114 ≡ 99 = ap (λ (w : List ℕ). get_or w 0 0) h in omega (arith, first)
+
+made_not_check : codes "made" ≡ codes "check" → ⊥
+made_not_check h = let first : 109 ≡ 99 = ap (λ (w : List ℕ). get_or w 0 0) h in omega (arith, first)
+
+pub checks_are_no_others : (words : List (List ℕ)) → IsCheck words → IsRun words ⊎ IsMade words → ⊥
+checks_are_no_others words (c, is) (inl (run, other)) =
+    let one = is.spelled in
+    let two = other.spelled in
+    run_not_check run.form cc
+checks_are_no_others words (c, is) (inr (m, other)) =
+    let one = is.spelled in
+    let two = other.spelled in
+    made_not_check cc

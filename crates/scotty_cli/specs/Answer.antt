@@ -11,16 +11,19 @@ use Rattle.source_feed.specs.FileFeedState.{source_stream}
 use Rattle.source_feed.specs.Generated.{made_definitions, made_sources}
 use Rattle.window_defs.specs.Reading.{reading_of}
 use Rattle.emission_text.specs.Faults.{fault_line}
+use Rattle.report_check.specs.Findings.{IsFinding}
+use Rattle.report_check.specs.declared.finding.Finding.{Finding}
+use Rattle.emission_text.specs.Findings.{finding_line}
 use Rattle.emission_text.specs.Report.{form_of}
 use Rattle.emission_text.specs.Sending.{Appends, Fails}
 use Rattle.emission_text.specs.declared.fault.Fault.{Fault}
 use Rattle.emission_text.specs.declared.fault.Fault.TheVariants as stop
-use Rattle.scotty_cli.specs.Called.{Called, called_for, fault, full, report, unknown}
-use Rattle.scotty_cli.specs.Outside.{Counts, Telling, WhereTold}
-use Rattle.scotty_cli.specs.Statuses.{status_of}
-use Rattle.scotty_cli.specs.Words.{Made, Run}
+use Rattle.scotty_cli.specs.Called.{Called, called_by_check, called_for, reading_run, fault, full, report, unknown}
+use Rattle.scotty_cli.specs.Outside.{Count, Counts, Telling, WhereTold}
+use Rattle.scotty_cli.specs.Statuses.{finding_status, status_of}
+use Rattle.scotty_cli.specs.Words.{Check, Made, Run}
 use Rattle.scotty_cli.specs.declared.status.Status.{Status}
-use Rattle.scotty_cli.specs.declared.status.Status.TheVariants.{Done, Usage, BadDefs, OpenFault, BadRow, ReadFault, Full, NoMemory, WriteFault}
+use Rattle.scotty_cli.specs.declared.status.Status.TheVariants.{Done, Usage, BadDefs, OpenFault, BadRow, ReadFault, Full, NoMemory, WriteFault, Unlawful}
 
 -- the text is the report of the journals that stand in it, and these hold each source's entries where they belong, once each and in the source's order
 pub record IsReportOf (run : Run) (d : Definitions) (sources : List (List Entry)) (text : List ℕ) : Type 0 where
@@ -64,6 +67,13 @@ MayBeUnread told run (Some source) = (source < length run.sources) × AreAccepte
 -- the summary of a made run: that of the final rows of its generated sources, which knows of no shard and no schedule
 abbrev pub made_summary : Made → List ℕ
 made_summary m = summary_of m.rows (length (made_definitions).windows) (final_rows made_definitions (made_sources m.seed m.rows m.sources))
+
+-- what may be found of a report, by what a check calls for: with sources that are read, exactly the finding of the bytes of the report and the entries of the sources
+abbrev pub MayBeFound : Check → Telling → Called → Finding → Type 0
+MayBeFound c told (fault f) finding = ⊥
+MayBeFound c told (full shards) finding = ⊥
+MayBeFound c told (report d sources) finding = WhereTold (told c.report) (λ text. IsFinding d c.shards sources text finding)
+MayBeFound c told unknown finding = ⊤
 
 module _ {K : Type 0} (written : K → Option (List ℕ)) (faults : K → ℕ) where
   -- the line of a fault was written, or a write failed
@@ -114,6 +124,7 @@ module _ {K : Type 0} (written : K → Option (List ℕ)) (faults : K → ℕ) w
   IsAnswer run told counts old new ReadFault = IsUnread run told counts old new
   IsAnswer run told counts old new NoMemory = Says stop.NoMemory old new
   IsAnswer run told counts old new Usage = ⊥
+  IsAnswer run told counts old new Unlawful = ⊥
 
   -- the answer to a made run: the summary of the final rows of its sources was written; with two exceptions: a write failed, by its count, and memory ran out
   abbrev pub IsMadeAnswer : Made → K → K → Status → Type 0
@@ -126,3 +137,36 @@ module _ {K : Type 0} (written : K → Option (List ℕ)) (faults : K → ℕ) w
   IsMadeAnswer m old new OpenFault = ⊥
   IsMadeAnswer m old new ReadFault = ⊥
   IsMadeAnswer m old new Usage = ⊥
+  IsMadeAnswer m old new Unlawful = ⊥
+
+  -- the finding of a report is that which is called for, its line was written, and the status is its own
+  pub record IsFound (c : Check) (told : Telling) (status : Status) (old new : K) : Type 0 where
+    pub finding : Finding
+    pub finding_is : MayBeFound c told (called_by_check told c) finding
+    pub status_is : finding_status finding ≡ status
+    pub went_out : Appends written faults (finding_line finding) old new
+
+  -- or a write of its line failed
+  pub record IsFindingCutOff (c : Check) (told : Telling) (old new : K) : Type 0 where
+    pub finding : Finding
+    pub finding_is : MayBeFound c told (called_by_check told c) finding
+    pub failed : Fails written faults (finding_line finding) old new
+
+  -- the definitions were accepted, a count rose, and the line says that it was the report's
+  pub record IsReportLost (c : Check) (told : Telling) (count : Count) (answered : Fault) (old new : K) : Type 0 where
+    pub rose : Rose count.before count.after
+    pub accepted : AreAccepted told (reading_run c)
+    pub said : Says answered old new
+
+  -- the answer to a check: the line of the finding that its files call for, or the first fault that they do; with three exceptions: an open, a read or a write failed, by its count, and memory ran out
+  abbrev pub IsCheckAnswer : Check → Telling → Counts → K → K → Status → Type 0
+  IsCheckAnswer c told counts old new Done = IsFound c told Done old new
+  IsCheckAnswer c told counts old new Unlawful = IsFound c told Unlawful old new
+  IsCheckAnswer c told counts old new WriteFault = IsFindingCutOff c told old new
+  IsCheckAnswer c told counts old new BadDefs = IsStopped (called_by_check told c) BadDefs old new
+  IsCheckAnswer c told counts old new BadRow = IsStopped (called_by_check told c) BadRow old new
+  IsCheckAnswer c told counts old new Full = IsStopped (called_by_check told c) Full old new
+  IsCheckAnswer c told counts old new OpenFault = IsUnopened (reading_run c) told counts old new ⊎ IsReportLost c told counts.opens stop.ReportOpen old new
+  IsCheckAnswer c told counts old new ReadFault = IsUnread (reading_run c) told counts old new ⊎ IsReportLost c told counts.reads stop.ReportRead old new
+  IsCheckAnswer c told counts old new NoMemory = Says stop.NoMemory old new
+  IsCheckAnswer c told counts old new Usage = ⊥

@@ -1,5 +1,5 @@
 -- What the words of a run, and the bytes of its files, call for: the first fault in the order of causes, or a report.
-use Rattle.std.specs.Prelude.{◌++◌, ℕ, List, [], ◌∷◌, length, map, filter, sum, Option, None, Some, Result, Ok, Err, nat_lt}
+use Rattle.std.specs.Prelude.{◌++◌, ℕ, List, [], ◌∷◌, length, map, filter, sum, Option, None, Some, Result, Ok, Err, nat_lt, if◌then◌else◌}
 use Rattle.std.specs.List.{range_with_len}
 use Rattle.std.specs.Option.{option_map_or}
 use Rattle.stream_base.specs.Limits.{Definitions}
@@ -11,9 +11,12 @@ use Rattle.source_feed.specs.Stream.{Refusal, bad_record, too_long}
 use Rattle.window_defs.specs.Reading.{reading_of}
 use Rattle.window_defs.specs.declared.defs_fault.DefsFault.{DefsFault}
 use Rattle.emission_text.specs.declared.fault.Fault.{Fault}
-use Rattle.emission_text.specs.declared.fault.Fault.TheVariants.{Defs, Row, FullSource}
+use Rattle.emission_text.specs.declared.fault.Fault.TheVariants.{Defs, Row, FullSource, ReportFull}
+use Rattle.source_feed.specs.declared.whole.TheConstants.{SOURCE_MAX}
+use Rattle.emission_text.specs.declared.report_form.ReportForm.TheVariants.{One}
 use Rattle.scotty_cli.specs.Outside.{Telling}
-use Rattle.scotty_cli.specs.Words.{Run}
+use Rattle.scotty_cli.specs.declared.way.Way.TheVariants.{Turns}
+use Rattle.scotty_cli.specs.Words.{Check, Run, run_of}
 
 -- what is called for: this fault; the fault that one of these shards is full; the report of these sources' entries under these definitions; or nothing that is known, where a file that decides tells no bytes
 pub data Called : Type 0 where
@@ -62,3 +65,20 @@ by_defs told run (Ok d) = by_sources told run.shards d [] run.sources
 -- what a run calls for
 abbrev pub called_for : Telling → Run → Called
 called_for told run = option_map_or (λ bytes. by_defs told run (reading_of bytes)) (told run.defs) unknown
+
+-- the reading of a check's sources: a run of no shards, so that none is full
+abbrev pub reading_run : Check → Run
+reading_run c = run_of One c.defs 0 Turns c.sources
+
+-- a report of too many bytes is refused, before the sources are
+abbrev pub by_report : List ℕ → Called → Called
+by_report text later = if nat_lt SOURCE_MAX (length text) then fault ReportFull else later
+
+-- definitions that are refused; or, where they are accepted, what the report calls for, and then the sources
+abbrev pub by_check_defs : Telling → Check → Result Definitions DefsFault → Called
+by_check_defs told c (Err cause) = fault (Defs cause)
+by_check_defs told c (Ok d) = option_map_or (λ text. by_report text (by_sources told 0 d [] c.sources)) (told c.report) unknown
+
+-- what a check calls for: `report` says that its sources can be read
+abbrev pub called_by_check : Telling → Check → Called
+called_by_check told c = option_map_or (λ bytes. by_check_defs told c (reading_of bytes)) (told c.defs) unknown

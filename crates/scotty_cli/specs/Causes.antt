@@ -17,7 +17,7 @@ use Rattle.window_defs.specs.declared.defs_fault.DefsFault.TheVariants.{Long, To
 use Rattle.window_defs.specs.declared.defs_fault.DefsFault.TheVariants.{NoMemory as NoRoom}
 use Rattle.emission_text.specs.Report.{AreAlike}
 use Rattle.emission_text.specs.declared.fault.Fault.{Fault}
-use Rattle.emission_text.specs.declared.fault.Fault.TheVariants.{Usage, Defs, Unopened, Row, Read, FullSource, FullShard, NoMemory}
+use Rattle.emission_text.specs.declared.fault.Fault.TheVariants.{Usage, Defs, Unopened, Row, Read, FullSource, FullShard, ReportOpen, ReportRead, ReportFull, NoMemory}
 use Rattle.scotty_cli.specs.Called.{count_routed}
 use Rattle.scotty_cli.specs.Outside.{Counts, Telling, WhereTold}
 use Rattle.scotty_cli.specs.Words.{Run}
@@ -40,6 +40,9 @@ StopsAtDefs told counts (Row source number why) = ⊥
 StopsAtDefs told counts (Read place) = (place ≡ None) × Rose counts.reads.before counts.reads.after
 StopsAtDefs told counts (FullSource source) = ⊥
 StopsAtDefs told counts (FullShard shard) = ⊥
+StopsAtDefs told counts ReportOpen = ⊥
+StopsAtDefs told counts ReportRead = ⊥
+StopsAtDefs told counts ReportFull = ⊥
 StopsAtDefs told counts NoMemory = ⊤
 
 -- the definitions of a run are those that the file's bytes spell
@@ -88,6 +91,9 @@ StopsAtSources told run d counts (Read (Some source)) =
     (source < length run.sources) × Rose counts.reads.before counts.reads.after × NoneRefusedBelow told d run.sources source
 StopsAtSources told run d counts (FullSource source) = IsFirstRefused told d run.sources source too_long
 StopsAtSources told run d counts (FullShard k) = IsOverfull told d run k
+StopsAtSources told run d counts ReportOpen = ⊥
+StopsAtSources told run d counts ReportRead = ⊥
+StopsAtSources told run d counts ReportFull = ⊥
 StopsAtSources told run d counts NoMemory = ⊤
 
 -- the shards of a run: they have its definitions and sources, and journals of that many sources, no source is refused, and the journals are lawful for the sources' entries, where the bytes are told
@@ -123,6 +129,9 @@ StopsAtBytes bytes (Row source number why) = ⊥
 StopsAtBytes bytes (Read place) = ⊥
 StopsAtBytes bytes (FullSource source) = ⊥
 StopsAtBytes bytes (FullShard shard) = ⊥
+StopsAtBytes bytes ReportOpen = ⊥
+StopsAtBytes bytes ReportRead = ⊥
+StopsAtBytes bytes ReportFull = ⊥
 StopsAtBytes bytes NoMemory = ⊥
 
 -- why what came of reading a definitions file stops a run

@@ -6,4 +6,6 @@ pub mod Causes
 pub mod Settling
 pub mod Called
 pub mod Answer
+pub mod Reading
+pub mod Judging
 pub mod Making

@@ -5,7 +5,7 @@ use Rattle.stream_base.specs.Outside.{Rose}
 use Rattle.source_feed.specs.FeedState.{Closes}
 use Rattle.source_feed.specs.FileFeedState.{FileFeedState, feed_state, state_unread}
 use Rattle.emission_text.specs.declared.fault.Fault.{Fault}
-use Rattle.emission_text.specs.declared.fault.Fault.TheVariants.{Usage, Defs, Unopened, Row, Read, FullSource, FullShard, NoMemory}
+use Rattle.emission_text.specs.declared.fault.Fault.TheVariants.{Usage, Defs, Unopened, Row, Read, FullSource, FullShard, ReportOpen, ReportRead, ReportFull, NoMemory}
 use Rattle.scotty_cli.specs.Causes.{told_at}
 use Rattle.scotty_cli.specs.Outside.{Counts, Telling}
 
@@ -30,4 +30,7 @@ StopsAtOpening many counts (Row source number why) = ⊥
 StopsAtOpening many counts (Read place) = ⊥
 StopsAtOpening many counts (FullSource source) = ⊥
 StopsAtOpening many counts (FullShard shard) = ⊥
+StopsAtOpening many counts ReportOpen = ⊥
+StopsAtOpening many counts ReportRead = ⊥
+StopsAtOpening many counts ReportFull = ⊥
 StopsAtOpening many counts NoMemory = ⊤

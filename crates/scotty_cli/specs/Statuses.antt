@@ -5,8 +5,10 @@ use Rattle.window_defs.specs.declared.defs_fault.DefsFault.TheVariants.{Long, To
 use Rattle.window_defs.specs.declared.defs_fault.DefsFault.TheVariants.{NoMemory as NoRoom}
 use Rattle.emission_text.specs.declared.fault.Fault.{Fault}
 use Rattle.emission_text.specs.declared.fault.Fault.TheVariants as fault
+use Rattle.report_check.specs.declared.finding.Finding.{Finding}
+use Rattle.report_check.specs.declared.finding.Finding.TheVariants.{Lawful, Text, Shards, Journal}
 use Rattle.scotty_cli.specs.declared.status.Status.{Status}
-use Rattle.scotty_cli.specs.declared.status.Status.TheVariants.{Done, Usage, BadDefs, OpenFault, BadRow, ReadFault, Full, NoMemory, WriteFault}
+use Rattle.scotty_cli.specs.declared.status.Status.TheVariants.{Done, Usage, BadDefs, OpenFault, BadRow, ReadFault, Full, NoMemory, WriteFault, Unlawful}
 
 -- the code with which the program ends
 abbrev pub code_of : Status → ℕ
@@ -19,6 +21,7 @@ code_of ReadFault = 5
 code_of Full = 6
 code_of NoMemory = 7
 code_of WriteFault = 8
+code_of Unlawful = 9
 
 -- the status for refused definitions, unless memory ran out
 abbrev pub defs_status : DefsFault → Status
@@ -38,4 +41,14 @@ status_of (fault.Row source number why) = BadRow
 status_of (fault.Read place) = ReadFault
 status_of (fault.FullSource source) = Full
 status_of (fault.FullShard shard) = Full
+status_of fault.ReportOpen = OpenFault
+status_of fault.ReportRead = ReadFault
+status_of fault.ReportFull = Full
 status_of fault.NoMemory = NoMemory
+
+-- the status for a finding
+abbrev pub finding_status : Finding → Status
+finding_status Lawful = Done
+finding_status (Text line) = Unlawful
+finding_status (Shards found) = Unlawful
+finding_status (Journal shard source) = Unlawful

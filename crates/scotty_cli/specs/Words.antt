@@ -91,14 +91,45 @@ pub record IsMadeOf (words : List (List ℕ)) (m : Made) : Type 0 where
 abbrev pub IsMade : List (List ℕ) → Type 0
 IsMade words = (m : Made) × IsMadeOf words m
 
+-- a check of a report: the name of the definitions, how many shards, the name of the report, and the names of the sources
+pub record Check : Type 0 where
+  pub defs : List ℕ
+  pub shards : ℕ
+  pub report : List ℕ
+  pub sources : List (List ℕ)
+
+-- how a check is spelled
+abbrev pub check_words_of : Check → List (List ℕ)
+check_words_of c = codes "check" ∷ c.defs ∷ decimal c.shards ∷ c.report ∷ c.sources
+
+-- the words are those of this check: names are nonempty, and there are 1 to 16 shards and sources
+pub record IsCheckOf (words : List (List ℕ)) (c : Check) : Type 0 where
+  pub spelled : words ≡ check_words_of c
+  pub defs_name : IsName c.defs
+  pub some_shards : 1 ≤ c.shards
+  pub few_shards : c.shards ≤ 16
+  pub report_name : IsName c.report
+  pub some_sources : 1 ≤ length c.sources
+  pub few_sources : length c.sources ≤ 16
+  pub source_names : All IsName c.sources
+
+-- the words are those of a check
+abbrev pub IsCheck : List (List ℕ) → Type 0
+IsCheck words = (c : Check) × IsCheckOf words c
+
 -- the words are those of a command
 abbrev pub IsCommand : List (List ℕ) → Type 0
-IsCommand words = IsRun words ⊎ IsMade words
+IsCommand words = IsRun words ⊎ IsMade words ⊎ IsCheck words
 
 -- the run of these definitions, shards and sources
 abbrev pub run_of : ReportForm → List ℕ → ℕ → Way → List (List ℕ) → Run
 run_of form defs shards way sources =
     record { form = form; defs = defs; shards = shards; way = way; sources = sources }
+
+-- the check of these definitions, shards, report and sources
+abbrev pub check_of : List ℕ → ℕ → List ℕ → List (List ℕ) → Check
+check_of defs shards report sources =
+    record { defs = defs; shards = shards; report = report; sources = sources }
 
 -- the made run of this seed
 abbrev pub made_of : ℕ → ℕ → ℕ → ℕ → Way → Made

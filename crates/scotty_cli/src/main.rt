@@ -7,8 +7,10 @@
 mod deciding;
 mod definitions;
 mod gathering;
+mod judging;
 mod making;
 mod opening;
+mod reading;
 mod real_files;
 mod real_sink;
 mod real_source;

@@ -1,5 +1,5 @@
 //! All sources of a run are opened before one is read, and are given back.
-ghost use Rattle.std.specs.Prelude.{◌≡◌, ◌≤◌, ◌<◌, ◌+◌, ◌++◌, [], ◌∷◌, ℕ, List, length, map, string_bytes, IfOk, IfErr, OnOk, OnErr};
+ghost use Rattle.std.specs.Prelude.{◌≡◌, ◌≤◌, ◌<◌, ◌+◌, ◌++◌, [], ◌∷◌, ℕ, List, length, map, string_bytes, IfOk, IfErr, OnOk, OnErr, slice_index_or};
 ghost use Rattle.std.specs.Vec.{vec_capacity};
 ghost use Rattle.stream_base.specs.Outside.{Rose};
 ghost use Rattle.scotty_cli.specs.Opening.{AreUnread, IsUnread, StopsAtOpening};
@@ -77,6 +77,9 @@ pub fn close_feeds<F: Files>(files: &mut F, mut feeds: Vec<FileFeed<F::Input>>)
     ensures out { F.out files.new + length feeds.items ≡ F.out files.old }
     ensures opens { F.failed_opens files.new ≡ F.failed_opens files.old }
     ensures reads { F.failed_reads files.old ≤ F.failed_reads files.new }
+    ensures failed { (i : ℕ) (f : _) → i < length feeds.items
+        → 0 < F.Input.faults (slice_index_or feeds.items i f).from
+        → Rose (F.failed_reads files.old) (F.failed_reads files.new) }
     ensures same { (which : List ℕ) → F.told files.new which ≡ F.told files.old which }
 {
     while let Some(feed) = feeds.pop() {

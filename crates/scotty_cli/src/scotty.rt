@@ -1,20 +1,23 @@
 //! The top call.
 ghost use Rattle.std.specs.Prelude.{◌≡◌, ◌≢◌, ◌≤◌, ◌↔◌, ◌⊎◌, ℕ, length, map, string_bytes, IfOk, IfErr};
+ghost use Rattle.emission_text.specs.Findings.{finding_line};
 ghost use Rattle.emission_text.specs.Report.{form_of, report_text};
 ghost use Rattle.emission_text.specs.Sending.{Appends, Fails};
 ghost use Rattle.source_feed.specs.declared.made_feed.TheConstants.{MADE_ROWS_MAX};
-ghost use Rattle.scotty_cli.specs.Answer.{IsAnswer, IsMadeAnswer, Says};
+ghost use Rattle.scotty_cli.specs.Answer.{IsAnswer, IsCheckAnswer, IsMadeAnswer, Says};
 ghost use Rattle.scotty_cli.specs.Causes.{AreShardsOfFiles, StopsAtFiles};
 ghost use Rattle.scotty_cli.specs.Outside.{counts_of};
-ghost use Rattle.scotty_cli.specs.Statuses.{status_of};
-ghost use Rattle.scotty_cli.specs.Words.{IsCommand, IsMadeOf, IsRun, IsRunOf, Made, Run, made_of, run_of};
+ghost use Rattle.scotty_cli.specs.Statuses.{finding_status, status_of};
+ghost use Rattle.scotty_cli.specs.Words.{Check, IsCheck, IsCheckOf, IsCommand, IsMadeOf, IsRun, IsRunOf, Made, Run, check_of, made_of, run_of};
 
 use crate::definitions::read_definitions;
 use crate::gathering::gather_sources;
+use crate::judging::find;
 use crate::making::{make_rows, print_summary};
-use crate::status::{Status, status_of};
-use crate::words::{MadeWords, RunWords, made_of, run_of};
-use emission_text::{Fault, ReportForm, write_fault, write_form};
+use crate::status::{Status, status_of, status_of_finding};
+use crate::words::{CheckWords, MadeWords, RunWords, check_of, made_of, run_of};
+use emission_text::{Fault, ReportForm, write_fault, write_finding, write_form};
+use report_check::Finding;
 use shard_core::Shard;
 use std::alloc::Global;
 use std::sync::Wait;
@@ -25,7 +28,9 @@ use stream_base::{Files, Gate, NoMemory, Sink};
 /// or with the first fault in the order of causes; in place of it an open, a read or a write may have
 /// failed, by its count, or memory ran out. A made run is answered with the summary of its final
 /// rows; in place of it a write may have failed, or memory ran out. It is so in every schedule of the
-/// feeds. Other words are answered with a fault of their own.
+/// feeds. A check is answered with the line of what is found of its report, by the bytes of the
+/// definitions, the report and the sources, or with the first fault, with the same exceptions as a
+/// run. Other words are answered with a fault of their own.
 pub fn scotty<F: Files, K: Sink, G: Gate, R: Threads + Wait + Sync>(
     alloc: Global,
     rt: &R,
@@ -39,17 +44,24 @@ pub fn scotty<F: Files, K: Sink, G: Gate, R: Threads + Wait + Sync>(
         (counts_of F.failed_opens F.failed_reads files.old files.new) sink.old sink.new result }
     ensures made { (m : Made) → IsMadeOf (map string_bytes words.now) m
         → IsMadeAnswer K.written K.faults m sink.old sink.new result }
+    ensures check { (c : Check) → IsCheckOf (map string_bytes words.now) c
+        → IsCheckAnswer K.written K.faults c (F.told files.old)
+        (counts_of F.failed_opens F.failed_reads files.old files.new) sink.old sink.new result }
     ensures usage { (result ≡ Status.Usage) ↔ ¬ (IsCommand (map string_bytes words.now)) }
     ensures usage_said { result ≡ Status.Usage
         → Says K.written K.faults Fault.Usage sink.old sink.new }
-    ensures unopened { ¬ (IsRun (map string_bytes words.now)) → files.new ≡ files.old }
+    ensures unopened { ¬ (IsRun (map string_bytes words.now))
+        → ¬ (IsCheck (map string_bytes words.now)) → files.new ≡ files.old }
     ensures out { F.out files.new ≡ F.out files.old }
 {
     match run_of(words) {
         Some(command) => run(alloc, rt, &command, files, sink, gate),
         None => match made_of(words) {
             Some(command) => make(alloc, rt, command, sink, gate),
-            None => print_fault(&Fault::Usage, sink),
+            None => match check_of(words) {
+                Some(command) => check(alloc, rt, &command, files, sink),
+                None => print_fault(&Fault::Usage, sink),
+            },
         },
     }
 }
@@ -114,6 +126,41 @@ fn make<K: Sink, G: Gate, R: Threads + Wait + Sync>(
         Ok(rows) => print_summary(command.rows, &rows, sink),
         Err(NoMemory) => print_fault(&Fault::NoMemory, sink),
     }
+}
+
+// A check of a report.
+fn check<F: Files, K: Sink, R: Threads>(
+    alloc: Global,
+    rt: &R,
+    command: &CheckWords,
+    files: &mut F,
+    sink: &mut K,
+) -> Status
+    requires few_sources { length command.now.sources.now ≤ 16 }
+    requires few_shards { command.now.shards ≤ 16 }
+    ensures answer { IsCheckAnswer K.written K.faults
+        (check_of command.now.defs.now command.now.shards command.now.report.now
+        (map string_bytes command.now.sources.now)) (F.told files.old)
+        (counts_of F.failed_opens F.failed_reads files.old files.new) sink.old sink.new result }
+    ensures out { F.out files.new ≡ F.out files.old }
+{
+    match find(alloc, rt, command, files) {
+        Ok(finding) => print_finding(&finding, sink),
+        Err(fault) => print_fault(&fault, sink),
+    }
+}
+
+// The line of a finding.
+fn print_finding<K: Sink>(finding: &Finding, sink: &mut K) -> Status
+    ensures { ((result ≡ finding_status finding.now)
+        × Appends K.written K.faults (finding_line finding.now) sink.old sink.new)
+        ⊎ ((result ≡ Status.WriteFault)
+        × Fails K.written K.faults (finding_line finding.now) sink.old sink.new) }
+{
+    if write_finding(finding, sink).is_err() {
+        return Status::WriteFault;
+    }
+    status_of_finding(finding)
 }
 
 fn print_fault<K: Sink>(fault: &Fault, sink: &mut K) -> Status

@@ -36,8 +36,8 @@ fn first_fault<F>(ends: &[FeedEnd<F>]) -> Option<Fault>
     None
 }
 
-// The fault of a run for that of the feed of this source.
-fn fault_of(source: u16, fault: FeedFault) -> Fault
+/// The fault of a run for that of the feed of this source.
+pub fn fault_of(source: u16, fault: FeedFault) -> Fault
     ensures { result ≡ fault_of source fault }
 {
     match fault {

@@ -1,7 +1,8 @@
 ghost use Rattle.std.specs.Prelude.{◌≡◌};
-ghost use Rattle.scotty_cli.specs.Statuses.{code_of, status_of};
+ghost use Rattle.scotty_cli.specs.Statuses.{code_of, finding_status, status_of};
 
 use emission_text::Fault;
+use report_check::Finding;
 
 /// How a run ended. The program ends with its code.
 #[derive(Clone, Copy, Debug, PartialEq, Eq)]
@@ -24,10 +25,12 @@ pub enum Status {
     NoMemory,
     /// A write of the report failed.
     WriteFault,
+    /// The report that was judged isn't lawful.
+    Unlawful,
 }
 
 impl Status {
-    /// The exit code: 0 to 8, in the order of the variants.
+    /// The exit code: 0 to 9, in the order of the variants.
     pub fn code(&self) -> u8
         ensures { result ≡ code_of self.now }
     {
@@ -41,6 +44,7 @@ impl Status {
             Status::Full => 6,
             Status::NoMemory => 7,
             Status::WriteFault => 8,
+            Status::Unlawful => 9,
         }
     }
 }
@@ -53,10 +57,20 @@ pub fn status_of(fault: &Fault) -> Status
         Fault::Usage => Status::Usage,
         Fault::Defs(window_defs::DefsFault::NoMemory) => Status::NoMemory,
         Fault::Defs(_) => Status::BadDefs,
-        Fault::Unopened { .. } => Status::OpenFault,
+        Fault::Unopened { .. } | Fault::ReportOpen => Status::OpenFault,
         Fault::Row { .. } => Status::BadRow,
-        Fault::Read { .. } => Status::ReadFault,
-        Fault::FullSource { .. } | Fault::FullShard { .. } => Status::Full,
+        Fault::Read { .. } | Fault::ReportRead => Status::ReadFault,
+        Fault::FullSource { .. } | Fault::FullShard { .. } | Fault::ReportFull => Status::Full,
         Fault::NoMemory => Status::NoMemory,
+    }
+}
+
+/// The status of a check that ended with a finding.
+pub fn status_of_finding(finding: &Finding) -> Status
+    ensures { result ≡ finding_status finding.now }
+{
+    match finding {
+        Finding::Lawful => Status::Done,
+        Finding::Text { .. } | Finding::Shards { .. } | Finding::Journal { .. } => Status::Unlawful,
     }
 }

@@ -3,6 +3,7 @@ mod causes;
 mod former;
 mod gates;
 mod idle;
+mod judged;
 mod late;
 mod long;
 mod made;

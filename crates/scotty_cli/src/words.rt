@@ -1,6 +1,6 @@
 //! The words of the command line, those after the program's name: which command they are.
-ghost use Rattle.std.specs.Prelude.{◌≡◌, ◌≤◌, ◌↔◌, ℕ, List, map, decimal, string_bytes, All, IsTrue, IfSome, IfNone};
-ghost use Rattle.scotty_cli.specs.Words.{AreSources, IsMade, IsMadeOf, IsName, IsNumberWithin, IsRun, IsRunOf, IsRunWord, IsWay, Made, Run, made_of, run_of, run_word, way_word};
+ghost use Rattle.std.specs.Prelude.{◌≡◌, ◌≤◌, ◌↔◌, ◌⊎◌, ℕ, List, map, decimal, string_bytes, All, IsTrue, IfSome, IfNone};
+ghost use Rattle.scotty_cli.specs.Words.{AreSources, Check, IsCheck, IsCheckOf, IsMade, IsMadeOf, IsName, IsNumberWithin, IsRun, IsRunOf, IsRunWord, IsWay, Made, Run, check_of, made_of, run_of, run_word, way_word};
 
 use crate::way::Way;
 use emission_text::ReportForm;
@@ -25,6 +25,16 @@ pub struct MadeWords {
     pub sources: u16,
     pub shards: u16,
     pub way: Way,
+}
+
+/// A check of a report: the name of the definitions, how many shards there are, the name of the
+/// report, and the names of the sources.
+#[derive(Clone, Copy)]
+pub struct CheckWords<'a> {
+    pub defs: &'a str,
+    pub shards: u16,
+    pub report: &'a str,
+    pub sources: &'a [String],
 }
 
 /// The run of these words, if they are those of one: `run DEFS SHARDS FEED SOURCE..`, or the same
@@ -85,13 +95,43 @@ pub fn made_of(words: &[String]) -> Option<MadeWords>
     }
 }
 
+/// The check of these words, if they are those of one: `check DEFS SHARDS REPORT SOURCE..`, with 1 to
+/// 16 shards and sources.
+pub fn check_of(words: &[String]) -> Option<CheckWords<'_>>
+    ensures found { IfSome result (λ c. IsCheckOf (map string_bytes words.now)
+        (check_of c.defs.now c.shards c.report.now (map string_bytes c.sources.now))) }
+    ensures none { IfNone result (¬ (IsCheck (map string_bytes words.now))) }
+{
+    match words {
+        [check, defs, shards, report, sources @ ..] => {
+            let shards = number_within(shards.as_str(), 1, 16)?;
+            let named = is_name(defs.as_str()) && is_name(report.as_str());
+            if says(check.as_str(), "check") && named && are_sources(sources) {
+                Some(CheckWords {
+                    defs: defs.as_str(),
+                    shards: shards as u16,
+                    report: report.as_str(),
+                    sources,
+                })
+            } else {
+                None
+            }
+        }
+        _ => None,
+    }
+}
+
 /// Words are those of one command at most.
 pub fn commands_are_told_apart_by_their_words()
     ensures one_run { (words : List (List ℕ)) (run other : Run) → IsRunOf words run
         → IsRunOf words other → run ≡ other }
     ensures one_made { (words : List (List ℕ)) (m other : Made) → IsMadeOf words m
         → IsMadeOf words other → m ≡ other }
+    ensures one_check { (words : List (List ℕ)) (c other : Check) → IsCheckOf words c
+        → IsCheckOf words other → c ≡ other }
     ensures apart { (words : List (List ℕ)) → IsRun words → ¬ (IsMade words) }
+    ensures apart_from_checks { (words : List (List ℕ)) → IsCheck words
+        → ¬ (IsRun words ⊎ IsMade words) }
 {}
 
 // The form that the first word of a run tells.

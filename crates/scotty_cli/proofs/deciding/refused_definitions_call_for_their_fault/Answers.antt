@@ -1,4 +1,4 @@
-use Rattle.std.proofs.Common.{◌≡◌, ap, ◌∙◌}
+use Rattle.std.proofs.Common.{ap, ◌∙◌}
 use Rattle.std.specs.Option.{option_map_or}
 use Rattle.window_defs.specs.Reading.{reading_of}
 use Rattle.scotty_cli.specs.Called.{by_defs, unknown}

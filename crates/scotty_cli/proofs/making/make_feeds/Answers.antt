@@ -1,5 +1,5 @@
 -- One feed more.
-use Rattle.std.proofs.Common.{◌≡◌, ◌∙◌, List, [], ◌∷◌, length, length-append, ap, arith, sym, subst}
+use Rattle.std.proofs.Common.{◌∙◌, [], ◌∷◌, length, length-append, ap, arith, sym, subst}
 use Rattle.scotty_cli.specs.Making.{AreMadeFeeds}
 use Rattle.scotty_cli.proofs.Makings.{made_more}
 use Rattle.scotty_cli.proofs.making.make_feeds.Goals as goal

@@ -1,5 +1,5 @@
 -- The feeds of the first sources.
-use Rattle.std.proofs.Common.{◌≡◌, ◌≤◌, length}
+use Rattle.std.proofs.Common.{◌≡◌, length}
 use Rattle.std.specs.Vec.{vec_capacity}
 use Rattle.scotty_cli.specs.Making.{AreMadeFeeds}
 use Rattle.scotty_cli.proofs.making.make_feeds.Given as goal

@@ -1,5 +1,6 @@
--- The last feeds are given back.
-use Rattle.std.proofs.Common.{◌≡◌, ◌≤◌, ◌+◌, ℕ, List, length, vec_len}
+-- The last feeds are given back, and the count of failed reads rose where one of them had failed.
+use Rattle.std.proofs.Common.{◌≡◌, ◌≤◌, ◌<◌, ◌+◌, ℕ, List, length, slice_index_or, vec_len}
+use Rattle.stream_base.specs.Outside.{Rose}
 use Rattle.scotty_cli.proofs.opening.close_feeds.Given as goal
 
 abbrev pub invariant-loop-feed : goal.invariant-loop-feed
@@ -8,6 +9,9 @@ invariant-loop-feed g l = let f = g.F.Files in record {
   opens : f.failed_opens l.files ≡ f.failed_opens l.initial.files;
   reads : f.failed_reads l.initial.files ≤ f.failed_reads l.files;
   same : (which : List ℕ) → f.told l.files which ≡ f.told l.initial.files which;
+  front : (i : ℕ) (e : _) → i < length l.feeds.items → slice_index_or l.feeds.items i e ≡ slice_index_or l.initial.feeds.items i e;
+  failed : (i : ℕ) (e : _) → length l.feeds.items ≤ i → i < length l.initial.feeds.items → 0 < g.F.Input.Source.faults (slice_index_or l.initial.feeds.items i e).from
+      → Rose (f.failed_reads l.initial.files) (f.failed_reads l.files);
 }
 
 abbrev pub decreases-loop-feed : goal.decreases-loop-feed

@@ -1,4 +1,4 @@
-use Rattle.scotty_cli.proofs.WordFacts.{one_made, one_run, runs_are_not_made}
+use Rattle.scotty_cli.proofs.WordFacts.{checks_are_no_others, one_check, one_made, one_run, runs_are_not_made}
 use Rattle.scotty_cli.proofs.words.commands_are_told_apart_by_their_words.Goals as goal
 
 pub returns-clause-one_run : goal.returns-clause-one_run
@@ -9,3 +9,9 @@ returns-clause-one_made c = one_made
 
 pub returns-clause-apart : goal.returns-clause-apart
 returns-clause-apart c = runs_are_not_made
+
+pub returns-clause-one_check : goal.returns-clause-one_check
+returns-clause-one_check c = one_check
+
+pub returns-clause-apart_from_checks : goal.returns-clause-apart_from_checks
+returns-clause-apart_from_checks c = checks_are_no_others

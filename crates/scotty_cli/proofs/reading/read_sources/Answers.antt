@@ -1,0 +1,33 @@
+-- The sources are opened, read one after another, and given back.
+use Rattle.std.proofs.Common.{◌≡◌, ◌∙◌, length, map, string_bytes, refl, sym}
+use Rattle.std.proofs.lemmas.List.{length-map}
+use Rattle.report_check.specs.Findings.{lists_of}
+use Rattle.scotty_cli.specs.Called.{reading_run}
+use Rattle.scotty_cli.specs.Outside.{counts_of}
+use Rattle.scotty_cli.specs.Words.{check_of}
+use Rattle.scotty_cli.proofs.Draining.{fresh, read_of, stops_of}
+use Rattle.scotty_cli.proofs.Opened.{rose_since}
+use Rattle.scotty_cli.proofs.reading.read_sources.Goals as goal
+
+pub drain_all-read-requires-clause-fresh : goal.drain_all-read-requires-clause-fresh
+drain_all-read-requires-clause-fresh g c =
+    fresh g.F.Input.Source.rest g.F.Input.Source.faults (g.F.Files.told c.args.files.now) (map string_bytes c.args.command.now.sources.now) c.args.defs.now c.in-Ok.feeds.items c.in-Ok.ensures.unread
+
+pub returns-in-Ok-clause-ok : goal.returns-in-Ok-clause-ok
+returns-in-Ok-clause-ok g c =
+    let names = map string_bytes c.args.command.now.sources.now in
+    let size : length names ≡ length c.args.command.now.sources.now = length-map c.args.command.now.sources.now string_bytes in
+    read_of g.F.Input.Source.rest g.F.Input.Source.faults (g.F.Files.told c.args.files.now) names c.args.defs.now c.in-Ok.feeds.items c.in-Ok.ensures.unread
+    (λ v. lists_of v.items) (λ v. length v.items) c.drain_all-read.result (λ v. sym (length-map v.items (λ e. e.items))) (c.in-Ok.ensures.many ∙ sym size) c.drain_all-read.ensures.whole c.drain_all-read.ensures.drained
+
+pub returns-in-Ok-clause-stopped : goal.returns-in-Ok-clause-stopped
+returns-in-Ok-clause-stopped g c =
+    let f = g.F.Files in
+    let names = map string_bytes c.args.command.now.sources.now in
+    let size : length names ≡ length c.args.command.now.sources.now = length-map c.args.command.now.sources.now string_bytes in
+    let run = reading_run (check_of c.args.command.now.defs.now c.args.command.now.shards c.args.command.now.report.now names) in
+    let counts = counts_of f.failed_opens f.failed_reads c.args.files.now c.close_feeds.new.files in
+    stops_of g.F.Input.Source.rest g.F.Input.Source.faults (f.told c.args.files.now) names c.args.defs.now c.in-Ok.feeds.items c.in-Ok.ensures.unread run counts c.drain_all-read.new.feeds.items refl
+    (c.in-Ok.ensures.many ∙ sym size) c.drain_all-read.ensures.many
+    (λ i x l some. rose_since counts.reads.before (f.failed_reads c.open_sources.new.files) counts.reads.after c.open_sources.ensures.reads (c.close_feeds.ensures.failed i x l some))
+    c.drain_all-read.result c.drain_all-read.ensures.trouble
