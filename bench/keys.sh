@@ -6,7 +6,7 @@ set -eu
 
 top=$(cd "$(dirname "$0")/.." && pwd)
 program="$top/crates/scotty_cli/out/scotty_cli"
-[ -x "$program" ] || { echo "keys: build the program first, by bin/scotty" >&2; exit 70; }
+[ -x "$program" ] || { echo "keys: build the program first, by bin/prove" >&2; exit 70; }
 
 folder=$(mktemp -d)
 trap 'rm -rf "$folder"' EXIT
