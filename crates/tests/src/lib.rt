@@ -11,7 +11,6 @@ mod contexts;
 #[cfg(test)]
 mod counts;
 #[cfg(test)]
-mod lanes;
 #[cfg(test)]
 mod queues;
 #[cfg(test)]
