@@ -66,6 +66,8 @@ impl<'a> Files for MemFiles<'a> {
 
     ghost told = { λ s name. bytes_under s.files name };
 
+    ghost may_open = { λ _ _. Unit {0} };
+
     ghost failed_opens = { λ s. s.failed_opens };
 
     ghost failed_reads = { λ s. s.failed_reads };

@@ -1,2 +1,1 @@
 pub mod Draining
-pub mod ContextFacts

@@ -1,22 +1,7 @@
-//! Tests of the crates without threads through their public calls: worked cases whose answers were
-//! worked out by hand, the tables of what is accepted and refused, and each generic item once at a
-//! type. They stand in a crate of their own, since a crate with tests is proved twice.
+//! Tests of definitions, sources, keys and shards through the public calls of their crates: worked
+//! cases whose answers were worked out by hand, and the tables of what is accepted and refused.
+//! They stand in a crate of their own, since a crate with tests is proved twice.
 #![tactic(auto)]
-
-// Aggregates and their structures.
-#[cfg(test)]
-mod aggregates;
-#[cfg(test)]
-mod contexts;
-#[cfg(test)]
-mod counts;
-#[cfg(test)]
-#[cfg(test)]
-mod queues;
-#[cfg(test)]
-mod slices;
-#[cfg(test)]
-mod trees;
 
 // Definitions files.
 #[cfg(test)]

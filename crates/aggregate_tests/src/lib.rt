@@ -1,0 +1,11 @@
+//! Tests of partial aggregates and their structures through their public calls: worked cases whose
+//! answers were worked out by hand, bounds on steps, and each generic item once at a type. They
+//! stand in a crate of their own, since a crate with tests is proved twice.
+#![tactic(auto)]
+
+#[cfg(test)]
+mod aggregates;
+#[cfg(test)]
+mod queues;
+#[cfg(test)]
+mod trees;
