@@ -1,0 +1,48 @@
+-- What a part of a key meets at each call: for which lists it stands, and what became of the store.
+use Rattle.std.specs.Prelude.{◌≡◌, ◌≤◌, ℕ}
+use Rattle.std.specs.List.{slice_index_or}
+use Rattle.stream_base.specs.Limits.{Definitions}
+use Rattle.stream_base.specs.declared.def.Def.{Def}
+use Rattle.stream_base.specs.declared.func.Func.TheVariants.{Count}
+use Rattle.stream_base.specs.declared.kept.Kept.{Kept}
+use Rattle.stream_base.specs.declared.kind.Kind.TheVariants.{Marks}
+use Rattle.stream_base.specs.Model.Changes.{Moment}
+use Rattle.slice_store.specs.Stored.{IsStore, Stored}
+use Rattle.key_parts.specs.Held.{IsHeld}
+use Rattle.key_parts.specs.Moves.{AreLists, IsMarkStep, IsPurge, IsPutStep}
+
+-- the window at a place of the definitions
+abbrev pub window_at : Definitions → ℕ → Def
+window_at d window = slice_index_or d.windows window (record { kind = Marks; func = Count })
+
+-- for the window at a place a part stands for what is known of a key, of which the store lacks so many first tuples
+abbrev pub Standing : Type 0 → Type 1
+Standing P = Definitions → ℕ → Moment → ℕ → Stored → P → Type 0
+
+module _ {P : Type 0} (stands : Standing P) (d : Definitions) (window : ℕ) where
+  -- a part stands for a key at a watermark, of which the store holds what may not leave
+  pub record StandsAt (water : ℕ) (s : Stored) (part : P) (m : Moment) (n : ℕ) : Type 0 where
+    pub water_is : m.water ≡ water
+    pub lists : (next : ℕ) × AreLists m next
+    pub store : IsStore s
+    pub held : IsHeld d m n s
+    pub stood : stands d window m n s part
+
+  -- a tuple comes to a part that has kept what the tuple changes
+  pub record TakesTuple (is_asked : Definitions → ℕ → Moment → ℕ → P → Type 0) (water : ℕ) (x : Kept) (after : Stored) (part : P) (m : Moment) (n : ℕ) (before : Stored) (more : ℕ) : Type 0 where
+    pub water_is : m.water ≡ water
+    pub step : IsPutStep d m n before x more after
+    pub stood : stands d window m n before part
+    pub asked : is_asked d window m x.time part
+
+  -- a mark comes to a part
+  pub record TakesMark (water time : ℕ) (after : Stored) (part : P) (m : Moment) (n : ℕ) (before : Stored) : Type 0 where
+    pub water_is : m.water ≡ water
+    pub step : IsMarkStep d m n before time after
+    pub stood : stands d window m n before part
+
+  -- settled slices have left the store
+  pub record LosesSettled (water time : ℕ) (part : P) (m : Moment) (n : ℕ) (before : Stored) (more : ℕ) (after : Stored) : Type 0 where
+    pub water_is : m.water ≡ water
+    pub purge : IsPurge d m n before time more after
+    pub stood : stands d window m n before part

@@ -1,0 +1,277 @@
+//! What the part of one window in the state of a key promises.
+ghost use Rattle.std.specs.Prelude.{◌≡◌, ◌≤◌, ◌<◌, ◌+◌, ◌-◌, ◌++◌, [], ℕ, List, length, IfOk, OnOk, vec_len, vec_capacity};
+ghost use Rattle.stream_base.specs.declared.limits.TheConstants.{TIME_MAX};
+ghost use Rattle.stream_base.specs.Laws.{completions};
+ghost use Rattle.stream_base.specs.Model.Changes.{Moment, emissions, retractions};
+ghost use Rattle.window_laws.specs.After.{at_water, with_mark, with_tuple};
+ghost use Rattle.window_laws.specs.Settled.{without_first};
+ghost use Rattle.slice_store.specs.Stored.{Stored};
+ghost use Rattle.key_windows.specs.Calls.{IsWater, kept_at, moment};
+ghost use Rattle.key_parts.specs.Calls.{LosesSettled, StandsAt, TakesMark, TakesTuple, window_at};
+ghost use Rattle.key_parts.specs.Moves.{SettlesUpTo};
+
+use agg_laws::{AggTree, Bundle, Steps};
+use slice_store::SliceStore;
+use std::alloc::Global;
+use stream_base::{Change, Defs, KeyText, NoMemory};
+
+/// The part of one window in the state of a key. The tuples lie in the store of slices that all parts
+/// of a key share, which takes a tuple or a mark in before the parts do. `put`, `mark` and `water`
+/// append exactly the window's changes, retractions first; a call that makes room comes before each
+/// of them, with the same arguments, and answers for how many changes to have room.
+///
+/// The definitions and the window that a call is handed are those of every call before it. A clause
+/// that speaks of what is known of the key holds for all that the part stands for.
+pub trait KeyPart: Drop {
+    ghost use Rattle.std.specs.Prelude.{ℕ};
+    ghost use Rattle.stream_base.specs.Limits.{Definitions};
+    ghost use Rattle.stream_base.specs.Model.Changes.{Moment};
+    ghost use Rattle.slice_store.specs.Stored.{Stored};
+
+    /// For the window at a place of the definitions it stands for what is known of a key, of which
+    /// this store lacks so many first tuples.
+    ghost stands: { Definitions → ℕ → Moment → ℕ → Stored → Self → Type 0 };
+
+    /// It has kept what stands of the instances that a tuple at a time changes.
+    ghost is_asked: { Definitions → ℕ → Moment → ℕ → Self → Type 0 };
+
+    /// It has room for a tuple or a mark at a time under a watermark.
+    ghost is_ready: { Definitions → ℕ → ℕ → ℕ → Self → Type 0 };
+
+    /// How many changes a tuple at a time appends at most under a watermark.
+    ghost put_room: { Definitions → ℕ → ℕ → ℕ → Self → ℕ };
+
+    /// How many changes a mark at a time appends at most under a watermark.
+    ghost mark_room: { Definitions → ℕ → ℕ → ℕ → Self → ℕ };
+
+    /// It has room for a move from one watermark to another, with this store.
+    ghost can_move: { Definitions → ℕ → Stored → ℕ → ℕ → Self → Type 0 };
+
+    /// How many changes that move appends at most.
+    ghost move_room: { Definitions → ℕ → Stored → ℕ → ℕ → Self → ℕ };
+
+    /// Before this time tuples are settled in the window at a watermark, and from it on they aren't.
+    ghost settles_at: { Definitions → ℕ → ℕ → Self → ℕ };
+
+    /// No tuple and no mark yet.
+    fn fresh(alloc: Global, defs: &Defs, window: u32) -> Self
+        requires { window < length (defs.now).windows }
+        ensures { (water : ℕ) (s : Stored) → s.slices ≡ []
+            → stands defs.now window (moment [] [] water) 0 s result };
+
+    /// Makes room for a tuple at a time, and answers for how many changes.
+    fn reserve_put(
+        &mut self,
+        defs: &Defs,
+        window: u32,
+        time: u64,
+        water: u64,
+    ) -> Result<u64, NoMemory>
+        requires stands { (m : Moment) × (n : ℕ) × (s : Stored)
+            × StandsAt stands defs.now window water s self.old m n }
+        requires time { time ≤ TIME_MAX }
+        requires water { IsWater water }
+        ensures stays { (m : Moment) (n : ℕ) (s : Stored) → stands defs.now window m n s self.old
+            → stands defs.now window m n s self.new }
+        ensures ready { OnOk result (is_ready defs.now window time water self.new) }
+        ensures room { IfOk result (λ k. k ≡ put_room defs.now window time water self.new) };
+
+    /// Keeps what stands of the instances that a tuple at a time changes. It is called before the
+    /// store takes the tuple in.
+    fn before<T: AggTree<Bundle>, L>(
+        &mut self,
+        defs: &Defs,
+        window: u32,
+        store: &SliceStore<T>,
+        time: u64,
+        water: u64,
+        steps: &mut Steps<L>,
+    )
+        requires stands { (m : Moment) × (n : ℕ)
+            × StandsAt stands defs.now window water store.now self.old m n }
+        requires time { time ≤ TIME_MAX }
+        requires water { IsWater water }
+        requires in_time { water ≤ time + (defs.now).lateness }
+        requires ready { is_ready defs.now window time water self.old }
+        ensures stays { (m : Moment) (n : ℕ) (s : Stored) → stands defs.now window m n s self.old
+            → stands defs.now window m n s self.new }
+        ensures asked { (m : Moment) (n : ℕ)
+            → StandsAt stands defs.now window water store.now self.old m n
+            → is_asked defs.now window m time self.new }
+        ensures ready { is_ready defs.now window time water self.new }
+        ensures room { put_room defs.now window time water self.new
+            ≡ put_room defs.now window time water self.old };
+
+    /// Takes in a tuple that the store has taken in, or that is settled at once where each window
+    /// counts events.
+    fn put<T: AggTree<Bundle>, L>(
+        &mut self,
+        defs: &Defs,
+        window: u32,
+        store: &SliceStore<T>,
+        key: &KeyText,
+        pos: u64,
+        time: u64,
+        value: i64,
+        water: u64,
+        out: &mut Vec<Change>,
+        steps: &mut Steps<L>,
+    )
+        requires takes { (m : Moment) × (n : ℕ) × (before : Stored) × (more : ℕ)
+            × TakesTuple stands defs.now window is_asked water (kept_at pos time value) store.now
+            self.old m n before more }
+        requires water { IsWater water }
+        requires ready { is_ready defs.now window time water self.old }
+        requires spare { put_room defs.now window time water self.old
+            ≤ vec_capacity out.old - vec_len out.old }
+        ensures stands { (m : Moment) (n : ℕ) (before : Stored) (more : ℕ)
+            → TakesTuple stands defs.now window is_asked water (kept_at pos time value) store.now
+            self.old m n before more
+            → stands defs.now window (with_tuple m (kept_at pos time value)) more store.now self.new }
+        ensures changes { (m : Moment) (n : ℕ) (before : Stored) (more : ℕ)
+            → TakesTuple stands defs.now window is_asked water (kept_at pos time value) store.now
+            self.old m n before more → out.new.items ≡ out.old.items
+            ++ (retractions key.now m (with_tuple m (kept_at pos time value))
+            (window, window_at defs.now window)
+            ++ emissions key.now m (with_tuple m (kept_at pos time value))
+            (window, window_at defs.now window)) }
+        ensures room { vec_len out.new
+            ≤ vec_len out.old + put_room defs.now window time water self.old }
+        ensures capacity { vec_capacity out.new ≡ vec_capacity out.old };
+
+    /// Makes room for a mark at a time, and answers for how many changes.
+    fn reserve_mark(
+        &mut self,
+        defs: &Defs,
+        window: u32,
+        time: u64,
+        water: u64,
+    ) -> Result<u64, NoMemory>
+        requires stands { (m : Moment) × (n : ℕ) × (s : Stored)
+            × StandsAt stands defs.now window water s self.old m n }
+        requires time { time ≤ TIME_MAX }
+        requires water { IsWater water }
+        ensures stays { (m : Moment) (n : ℕ) (s : Stored) → stands defs.now window m n s self.old
+            → stands defs.now window m n s self.new }
+        ensures ready { OnOk result (is_ready defs.now window time water self.new) }
+        ensures room { IfOk result (λ k. k ≡ mark_room defs.now window time water self.new) };
+
+    /// Takes in a mark that the store has taken in.
+    fn mark<T: AggTree<Bundle>, L>(
+        &mut self,
+        defs: &Defs,
+        window: u32,
+        store: &SliceStore<T>,
+        key: &KeyText,
+        time: u64,
+        water: u64,
+        out: &mut Vec<Change>,
+        steps: &mut Steps<L>,
+    )
+        requires takes { (m : Moment) × (n : ℕ) × (before : Stored)
+            × TakesMark stands defs.now window water time store.now self.old m n before }
+        requires water { IsWater water }
+        requires ready { is_ready defs.now window time water self.old }
+        requires spare { mark_room defs.now window time water self.old
+            ≤ vec_capacity out.old - vec_len out.old }
+        ensures stands { (m : Moment) (n : ℕ) (before : Stored)
+            → TakesMark stands defs.now window water time store.now self.old m n before
+            → stands defs.now window (with_mark m time) n store.now self.new }
+        ensures changes { (m : Moment) (n : ℕ) (before : Stored)
+            → TakesMark stands defs.now window water time store.now self.old m n before
+            → out.new.items ≡ out.old.items
+            ++ (retractions key.now m (with_mark m time) (window, window_at defs.now window)
+            ++ emissions key.now m (with_mark m time) (window, window_at defs.now window)) }
+        ensures room { vec_len out.new
+            ≤ vec_len out.old + mark_room defs.now window time water self.old }
+        ensures capacity { vec_capacity out.new ≡ vec_capacity out.old };
+
+    /// Makes room for a move of the watermark, and answers for how many changes.
+    fn reserve_water<T: AggTree<Bundle>>(
+        &mut self,
+        defs: &Defs,
+        window: u32,
+        store: &SliceStore<T>,
+        old: u64,
+        new: u64,
+    ) -> Result<u64, NoMemory>
+        requires stands { (m : Moment) × (n : ℕ)
+            × StandsAt stands defs.now window old store.now self.old m n }
+        requires rises { old ≤ new }
+        requires old { IsWater old }
+        requires new { IsWater new }
+        ensures stays { (m : Moment) (n : ℕ) (s : Stored) → stands defs.now window m n s self.old
+            → stands defs.now window m n s self.new }
+        ensures ready { OnOk result (can_move defs.now window store.now old new self.new) }
+        ensures room { IfOk result
+            (λ k. k ≡ move_room defs.now window store.now old new self.new) };
+
+    /// Takes in a move of the watermark, and appends the instances that it completes.
+    fn water<T: AggTree<Bundle>, L>(
+        &mut self,
+        defs: &Defs,
+        window: u32,
+        store: &SliceStore<T>,
+        key: &KeyText,
+        old: u64,
+        new: u64,
+        out: &mut Vec<Change>,
+        steps: &mut Steps<L>,
+    )
+        requires stands { (m : Moment) × (n : ℕ)
+            × StandsAt stands defs.now window old store.now self.old m n }
+        requires rises { old ≤ new }
+        requires old { IsWater old }
+        requires new { IsWater new }
+        requires ready { can_move defs.now window store.now old new self.old }
+        requires spare { move_room defs.now window store.now old new self.old
+            ≤ vec_capacity out.old - vec_len out.old }
+        ensures stands { (m : Moment) (n : ℕ)
+            → StandsAt stands defs.now window old store.now self.old m n
+            → stands defs.now window (at_water m new) n store.now self.new }
+        ensures changes { (m : Moment) (n : ℕ)
+            → StandsAt stands defs.now window old store.now self.old m n
+            → out.new.items ≡ out.old.items
+            ++ completions key.now m new (window, window_at defs.now window) }
+        ensures room { vec_len out.new
+            ≤ vec_len out.old + move_room defs.now window store.now old new self.old }
+        ensures capacity { vec_capacity out.new ≡ vec_capacity out.old };
+
+    /// A watermark up to which, without it, nothing becomes complete: a move to below it changes
+    /// nothing.
+    fn next_due<T: AggTree<Bundle>>(
+        &self,
+        defs: &Defs,
+        window: u32,
+        store: &SliceStore<T>,
+        water: u64,
+    ) -> u64
+        requires stands { (m : Moment) × (n : ℕ)
+            × StandsAt stands defs.now window water store.now self.now m n }
+        requires water { IsWater water }
+        ensures { (key : List ℕ) (m : Moment) (n new : ℕ)
+            → StandsAt stands defs.now window water store.now self.now m n
+            → water ≤ new → new < result
+            → completions key m new (window, window_at defs.now window) ≡ [] };
+
+    /// From which time on tuples aren't settled in the window under a watermark, its own or a later
+    /// one; later than any time where all are.
+    fn first_unsettled(&self, defs: &Defs, window: u32, water: u64) -> u64
+        requires stands { (m : Moment) × (n : ℕ) × (s : Stored) × (w : ℕ)
+            × StandsAt stands defs.now window w s self.now m n × (w ≤ water) }
+        requires water { IsWater water }
+        ensures value { result ≡ settles_at defs.now window water self.now }
+        ensures settles { (m : Moment) (n : ℕ) (s : Stored) (w : ℕ) → w ≤ water
+            → StandsAt stands defs.now window w s self.now m n
+            → SettlesUpTo (defs.now).lateness (at_water (without_first n m) water)
+            (window_at defs.now window) result };
+
+    /// Forgets what has ended by the watermark minus the lateness, where settled slices have left
+    /// the store.
+    fn drop_settled(&mut self, defs: &Defs, window: u32, water: u64)
+        requires { window < length (defs.now).windows }
+        ensures { (m : Moment) (n time : ℕ) (before : Stored) (more : ℕ) (after : Stored)
+            → LosesSettled stands defs.now window water time self.old m n before more after
+            → time ≤ settles_at defs.now window water self.old
+            → stands defs.now window m more after self.new };
+}

@@ -1,0 +1,185 @@
+//! What an engine for the windows of one key promises.
+ghost use Rattle.std.specs.Prelude.{◌≡◌, ◌≤◌, ◌<◌, ◌+◌, ◌-◌, ◌++◌, [], ℕ, List, length, IfOk, OnErr, vec_len, vec_capacity};
+ghost use Rattle.std.specs.BTreeSet.{insert_key};
+ghost use Rattle.std.specs.Ordering.{nat_cmp};
+ghost use Rattle.stream_base.specs.declared.kept.Kept.{Kept};
+ghost use Rattle.stream_base.specs.declared.limits.TheConstants.{JOURNAL_MAX, TIME_MAX};
+ghost use Rattle.stream_base.specs.Model.Journal.{put_in_order};
+ghost use Rattle.stream_base.specs.Model.Slices.{runs_of, unsettled};
+ghost use Rattle.key_windows.specs.Calls.{IsWater, changes_by_mark, changes_by_move, changes_by_put, kept_at, moment};
+ghost use Rattle.key_windows.specs.Calls.Call.{Put, Mark, Move};
+
+use agg_laws::Steps;
+use std::alloc::Global;
+use stream_base::{Change, Defs, KeyText, NoMemory};
+
+/// The windows of one key. `put`, `mark` and `water` append exactly the key's changes: retractions
+/// first, then emissions and updates, each by window, start and end. The call that makes room comes
+/// before each of them, with the same arguments, and answers how many changes to have room for.
+///
+/// Contracts say for which lists the state stands (`fits`): what is kept of the key in event order, and
+/// its marks, under a watermark. A clause that speaks of lists holds for all that it fits.
+pub trait KeyWindows: Drop {
+    ghost use Rattle.std.specs.Prelude.{ℕ, List};
+    ghost use Rattle.stream_base.specs.declared.kept.Kept.{Kept};
+    ghost use Rattle.stream_base.specs.Limits.{Definitions};
+    ghost use Rattle.key_windows.specs.Calls.{Call};
+
+    /// The key.
+    ghost key_of: { Self → List ℕ };
+
+    /// It stands for these tuples and marks under a watermark.
+    ghost fits: { Definitions → List Kept → List ℕ → ℕ → Self → Type 0 };
+
+    /// Under these definitions, room was made for this call.
+    ghost is_ready: { Definitions → Call → Self → Type 0 };
+
+    /// How many changes that call was said to need room for.
+    ghost promised: { Self → ℕ };
+
+    /// The positions of its tuples are below this one.
+    ghost next_position: { Self → ℕ };
+
+    /// No tuple and no mark yet.
+    fn fresh(alloc: Global, defs: &Defs, key: KeyText) -> Result<Self, NoMemory>
+        ensures key { IfOk result (λ state. key_of state ≡ key) }
+        ensures first { IfOk result (λ state. next_position state ≡ 0) }
+        ensures empty { (water : ℕ) → IfOk result (λ state. fits defs.now [] [] water state) };
+
+    /// Makes room for a tuple at a time.
+    fn reserve_put(&mut self, defs: &Defs, time: u64, water: u64) -> Result<u64, NoMemory>
+        requires stands { (kept : List Kept) × (marks : List ℕ)
+            × fits defs.now kept marks water self.old }
+        requires time { time ≤ TIME_MAX }
+        requires water { IsWater water }
+        ensures key { key_of self.new ≡ key_of self.old }
+        ensures next { next_position self.new ≡ next_position self.old }
+        ensures stays { (kept : List Kept) (marks : List ℕ) (w : ℕ)
+            → fits defs.now kept marks w self.old → fits defs.now kept marks w self.new }
+        ensures ready { IfOk result (λ n. is_ready defs.now (Put time water) self.new) }
+        ensures promised { IfOk result (λ n. promised self.new ≡ n) };
+
+    /// Takes in an accepted tuple.
+    fn put<L>(
+        &mut self,
+        defs: &Defs,
+        pos: u64,
+        time: u64,
+        value: i64,
+        water: u64,
+        out: &mut Vec<Change>,
+        steps: &mut Steps<L>,
+    )
+        requires stands { (kept : List Kept) × (marks : List ℕ)
+            × fits defs.now kept marks water self.old }
+        requires time { time ≤ TIME_MAX }
+        requires position { next_position self.old ≤ pos }
+        requires few { pos < JOURNAL_MAX }
+        requires accepted { water ≤ time + (defs.now).lateness }
+        requires ready { is_ready defs.now (Put time water) self.old }
+        requires spare { promised self.old ≤ vec_capacity out.old - vec_len out.old }
+        ensures key { key_of self.new ≡ key_of self.old }
+        ensures next { next_position self.new ≡ pos + 1 }
+        ensures fits { (kept : List Kept) (marks : List ℕ) → fits defs.now kept marks water self.old
+            → fits defs.now (put_in_order kept (kept_at pos time value)) marks water self.new }
+        ensures changes { (kept : List Kept) (marks : List ℕ)
+            → fits defs.now kept marks water self.old → out.new.items
+            ≡ out.old.items ++ changes_by_put defs.now (key_of self.old) kept marks water
+            (kept_at pos time value) }
+        ensures capacity { vec_capacity out.new ≡ vec_capacity out.old };
+
+    /// Makes room for a mark at a time.
+    fn reserve_mark(&mut self, defs: &Defs, time: u64, water: u64) -> Result<u64, NoMemory>
+        requires stands { (kept : List Kept) × (marks : List ℕ)
+            × fits defs.now kept marks water self.old }
+        requires time { time ≤ TIME_MAX }
+        requires water { IsWater water }
+        ensures key { key_of self.new ≡ key_of self.old }
+        ensures next { next_position self.new ≡ next_position self.old }
+        ensures stays { (kept : List Kept) (marks : List ℕ) (w : ℕ)
+            → fits defs.now kept marks w self.old → fits defs.now kept marks w self.new }
+        ensures ready { IfOk result (λ n. is_ready defs.now (Mark time water) self.new) }
+        ensures promised { IfOk result (λ n. promised self.new ≡ n) };
+
+    /// Takes in an accepted mark.
+    fn mark<L>(
+        &mut self,
+        defs: &Defs,
+        time: u64,
+        water: u64,
+        out: &mut Vec<Change>,
+        steps: &mut Steps<L>,
+    )
+        requires stands { (kept : List Kept) × (marks : List ℕ)
+            × fits defs.now kept marks water self.old }
+        requires time { time ≤ TIME_MAX }
+        requires accepted { water ≤ time + (defs.now).lateness }
+        requires ready { is_ready defs.now (Mark time water) self.old }
+        requires spare { promised self.old ≤ vec_capacity out.old - vec_len out.old }
+        ensures key { key_of self.new ≡ key_of self.old }
+        ensures next { next_position self.new ≡ next_position self.old }
+        ensures fits { (kept : List Kept) (marks : List ℕ) → fits defs.now kept marks water self.old
+            → fits defs.now kept (insert_key nat_cmp marks time) water self.new }
+        ensures changes { (kept : List Kept) (marks : List ℕ)
+            → fits defs.now kept marks water self.old → out.new.items
+            ≡ out.old.items ++ changes_by_mark defs.now (key_of self.old) kept marks water time }
+        ensures capacity { vec_capacity out.new ≡ vec_capacity out.old };
+
+    /// Makes room for a move of the watermark.
+    fn reserve_water(&mut self, defs: &Defs, old: u64, new: u64) -> Result<u64, NoMemory>
+        requires stands { (kept : List Kept) × (marks : List ℕ)
+            × fits defs.now kept marks old self.old }
+        requires rises { old ≤ new }
+        requires water { IsWater new }
+        ensures key { key_of self.new ≡ key_of self.old }
+        ensures next { next_position self.new ≡ next_position self.old }
+        ensures stays { (kept : List Kept) (marks : List ℕ) (w : ℕ)
+            → fits defs.now kept marks w self.old → fits defs.now kept marks w self.new }
+        ensures ready { IfOk result (λ n. is_ready defs.now (Move old new) self.new) }
+        ensures promised { IfOk result (λ n. promised self.new ≡ n) };
+
+    /// Takes in a move of the watermark.
+    fn water<L>(
+        &mut self,
+        defs: &Defs,
+        old: u64,
+        new: u64,
+        out: &mut Vec<Change>,
+        steps: &mut Steps<L>,
+    )
+        requires stands { (kept : List Kept) × (marks : List ℕ)
+            × fits defs.now kept marks old self.old }
+        requires rises { old ≤ new }
+        requires water { IsWater new }
+        requires ready { is_ready defs.now (Move old new) self.old }
+        requires spare { promised self.old ≤ vec_capacity out.old - vec_len out.old }
+        ensures key { key_of self.new ≡ key_of self.old }
+        ensures next { next_position self.new ≡ next_position self.old }
+        ensures fits { (kept : List Kept) (marks : List ℕ)
+            → fits defs.now kept marks old self.old → fits defs.now kept marks new self.new }
+        ensures changes { (kept : List Kept) (marks : List ℕ)
+            → fits defs.now kept marks old self.old
+            → out.new.items ≡ out.old.items ++ changes_by_move defs.now
+            (key_of self.old) kept marks old new }
+        ensures room { vec_len out.new ≤ vec_len out.old + promised self.old }
+        ensures capacity { vec_capacity out.new ≡ vec_capacity out.old };
+
+    /// A watermark up to which, without it, nothing becomes complete: a move to below it changes nothing.
+    fn next_due(&self, defs: &Defs, water: u64) -> u64
+        requires stands { (kept : List Kept) × (marks : List ℕ)
+            × fits defs.now kept marks water self.now }
+        requires water { IsWater water }
+        ensures { (kept : List Kept) (marks : List ℕ) (new : ℕ)
+            → fits defs.now kept marks water self.now
+            → water ≤ new → new < result → changes_by_move defs.now
+            (key_of self.now) kept marks water new ≡ [] };
+
+    /// How many slices its unsettled tuples have under a watermark, its own or a later one.
+    fn slice_count(&self, defs: &Defs, water: u64) -> u64
+        requires stands { (kept : List Kept) × (marks : List ℕ) × (w : ℕ)
+            × fits defs.now kept marks w self.now × (w ≤ water) }
+        requires water { IsWater water }
+        ensures { (kept : List Kept) (marks : List ℕ) (w : ℕ) → fits defs.now kept marks w self.now
+            → w ≤ water → result ≡ length (runs_of (defs.now).windows marks
+            (unsettled defs.now (moment kept marks water))) };
+}
