@@ -28,6 +28,9 @@ pub trait KeyPart: Drop {
     ghost use Rattle.stream_base.specs.Model.Changes.{Moment};
     ghost use Rattle.slice_store.specs.Stored.{Stored};
 
+    /// The window at a place of the definitions is of the kind that it is for.
+    ghost is_for: { Definitions → ℕ → Type 0 };
+
     /// For the window at a place of the definitions it stands for what is known of a key, of which
     /// this store lacks so many first tuples.
     ghost stands: { Definitions → ℕ → Moment → ℕ → Stored → Self → Type 0 };
@@ -55,7 +58,8 @@ pub trait KeyPart: Drop {
 
     /// No tuple and no mark yet.
     fn fresh(alloc: Global, defs: &Defs, window: u32) -> Self
-        requires { window < length (defs.now).windows }
+        requires within { window < length (defs.now).windows }
+        requires kind { is_for defs.now window }
         ensures { (water : ℕ) (s : Stored) → s.slices ≡ []
             → stands defs.now window (moment [] [] water) 0 s result };
 
