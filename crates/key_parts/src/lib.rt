@@ -6,6 +6,8 @@
 //! only in the call that makes room.
 #![tactic(auto)]
 
+mod any_part;
 mod key_part;
 
+pub use any_part::AnyPart;
 pub use key_part::KeyPart;
