@@ -195,6 +195,14 @@ impl<T: AggTree<Bundle>> SliceStore<T> {
         }
     }
 
+    /// How many slices begin at a time or later.
+    pub fn count_from(&self, time: u64) -> u64
+        ensures { result ≡ length (slices_from time self.now.slices) }
+    {
+        let begun = self.runs.before(time);
+        (self.runs.len() - begun) as u64
+    }
+
     /// Drops the slices before a time, and the marks at or before it other than the greatest of
     /// them. No slice has tuples on both sides of the time.
     pub fn drop_settled<L>(&mut self, time: u64, steps: &mut Steps<L>)
