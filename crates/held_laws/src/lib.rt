@@ -1,0 +1,12 @@
+//! Laws of what the store of a key holds of the key, over plain lists: which calls go on to hold it,
+//! which tuples may leave, and how many slices of unsettled tuples there are.
+//!
+//! *Stands on* the definitions of `stream_base`, `slice_store` and `key_parts`, and on the laws of
+//! windows. *Promise*: each law is the contract of a function that does nothing, and asks nothing of
+//! a key and its store that a key's don't meet.
+//!
+//! - `holding`: the store of a fresh key holds it, and goes on to do so where a tuple or a mark comes
+//!   and where the watermark moves.
+#![tactic(auto)]
+
+pub mod holding;
