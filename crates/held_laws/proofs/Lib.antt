@@ -1,1 +1,4 @@
 pub mod HoldFacts
+pub mod AlikeFacts
+pub mod SliceFacts
+pub mod PurgeFacts

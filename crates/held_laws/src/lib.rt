@@ -7,6 +7,11 @@
 //!
 //! - `holding`: the store of a fresh key holds it, and goes on to do so where a tuple or a mark comes
 //!   and where the watermark moves.
+//! - `purging`: its slices are those of the key and part where tuples cease to be settled, and where
+//!   settled ones are dropped it goes on to hold the key.
+//! - `settling`: settled tuples that left change nothing of which others are settled.
 #![tactic(auto)]
 
 pub mod holding;
+pub mod purging;
+pub mod settling;
