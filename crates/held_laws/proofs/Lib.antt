@@ -2,3 +2,5 @@ pub mod HoldFacts
 pub mod AlikeFacts
 pub mod SliceFacts
 pub mod PurgeFacts
+pub mod SettleFacts
+pub mod CountFacts

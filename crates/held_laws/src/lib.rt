@@ -9,9 +9,12 @@
 //!   and where the watermark moves.
 //! - `purging`: its slices are those of the key and part where tuples cease to be settled, and where
 //!   settled ones are dropped it goes on to hold the key.
-//! - `settling`: settled tuples that left change nothing of which others are settled.
+//! - `settling`: settled tuples that left change nothing of which others are settled, and these are
+//!   settled up to the least of the times of the windows and the watermark minus the lateness.
+//! - `counting`: the slices of unsettled tuples are the last slices of the store.
 #![tactic(auto)]
 
+pub mod counting;
 pub mod holding;
 pub mod purging;
 pub mod settling;

@@ -1,0 +1,25 @@
+//! How many slices of a key have unsettled tuples.
+ghost use Rattle.std.specs.Prelude.{◌≡◌, ◌≤◌, [], ℕ};
+ghost use Rattle.stream_base.specs.Limits.{Definitions};
+ghost use Rattle.stream_base.specs.Model.Changes.{Moment};
+ghost use Rattle.stream_base.specs.Model.Slices.{runs_of, unsettled};
+ghost use Rattle.window_laws.specs.After.{at_water};
+ghost use Rattle.window_laws.specs.Settled.{without_first};
+ghost use Rattle.slice_store.specs.Entered.{slices_from};
+ghost use Rattle.slice_store.specs.Stored.{IsStore, Stored};
+ghost use Rattle.key_parts.specs.Held.{IsHeld};
+ghost use Rattle.key_parts.specs.Moves.{all_count_events};
+ghost use Rattle.held_laws.specs.Settling.{IsSettledUpTo};
+
+/// The slices of a key's unsettled tuples at its watermark or a later one are those slices of the
+/// store that begin at or behind the time up to which tuples are settled then. Where each window
+/// counts events there are none.
+pub fn unsettled_slices_are_the_last_of_the_store()
+    ensures last { (d : Definitions) (m : Moment) (n water time : ℕ) (s : Stored)
+        → IsHeld d m n s → IsStore s → m.water ≤ water
+        → IsSettledUpTo d (at_water (without_first n m) water) time
+        → runs_of d.windows m.marks (unsettled d (at_water m water))
+        ≡ slices_from time s.slices }
+    ensures none { (d : Definitions) (m : Moment) → all_count_events d
+        → runs_of d.windows m.marks (unsettled d m) ≡ [] }
+{}
