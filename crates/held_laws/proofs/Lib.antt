@@ -4,3 +4,4 @@ pub mod SliceFacts
 pub mod PurgeFacts
 pub mod SettleFacts
 pub mod CountFacts
+pub mod PartFacts
