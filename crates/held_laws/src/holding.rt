@@ -9,16 +9,16 @@ ghost use Rattle.key_windows.specs.Calls.{moment};
 ghost use Rattle.key_parts.specs.Held.{IsHeld};
 ghost use Rattle.key_parts.specs.Moves.{IsMarkStep, IsPutStep};
 
-/// A store with no slices and no marks, of which nothing was dropped, holds a key with no tuples and
-/// no marks.
+/// A store with no slices and no marks, of which nothing was dropped, holds a key with no tuples
+/// and no marks.
 pub fn fresh_store_holds_a_fresh_key()
     ensures { (d : Definitions) (water : ℕ) (s : Stored) → All (λ w. IsKindWithin w.kind) d.windows
         → s.slices ≡ [] → s.marks ≡ [] → s.dropped ≡ 0 → IsSliced d.windows s
         → IsHeld d (moment [] [] water) 0 s }
 {}
 
-/// The store goes on to hold a key where a tuple comes, which it has taken in or which is settled at
-/// once, where a mark comes that it has taken in, and where the watermark moves.
+/// The store goes on to hold a key where a tuple comes, which it has taken in or which is settled
+/// at once, where a mark comes that it has taken in, and where the watermark moves.
 pub fn store_goes_on_to_hold()
     ensures tuple { (d : Definitions) (m : Moment) (n : ℕ) (before : Stored) (x : Kept) (more : ℕ)
         (after : Stored) → IsPutStep d m n before x more after

@@ -1,4 +1,5 @@
-//! What the parts of a key for sessions and for intervals between marks ask of a store that holds it.
+//! What the parts of a key for sessions and for intervals between marks ask of a store that holds
+//! the key.
 ghost use Rattle.std.specs.Prelude.{◌≡◌, ◌<◌, ◌^◌, ℕ, drop, length};
 ghost use Rattle.std.specs.List.{Contains};
 ghost use Rattle.stream_base.specs.declared.def.Def.{Def};

@@ -27,7 +27,8 @@ pub fn slices_part_where_tuples_are_settled()
 {}
 
 /// Where the slices before a time are dropped, at or before the watermark minus the lateness, and
-/// each tuple before it is settled, the store goes on to hold the key, and lacks more of its tuples.
+/// each tuple before it is settled, the store goes on to hold the key, of whose tuples it then
+/// lacks more.
 pub fn settled_slices_may_leave()
     ensures { (d : Definitions) (m : Moment) (n next time : ℕ) (before after : Stored)
         → IsHeld d m n before → AreLists m next → IsStore before → time ≤ m.water - d.lateness
