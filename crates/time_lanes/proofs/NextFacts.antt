@@ -7,12 +7,18 @@ use Rattle.std.proofs.lemmas.Bool.{false≢true, cases_Bool, le-leb, leb-true, l
 use Rattle.std.proofs.lemmas.List.{append-nil}
 use Rattle.std.proofs.lemmas.List.Concat.{flat_map-append}
 use Rattle.std.proofs.lemmas.List.Elements.{All-append, All-cons, All-head, All-nil, All-tail, All-weaker, filter-append, Contains-append_right}
+use Rattle.stream_base.specs.declared.def.Def.{Def}
 use Rattle.stream_base.specs.declared.kept.Kept.{Kept}
-use Rattle.stream_base.specs.declared.limits.TheConstants.{TIME_MAX}
+use Rattle.stream_base.specs.declared.limits.TheConstants.{FINAL, TIME_MAX}
+use Rattle.stream_base.specs.Laws.{is_timed}
+use Rattle.stream_base.specs.Limits.{IsKindWithin}
 use Rattle.stream_base.specs.Model.Windows.{first_time, last_time}
 use Rattle.stream_base.proofs.Rising.{Contains-head}
+use Rattle.window_laws.specs.Due.{first_open}
+use Rattle.window_laws.specs.Late.{length_of, slide_of}
 use Rattle.window_laws.specs.Runs.{AreInOrder, IsAligned, runs_within}
-use Rattle.window_laws.specs.Walk.{IsFirstFrom, WalksOn, due_from, next_start}
+use Rattle.window_laws.specs.Walk.{IsFirstFrom, WalksOn, due_from, next_start, next_start_of}
+use Rattle.window_laws.proofs.NextFacts.{next_of_timed, none_next_of_timed}
 use Rattle.window_laws.proofs.Order.{All-split}
 use Rattle.window_laws.proofs.RunEdits.{parted}
 use Rattle.window_laws.proofs.WalkFacts.{none_due, walks_on}
@@ -22,7 +28,8 @@ use Rattle.slice_store.specs.Stored.{IsStore, Stored, tuples_of}
 use Rattle.slice_store.proofs.FoldFacts.{within_aligned}
 use Rattle.slice_store.proofs.PartialFacts.{all_end}
 use Rattle.slice_store.proofs.SliceOrder.{IsApart, IsNear, first_below_last, run_above_first, run_below_last, above_slice}
-use Rattle.time_lanes.specs.Held.{IsNextDue, IsNextIn}
+use Rattle.time_lanes.specs.Held.{IsEndFrom, IsNextDue, IsNextIn}
+use Rattle.time_lanes.specs.Moves.{moment}
 use Rattle.time_lanes.specs.Spans.{IsSpan}
 use Rattle.time_lanes.proofs.Ranges.{above, begin_below, begins_in, before_it, below, in_it, none_from_on, none_up_to, passed, skipped}
 
@@ -264,6 +271,34 @@ module _ (length slide : ℕ) (s : Stored) (from new k : ℕ) (multiple : from �
 
   pub none_due_here : (low : ℕ) → low ≡ max from (next_start length slide slice.low) → new < low + length → due_from length slide (tuples_of s) from new ≡ []
   none_due_here low is l = walks.ends (omega arith)
+
+  pub ends_at : (end : ℕ) → end ≡ max (next_start length slide slice.low) from + length → IsEndFrom length slide (tuples_of s) from end
+  ends_at end is =
+      let x = first_tuple from s.slices found.0 o.slices a found.1 in
+      let same : (x.0).time ≡ slice.low = x.2 ∙ sym found.2 in
+      inl (x.0, x.1, is ∙ ap (λ n. n + length) (omega arith) ∙ ap (λ t. max from (next_start length slide t) + length) (sym same))
+
+pub none_ends : (length slide : ℕ) (s : Stored) (from : ℕ) → IsStore s → IsAligned s.slices from → None ≡ option_map slice_of (find (λ r. nat_le from (first_time r)) s.slices) → IsEndFrom length slide (tuples_of s) from FINAL
+none_ends length slide s from o a e =
+    inr (all_early from s.slices o.slices.ordered a (none_at from s.slices (not_answered (find (λ r. nat_le from (first_time r)) s.slices) e)), refl)
+
+-- that is the bound of the first interval that isn't complete
+pub end_is_open : (d : Def) (length slide start end : ℕ) (kept : List Kept) (marks : List ℕ) (water : ℕ) → is_timed d.kind ≡ true → IsKindWithin d.kind → length ≡ length_of d.kind → slide ≡ slide_of d.kind → start ≡ next_start length slide water → IsEndFrom length slide kept start end → end ≡ first_open (moment kept marks water) d
+end_is_open d length slide start end kept marks water t k l m at h =
+    elim h [ inl f ↦ some f | inr n ↦ none n ]
+  where
+    here : start ≡ next_start_of d.kind water
+    here = at ∙ (λ i. next_start (l i) (m i) water)
+
+    some : (x : Kept) × IsFirstFrom kept start x × (end ≡ max start (next_start length slide x.time) + length) → end ≡ first_open (moment kept marks water) d
+    some (x, first, is) =
+        is
+        ∙ (λ i. max (here i) (next_start (l i) (m i) x.time) + l i)
+        ∙ sym (next_of_timed d (moment kept marks water) x t k (subst (λ s. IsFirstFrom kept s x) here first))
+
+    none : All (λ x. x.time < start) kept × (end ≡ FINAL) → end ≡ first_open (moment kept marks water) d
+    none (early, is) =
+        is ∙ sym (none_next_of_timed d (moment kept marks water) t k (subst (λ s. All (λ x. x.time < s) kept) here early))
 
 -- it lies within the limits of times
 pub low_in_time : (slices : List (List Kept)) → AreSlices slices → (from : ℕ) (slice : Slice) → Some slice ≡ option_map slice_of (find (λ r. nat_le from (first_time r)) slices) → slice.low ≤ TIME_MAX

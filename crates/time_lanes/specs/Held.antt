@@ -1,11 +1,11 @@
 -- The slices that a lane holds, and the next ones of a store.
-use Rattle.std.specs.Prelude.{◌≡◌, ◌≤◌, ◌<◌, ◌+◌, ◌*◌, ℕ, List, [], ◌∷◌}
+use Rattle.std.specs.Prelude.{◌≡◌, ◌≤◌, ◌<◌, ◌+◌, ◌*◌, ◌⊎◌, ℕ, List, [], ◌∷◌, max, All}
 use Rattle.stream_base.specs.declared.kept.Kept.{Kept}
-use Rattle.stream_base.specs.declared.limits.TheConstants.{TIME_MAX}
+use Rattle.stream_base.specs.declared.limits.TheConstants.{FINAL, TIME_MAX}
 use Rattle.stream_base.specs.Model.Windows.{within}
 use Rattle.agg_laws.specs.Bundled.{Bundled}
 use Rattle.window_laws.specs.Runs.{IsAligned, runs_within}
-use Rattle.window_laws.specs.Walk.{due_from}
+use Rattle.window_laws.specs.Walk.{IsFirstFrom, due_from, next_start}
 use Rattle.slice_store.specs.declared.slice.Slice.{Slice}
 use Rattle.slice_store.specs.Slices.{joined, slice_of}
 use Rattle.slice_store.specs.Stored.{Stored, tuples_of}
@@ -44,3 +44,9 @@ pub record IsNextDue (length slide : ℕ) (s : Stored) (from new low : ℕ) : Ty
   pub due : due_from length slide (tuples_of s) from new
       ≡ low ∷ due_from length slide (tuples_of s) (low + slide) new
   pub none_between : runs_within from low s.slices ≡ []
+
+-- the end of the first interval from a start on that holds a tuple, and the final time where there is none
+abbrev pub IsEndFrom : ℕ → ℕ → List Kept → ℕ → ℕ → Type 0
+IsEndFrom length slide kept from end =
+    ((x : Kept) × IsFirstFrom kept from x × (end ≡ max from (next_start length slide x.time) + length))
+    ⊎ (All (λ x. x.time < from) kept × (end ≡ FINAL))

@@ -6,10 +6,12 @@ ghost use Rattle.stream_base.specs.declared.def.Def.{Def};
 ghost use Rattle.stream_base.specs.declared.former.Former.{Former};
 ghost use Rattle.stream_base.specs.declared.kept.Kept.{Kept};
 ghost use Rattle.stream_base.specs.declared.kind.Kind.{Kind};
-ghost use Rattle.stream_base.specs.declared.limits.TheConstants.{TIME_MAX};
+ghost use Rattle.stream_base.specs.declared.limits.TheConstants.{FINAL, TIME_MAX};
 ghost use Rattle.stream_base.specs.Laws.{completions};
 ghost use Rattle.stream_base.specs.Model.Changes.{Moment, emissions};
 ghost use Rattle.window_laws.specs.After.{with_tuple};
+ghost use Rattle.window_laws.specs.Due.{first_open};
+ghost use Rattle.window_laws.specs.Walk.{next_start_of};
 ghost use Rattle.slice_store.specs.Stored.{IsSliced, Stored, tuples_of};
 ghost use Rattle.time_lanes.specs.Lane.{IsAsBefore, IsSameUpTo, Knows, KnowsAll, fresh_partials, fresh_to};
 ghost use Rattle.time_lanes.specs.Late.{IsFound, IsLate, complete_holding, formers_of};
@@ -19,6 +21,7 @@ ghost use Rattle.time_lanes.specs.Spans.{IsWater, IsWindowAt, is_served, last_en
 use crate::due::{count_due, count_slices, tell_due};
 use crate::held::Held;
 use crate::late::{append_formers, append_late, complete_at};
+use crate::next::end_from;
 use crate::owner::Owner;
 use crate::served::{Served, serve, window_at};
 use crate::span::Span;
@@ -276,6 +279,36 @@ impl<Q: AggQueue<Bundle>> Lane<Q> {
         };
         let found = complete_at(&span, time, water);
         append_late(owner, &span, store, found, formers, out, steps);
+    }
+
+    /// When the first interval ends that holds a tuple and ends after a watermark, and the final time
+    /// where there is none: a move of the watermark to before it completes nothing.
+    pub fn next_end<T: AggTree<Bundle>>(
+        &self,
+        defs: &Defs,
+        window: u32,
+        store: &SliceStore<T>,
+        water: u64,
+    ) -> u64
+        requires served { is_served defs.now.windows window ≡ true }
+        requires sliced { IsSliced defs.now.windows store.now }
+        requires water { IsWater water }
+        ensures { (def : Def) (marks : List ℕ) → IsWindowAt defs.now.windows window def
+            → result ≡ first_open (moment (tuples_of store.now) marks water) def }
+    {
+        let Served { span, .. } = serve(defs, window, store);
+        end_from(store, &span, span.next_start(water))
+    }
+
+    /// The start of the first interval that ends after a time: tuples before it lie in none of those.
+    pub fn next_start(&self, defs: &Defs, window: u32, time: u64) -> u64
+        requires served { is_served defs.now.windows window ≡ true }
+        requires time { time ≤ FINAL }
+        ensures { (def : Def) → IsWindowAt defs.now.windows window def
+            → result ≡ next_start_of def.kind time }
+    {
+        let def = window_at(defs, window);
+        Span::of(&def.kind).next_start(time)
     }
 
     /// Tells the lane that a slice which holds a time was changed other than at its end, as by a

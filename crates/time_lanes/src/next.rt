@@ -4,12 +4,13 @@ ghost use Rattle.stream_base.specs.declared.limits.TheConstants.{FINAL};
 ghost use Rattle.window_laws.specs.Runs.{runs_within};
 ghost use Rattle.window_laws.specs.Walk.{due_from};
 ghost use Rattle.slice_store.specs.Stored.{tuples_of};
-ghost use Rattle.time_lanes.specs.Held.{IsNextDue, IsNextIn};
+ghost use Rattle.time_lanes.specs.Held.{IsEndFrom, IsNextDue, IsNextIn};
 ghost use Rattle.time_lanes.specs.Spans.{ArePartedAt};
 
 use crate::span::Span;
 use agg_laws::{AggTree, Bundle};
 use slice_store::{Slice, SliceStore};
+use stream_base::FINAL;
 
 // The first slice that begins in an interval.
 pub fn next_slice<T: AggTree<Bundle>>(store: &SliceStore<T>, from: u64, to: u64) -> Option<Slice>
@@ -42,5 +43,18 @@ pub fn next_due<T: AggTree<Bundle>>(
         Some(low)
     } else {
         None
+    }
+}
+
+// The end of the first interval from a start on that holds a tuple.
+pub fn end_from<T: AggTree<Bundle>>(store: &SliceStore<T>, span: &Span, from: u64) -> u64
+    requires parted { ArePartedAt span.now.length span.now.slide store.now.slices }
+    requires multiple { (k : ℕ) × (from ≡ k * span.now.slide) }
+    requires early { from ≤ FINAL }
+    ensures { IsEndFrom span.now.length span.now.slide (tuples_of store.now) from result }
+{
+    match store.slice_from(from) {
+        Some(slice) => span.next_start(slice.low).max(from) + span.length,
+        None => FINAL,
     }
 }
