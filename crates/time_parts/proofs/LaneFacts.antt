@@ -1,0 +1,148 @@
+-- What a lane meets where a tuple or a mark comes, where the watermark moves, and where slices leave.
+use Rattle.std.proofs.Common.{◌≡◌, ◌∙◌, ℕ, ◌<◌, ◌≤◌, ◌^◌, true, false, cond, Option, Some, List, [], ◌∷◌, ◌++◌, length, take, drop, map, ap, sym, refl, subst, arith, inl, inr}
+use Rattle.std.specs.Prelude.{◌&&◌, ◌⊎◌, find, nat_le, nat_lt}
+use Rattle.std.specs.List.{filter}
+use Rattle.std.specs.List.Sorted.{IsNonDecreasingBy}
+use Rattle.std.specs.Option.{option_map_or}
+use Rattle.std.proofs.lemmas.Bool.{false≢true, and_right, cases_Bool, lt-leb}
+use Rattle.std.proofs.lemmas.List.{length-map, take-append-drop}
+use Rattle.std.proofs.lemmas.List.Elements.{All-cons, All-weaker}
+use Rattle.stream_base.specs.Limits.{Definitions, IsKindWithin}
+use Rattle.stream_base.specs.declared.change.Change.{Change}
+use Rattle.stream_base.specs.declared.change.Change.TheVariants.{New}
+use Rattle.stream_base.specs.declared.former.Former.{Former}
+use Rattle.stream_base.specs.declared.def.Def.{Def}
+use Rattle.stream_base.specs.declared.kept.Kept.{Kept}
+use Rattle.stream_base.specs.declared.kind.Kind.{Kind}
+use Rattle.stream_base.specs.declared.kind.Kind.TheVariants.{Tumbling, Sliding, Session, Marks, Events}
+use Rattle.stream_base.specs.declared.limits.TheConstants.{FINAL, JOURNAL_MAX}
+use Rattle.stream_base.specs.Laws.{TimesDoNotFall, becomes_complete, completions, is_timed}
+use Rattle.stream_base.specs.Model.Changes.{Moment, emissions, retractions, row_of}
+use Rattle.stream_base.specs.Model.Journal.{put_in_order}
+use Rattle.stream_base.specs.Model.Slices.{is_events}
+use Rattle.stream_base.specs.Model.Windows.{Instance, instances_of, standing_of}
+use Rattle.stream_base.proofs.ChangeFacts.{none_emitted, none_retracted}
+use Rattle.stream_base.proofs.Distinct.{standing_rises}
+use Rattle.window_laws.specs.After.{with_mark, with_tuple}
+use Rattle.window_laws.specs.Due.{first_open}
+use Rattle.window_laws.specs.Late.{length_of}
+use Rattle.window_laws.proofs.InstanceFacts.{bounds_do_not_fall}
+use Rattle.window_laws.proofs.LateFacts.{timed_none_gone}
+use Rattle.window_laws.proofs.Order.{filter_none, nd_head, nd_tail}
+use Rattle.window_laws.proofs.SettledFacts.{all_member}
+use Rattle.slice_store.specs.Stored.{Stored, tuples_of}
+use Rattle.slice_store.proofs.SliceEdits.{put_length}
+use Rattle.time_lanes.specs.Late.{IsLate, complete_holding, former_at, formers_of}
+use Rattle.time_lanes.specs.Moves.{moment}
+use Rattle.key_parts.specs.Calls.{window_at}
+use Rattle.key_parts.specs.Moves.{AreLists, Comes, IsPutStep, IsStored}
+use Rattle.key_parts.specs.Moves.Comes.{Enters, Leaves}
+use Rattle.time_parts.specs.Lanes.{IsTimedAt, kind_at}
+use Rattle.time_parts.proofs.WindowFacts.{apart_at, few_without, member_at, timed_at}
+
+-- ---- a tuple comes
+timed_counts_not : (kind : Kind) → is_timed kind ≡ true → is_events kind ≡ false
+timed_counts_not (Tumbling length) t = refl
+timed_counts_not (Sliding length slide) t = refl
+timed_counts_not (Session gap) t = absurd (false≢true t)
+timed_counts_not Marks t = absurd (false≢true t)
+timed_counts_not (Events count) t = absurd (false≢true t)
+
+pub counts_not : (d : Definitions) (window : ℕ) → IsTimedAt d window → is_events (kind_at d window) ≡ false
+counts_not d window t = timed_counts_not (kind_at d window) (timed_at d window t)
+
+-- the store takes it in, since this window doesn't count events
+pub taken_in : (d : Definitions) (window n : ℕ) (before : Stored) (x : Kept) (more : ℕ) (after : Stored) → IsTimedAt d window → Comes d n before x more after → IsStored d before x after × (more ≡ n)
+taken_in d window n before x more after t (Enters some stored) = (stored, refl)
+taken_in d window n before x more after t (Leaves all none) =
+    absurd (false≢true (sym (counts_not d window t) ∙ all_member (λ (w : Def). is_events w.kind) d.windows (window_at d window) all (member_at d window t)))
+
+-- a key has few tuples
+pub few_held : (m : Moment) (n next : ℕ) (s : Stored) → AreLists m next → tuples_of s ≡ drop n m.kept → length (tuples_of s) < 2 ^ 64
+few_held m n next s h e =
+    let l : length (tuples_of s) ≡ length (drop n m.kept) = ap length e in
+    omega (arith, few_without n m.kept, h.few, h.most)
+
+-- ---- a mark comes
+marks_aside : (kind : Kind) (kept : List Kept) (marks others : List ℕ) (water : ℕ) → is_timed kind ≡ true → standing_of kind kept marks water ≡ standing_of kind kept others water
+unfolding instances_of
+marks_aside (Tumbling length') kept marks others water t = refl
+marks_aside (Sliding length' slide) kept marks others water t = refl
+marks_aside (Session gap) kept marks others water t = absurd (false≢true t)
+marks_aside Marks kept marks others water t = absurd (false≢true t)
+marks_aside (Events count) kept marks others water t = absurd (false≢true t)
+
+-- it changes no interval
+pub mark_changes_nothing : (window : ℕ) (key : List ℕ) (w : Def) (m : Moment) (time : ℕ) → is_timed w.kind ≡ true → IsKindWithin w.kind → TimesDoNotFall m.kept → retractions key m (with_mark m time) (window, w) ++ emissions key m (with_mark m time) (window, w) ≡ []
+mark_changes_nothing window key w m time t k order =
+    let same : standing_of w.kind m.kept m.marks m.water ≡ standing_of w.kind m.kept (with_mark m time).marks m.water = marks_aside w.kind m.kept m.marks (with_mark m time).marks m.water t in
+    let gone : retractions key m (with_mark m time) (window, w) ≡ [] = none_retracted window key w.func (standing_of w.kind m.kept (with_mark m time).marks m.water) (standing_of w.kind m.kept m.marks m.water) same in
+    let come : emissions key m (with_mark m time) (window, w) ≡ [] = none_emitted window key w.func (standing_of w.kind m.kept m.marks m.water) (standing_of w.kind m.kept (with_mark m time).marks m.water) (standing_rises w.kind m.kept m.marks m.water k order) same in
+    λ i. gone i ++ come i
+
+-- ---- the watermark moves
+not_yet : (water new : ℕ) (i : Instance) → new < i.bound → becomes_complete water new i ≡ false
+not_yet water new i l = and_right (nat_lt water i.bound) (nat_le i.bound new) (lt-leb i.bound new l)
+
+-- up to the bound of the first instance that isn't complete none becomes so
+none_before : (water new : ℕ) (is : List Instance) → IsNonDecreasingBy (λ (i : Instance). i.bound) is → new < option_map_or (λ (i : Instance). i.bound) (find (λ (i : Instance). nat_lt water i.bound) is) FINAL → filter (becomes_complete water new) is ≡ []
+none_before water new [] h l = refl
+none_before water new (i ∷ is) h l = by (cases_Bool (nat_lt water i.bound)) (none_before water new is (nd_tail (λ (i : Instance). i.bound) i is h))
+  where
+    by : (nat_lt water i.bound ≡ true) ⊎ (nat_lt water i.bound ≡ false) → (new < option_map_or (λ (i : Instance). i.bound) (find (λ (i : Instance). nat_lt water i.bound) is) FINAL → filter (becomes_complete water new) is ≡ []) → filter (becomes_complete water new) (i ∷ is) ≡ []
+    by (inl e) rest =
+        let b : new < i.bound = subst (λ b. new < option_map_or (λ (i : Instance). i.bound) (cond b (Some i) (find (λ (i : Instance). nat_lt water i.bound) is)) FINAL) e l in
+        filter_none (becomes_complete water new) (i ∷ is)
+        (All-cons (λ (j : Instance). becomes_complete water new j ≡ false) i is (not_yet water new i b)
+        (All-weaker (λ (j : Instance). i.bound ≤ j.bound) (λ j. becomes_complete water new j ≡ false) (λ j m. not_yet water new j (omega arith)) is (nd_head (λ (i : Instance). i.bound) i is h)))
+    by (inr e) rest =
+        ap (λ b. cond (b && nat_le i.bound new) (i ∷ filter (becomes_complete water new) is) (filter (becomes_complete water new) is)) e
+        ∙ rest (subst (λ b. new < option_map_or (λ (i : Instance). i.bound) (cond b (Some i) (find (λ (i : Instance). nat_lt water i.bound) is)) FINAL) e l)
+
+pub none_due : (window : ℕ) (key : List ℕ) (w : Def) (m : Moment) (new : ℕ) → IsKindWithin w.kind → TimesDoNotFall m.kept → new < first_open m w → completions key m new (window, w) ≡ []
+none_due window key w m new k order l =
+    ap (map (λ i. New (row_of window key w.func i))) (none_before m.water new (instances_of w.kind m.kept m.marks) (bounds_do_not_fall w.kind m.kept m.marks k order) l)
+
+-- ---- all tuples of a key are those that left and those that the store holds
+module _ (m : Moment) (n water : ℕ) (tuples : List Kept) (is : m.water ≡ water) (held : tuples ≡ drop n m.kept) where
+  pub all_held : take n m.kept ++ tuples ≡ m.kept
+  all_held = ap (λ l. take n m.kept ++ l) held ∙ take-append-drop n m.kept
+
+  pub told_of_all : (w : Def) (time : ℕ) (old new : List (Option Former)) → old ≡ [] → new ≡ old ++ formers_of w time water (take n m.kept ++ tuples) → new ≡ formers_of w time m.water m.kept
+  told_of_all w time old new none told = told ∙ (λ i. none i ++ formers_of w time (sym is i) (all_held i))
+
+  pub completed_of_all : (w : Def) (window : ℕ) (key : List ℕ) (to : ℕ) (old new : List Change) → new ≡ old ++ completions key (moment (take n m.kept ++ tuples) m.marks water) to (window, w) → new ≡ old ++ completions key m to (window, w)
+  completed_of_all w window key to old new told = told ∙ (λ i. old ++ completions key (moment (all_held i) m.marks (sym is i)) to (window, w))
+
+  pub changed_of_all : (w : Def) (window : ℕ) (key : List ℕ) (x : Kept) (old new : List Change) → is_timed w.kind ≡ true → IsKindWithin w.kind → new ≡ old ++ emissions key (moment (take n m.kept ++ tuples) m.marks water) (with_tuple (moment (take n m.kept ++ tuples) m.marks water) x) (window, w)
+      → new ≡ old ++ (retractions key m (with_tuple m x) (window, w) ++ emissions key m (with_tuple m x) (window, w))
+  changed_of_all w window key x old new t k told =
+      told
+      ∙ (λ i. old ++ emissions key (moment (all_held i) m.marks (sym is i)) (with_tuple (moment (all_held i) m.marks (sym is i)) x) (window, w))
+      ∙ ap (λ q. old ++ (q ++ emissions key m (with_tuple m x) (window, w))) (sym (timed_none_gone window key w m x t k))
+
+-- ---- what a tuple finds
+pub told_number : (w : Def) (time water : ℕ) (m : Moment) (formers : List (Option Former)) → m.water ≡ water → formers ≡ formers_of w time m.water m.kept → length (complete_holding w.kind time water) ≤ length formers
+told_number w time water m formers is told =
+    let l : length formers ≡ length (complete_holding w.kind time m.water) = ap length told ∙ length-map (complete_holding w.kind time m.water) (former_at w.func (length_of w.kind) m.kept) in
+    let e : length (complete_holding w.kind time m.water) ≡ length (complete_holding w.kind time water) = ap (λ k. length (complete_holding w.kind time k)) is in
+    omega (arith, l, e)
+
+-- the store holds it in its place, and what stood is told of all tuples before
+pub is_late : (d : Definitions) (window : ℕ) (m : Moment) (n : ℕ) (before : Stored) (x : Kept) (more : ℕ) (after : Stored) (formers : List (Option Former)) (water : ℕ) → IsTimedAt d window → IsPutStep d m n before x more after → m.water ≡ water → formers ≡ formers_of (window_at d window) x.time m.water m.kept → IsLate (window_at d window) x.time water (take n m.kept) (drop n m.kept) x formers after
+is_late d window m n before x more after formers water t step is told =
+    let stored = (taken_in d window n before x more after t step.comes).0 in
+    let put : tuples_of after ≡ put_in_order (drop n m.kept) x = stored.tuples ∙ ap (λ l. put_in_order l x) step.held.tuples in
+    let l : length (tuples_of after) ≡ length (put_in_order (drop n m.kept) x) = ap length put in
+    let f : length m.kept ≤ x.position = (step.lists).few in
+    let k : x.position < JOURNAL_MAX = step.next in
+    record {
+      at = refl;
+      put = put;
+      ordered = subst TimesDoNotFall (sym (take-append-drop n m.kept)) (step.held.may_leave.kept).in_order;
+      found = record {
+        apart = apart_at d window m n t step.held.may_leave x.time step.in_time;
+        few = omega (arith, l, put_length (drop n m.kept) x, few_without n m.kept);
+      };
+      stood = told ∙ (λ i. formers_of (window_at d window) x.time (is i) (sym (take-append-drop n m.kept) i));
+    }

@@ -1,0 +1,2 @@
+pub mod WindowFacts
+pub mod LaneFacts

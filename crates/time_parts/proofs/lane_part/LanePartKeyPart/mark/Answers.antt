@@ -1,0 +1,28 @@
+-- A mark changes no interval; the lane goes on to know the slices before it.
+use Rattle.std.proofs.Common.{◌∙◌, ◌++◌, ap, sym, subst, append-nil}
+use Rattle.time_lanes.specs.Lane.{Knows, Laned}
+use Rattle.time_lanes.proofs.StayFacts.{mark_stays}
+use Rattle.key_parts.specs.Calls.{window_at}
+use Rattle.time_parts.specs.Lanes.{Timed, kind_at}
+use Rattle.time_parts.proofs.LaneFacts.{mark_changes_nothing}
+use Rattle.time_parts.proofs.WindowFacts.{stands_at, timed_at, within_at}
+use Rattle.time_parts.proofs.lane_part.LanePartKeyPart.mark.Goals as goal
+
+pub returns-clause-stands : goal.returns-clause-stands
+returns-clause-stands g c = λ m n before takes.
+    let d = c.args.defs.now in
+    let t = takes.stood.timed in
+    let kind = kind_at d c.args.window in
+    let kinds = takes.step.held.may_leave.kinds in
+    let same = mark_stays d.windows c.args.window (window_at d c.args.window) before kinds (stands_at d c.args.window t) (timed_at d c.args.window t) takes.step.store takes.step.held.sliced c.args.store.now c.args.time takes.step.slices in
+    record {
+      timed = t;
+      knows = c.touched.ensures.knows kind m.water before c.args.store.now same (subst (λ (l : Laned). Knows kind m.water before l) (sym (ap (λ (p : Timed). p.lane) c.self.view_is)) takes.stood.knows);
+    }
+
+pub returns-clause-changes : goal.returns-clause-changes
+returns-clause-changes g c = λ m n before takes.
+    let d = c.args.defs.now in
+    let t = takes.stood.timed in
+    let may = takes.step.held.may_leave in
+    sym (ap (λ q. c.args.out.now.items ++ q) (mark_changes_nothing c.args.window c.args.key.now (window_at d c.args.window) m c.args.time (timed_at d c.args.window t) (within_at d c.args.window t may.kinds) may.kept.in_order) ∙ append-nil c.args.out.now.items)

@@ -1,0 +1,52 @@
+-- What the part of a tumbling or sliding window is in contracts, and what it promises.
+use Rattle.std.specs.Prelude.{◌≡◌, ◌≤◌, ◌-◌, ℕ, true, List, length, Option}
+use Rattle.stream_base.specs.Limits.{Definitions}
+use Rattle.stream_base.specs.declared.former.Former.{Former}
+use Rattle.stream_base.specs.declared.kind.Kind.{Kind}
+use Rattle.stream_base.specs.Model.Changes.{Moment}
+use Rattle.window_laws.specs.Walk.{next_start_of}
+use Rattle.slice_store.specs.Stored.{Stored, tuples_of}
+use Rattle.time_lanes.specs.Lane.{Knows, Laned}
+use Rattle.time_lanes.specs.Late.{complete_holding, formers_of}
+use Rattle.time_lanes.specs.Moves.{completed_starts, slices_due}
+use Rattle.time_lanes.specs.Spans.{is_served}
+use Rattle.key_parts.specs.Calls.{window_at}
+
+-- the lane of a window, what it has told of what stands before a tuple comes, and for how much of that there is room
+pub record Timed : Type 0 where
+  pub lane : Laned
+  pub formers : List (Option Former)
+  pub room : ℕ
+
+-- the kind of the window at a place
+abbrev pub kind_at : Definitions → ℕ → Kind
+kind_at d window = (window_at d window).kind
+
+-- the window at a place is tumbling or sliding
+abbrev pub IsTimedAt : Definitions → ℕ → Type 0
+IsTimedAt d window = is_served d.windows window ≡ true
+
+-- the window is tumbling or sliding, and its lane knows the slices of a store at the watermark of a key
+pub record Serves (d : Definitions) (window : ℕ) (m : Moment) (s : Stored) (lane : Laned) : Type 0 where
+  pub timed : IsTimedAt d window
+  pub knows : Knows (kind_at d window) m.water s lane
+
+-- it has told what stands of the complete intervals that hold a time
+abbrev pub HasTold : Definitions → ℕ → Moment → ℕ → Timed → Type 0
+HasTold d window m time p = p.formers ≡ formers_of (window_at d window) time m.water m.kept
+
+-- how many complete intervals hold a time
+abbrev pub late_room : Definitions → ℕ → ℕ → ℕ → ℕ
+late_room d window time water = length (complete_holding (kind_at d window) time water)
+
+-- the lane has room for the slices that a move takes up
+abbrev pub CanMove : Definitions → ℕ → Stored → ℕ → ℕ → Laned → Type 0
+CanMove d window s old new lane = length (slices_due (kind_at d window) lane s old new) ≤ lane.spare
+
+-- how many intervals a move completes
+abbrev pub rows_due : Definitions → ℕ → Stored → ℕ → ℕ → ℕ
+rows_due d window s old new = length (completed_starts (kind_at d window) (tuples_of s) old new)
+
+-- the start of the first interval that ends after the watermark minus the lateness
+abbrev pub open_from : Definitions → ℕ → ℕ → ℕ
+open_from d window water = next_start_of (kind_at d window) (water - d.lateness)

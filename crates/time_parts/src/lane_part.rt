@@ -1,0 +1,206 @@
+//! The part of a tumbling or sliding window.
+ghost use Rattle.std.specs.Prelude.{◌≡◌, ◌≤◌, OnOk, IfOk};
+ghost use Rattle.stream_base.specs.declared.limits.TheConstants.{TIME_MAX};
+ghost use Rattle.key_windows.specs.Calls.{IsWater};
+ghost use Rattle.time_parts.specs.Lanes.{IsTimedAt, late_room};
+
+use agg_laws::{AggQueue, AggTree, Bundle, Steps};
+use key_parts::KeyPart;
+use slice_store::SliceStore;
+use std::alloc::Global;
+use std::marker::Model;
+use stream_base::{Change, Defs, Former, KeyText, NoMemory};
+use time_lanes::Lane;
+
+/// The part of a tumbling or sliding window: its lane, and what stood of the complete intervals that
+/// hold a late tuple.
+#[derive(Drop)]
+pub struct LanePart<Q: AggQueue<Bundle>> {
+    lane: Lane<Q>,
+    formers: Vec<Option<Former>>,
+}
+
+impl<Q: AggQueue<Bundle>> Model for LanePart<Q> {
+    ghost use Rattle.std.specs.Prelude.{vec_capacity};
+    ghost use Rattle.time_parts.specs.Lanes.{Timed};
+
+    ghost Value = { Timed };
+
+    ghost view = { λ p. record {
+      lane = p.lane;
+      formers = p.formers.items;
+      room = vec_capacity p.formers;
+    } };
+}
+
+impl<Q: AggQueue<Bundle>> LanePart<Q> {
+    // Makes room for what stands of the complete intervals that hold a time, and answers how many
+    // there are.
+    fn reserve_formers(
+        &mut self,
+        defs: &Defs,
+        window: u32,
+        time: u64,
+        water: u64,
+    ) -> Result<u64, NoMemory>
+        requires timed { IsTimedAt defs.now window }
+        requires time { time ≤ TIME_MAX }
+        requires water { IsWater water }
+        ensures lane { self.new.lane ≡ self.old.lane }
+        ensures room { OnOk result (late_room defs.now window time water ≤ self.new.room) }
+        ensures number { IfOk result (λ n. n ≡ late_room defs.now window time water) }
+    {
+        let count = self.lane.late_count(defs, window, time, water);
+        self.formers.clear();
+        self.formers.reserve(count as usize)?;
+        Ok(count)
+    }
+}
+
+impl<Q: AggQueue<Bundle> + Drop> KeyPart for LanePart<Q> {
+    ghost use Rattle.time_parts.specs.Lanes.{CanMove, HasTold, IsTimedAt, Serves, late_room, open_from, rows_due};
+
+    ghost is_for = { IsTimedAt };
+
+    ghost stands = { λ d window m n s p. Serves d window m s p.lane };
+
+    ghost is_asked = { HasTold };
+
+    ghost is_ready = { λ d window time water p. late_room d window time water ≤ p.room };
+
+    ghost put_room = { λ d window time water p. late_room d window time water };
+
+    ghost mark_room = { λ d window time water p. 0 };
+
+    ghost can_move = { λ d window s old new p. CanMove d window s old new p.lane };
+
+    ghost move_room = { λ d window s old new p. rows_due d window s old new };
+
+    ghost settles_at = { λ d window water p. open_from d window water };
+
+    fn fresh(alloc: Global, defs: &Defs, window: u32) -> Self {
+        LanePart {
+            lane: Lane::new(alloc),
+            formers: Vec::new(alloc),
+        }
+    }
+
+    fn reserve_put(
+        &mut self,
+        defs: &Defs,
+        window: u32,
+        time: u64,
+        water: u64,
+    ) -> Result<u64, NoMemory> {
+        self.reserve_formers(defs, window, time, water)
+    }
+
+    fn before<T: AggTree<Bundle>, L>(
+        &mut self,
+        defs: &Defs,
+        window: u32,
+        store: &SliceStore<T>,
+        time: u64,
+        water: u64,
+        steps: &mut Steps<L>,
+    ) {
+        self.formers.clear();
+        self.lane
+            .formers(defs, window, store, time, water, &mut self.formers, steps);
+    }
+
+    fn put<T: AggTree<Bundle>, L>(
+        &mut self,
+        defs: &Defs,
+        window: u32,
+        store: &SliceStore<T>,
+        key: &KeyText,
+        pos: u64,
+        time: u64,
+        value: i64,
+        water: u64,
+        out: &mut Vec<Change>,
+        steps: &mut Steps<L>,
+    ) {
+        self.lane.late(
+            defs,
+            window,
+            store,
+            key,
+            time,
+            water,
+            &self.formers,
+            out,
+            steps,
+        );
+        self.lane.touched(time);
+    }
+
+    fn reserve_mark(
+        &mut self,
+        defs: &Defs,
+        window: u32,
+        time: u64,
+        water: u64,
+    ) -> Result<u64, NoMemory> {
+        self.reserve_formers(defs, window, time, water)?;
+        Ok(0)
+    }
+
+    fn mark<T: AggTree<Bundle>, L>(
+        &mut self,
+        defs: &Defs,
+        window: u32,
+        store: &SliceStore<T>,
+        key: &KeyText,
+        time: u64,
+        water: u64,
+        out: &mut Vec<Change>,
+        steps: &mut Steps<L>,
+    ) {
+        self.lane.touched(time);
+    }
+
+    fn reserve_water<T: AggTree<Bundle>>(
+        &mut self,
+        defs: &Defs,
+        window: u32,
+        store: &SliceStore<T>,
+        old: u64,
+        new: u64,
+    ) -> Result<u64, NoMemory> {
+        self.lane.reserve(defs, window, store, old, new)
+    }
+
+    fn water<T: AggTree<Bundle>, L>(
+        &mut self,
+        defs: &Defs,
+        window: u32,
+        store: &SliceStore<T>,
+        key: &KeyText,
+        old: u64,
+        new: u64,
+        out: &mut Vec<Change>,
+        steps: &mut Steps<L>,
+    ) {
+        self.lane
+            .advance(defs, window, store, key, old, new, out, steps);
+    }
+
+    fn next_due<T: AggTree<Bundle>>(
+        &self,
+        defs: &Defs,
+        window: u32,
+        store: &SliceStore<T>,
+        water: u64,
+    ) -> u64 {
+        self.lane.next_end(defs, window, store, water)
+    }
+
+    fn first_unsettled(&self, defs: &Defs, window: u32, water: u64) -> u64 {
+        let settled_by = water.saturating_sub(defs.lateness());
+        self.lane.next_start(defs, window, settled_by)
+    }
+
+    fn drop_settled(&mut self, defs: &Defs, window: u32, water: u64) {}
+}
