@@ -1,6 +1,7 @@
 -- Windows of so many tuples: how far the watermark has come, and what one tuple changes.
-use Rattle.std.specs.Prelude.{◌≢◌, ◌<◌, ◌+◌, ◌-◌, ◌/◌, ◌++◌, ℕ, ℤ, List, map, All, AllPairs, count_by, nat_le, if◌then◌else◌}
+use Rattle.std.specs.Prelude.{◌≢◌, ◌<◌, ◌+◌, ◌-◌, ◌*◌, ◌/◌, ◌++◌, ℕ, ℤ, List, map, All, AllPairs, count_by, nat_le, if◌then◌else◌, slice_get}
 use Rattle.std.specs.List.{range_with_len}
+use Rattle.std.specs.Option.{option_map_or}
 use Rattle.stream_base.specs.declared.change.Change.{Change}
 use Rattle.stream_base.specs.declared.change.Change.TheVariants.{New, Again}
 use Rattle.stream_base.specs.declared.def.Def.{Def}
@@ -8,6 +9,7 @@ use Rattle.stream_base.specs.declared.func.Func.{Func}
 use Rattle.stream_base.specs.declared.kept.Kept.{Kept}
 use Rattle.stream_base.specs.declared.kind.Kind.{Kind}
 use Rattle.stream_base.specs.declared.kind.Kind.TheVariants.{Tumbling, Sliding, Session, Marks, Events}
+use Rattle.stream_base.specs.declared.limits.TheConstants.{FINAL}
 use Rattle.stream_base.specs.Limits.{IsKindWithin}
 use Rattle.stream_base.specs.Model.Changes.{Moment, row_of, former_of}
 use Rattle.stream_base.specs.Model.Journal.{put_in_order}
@@ -91,3 +93,8 @@ told_by_put window key func count kept x water =
 abbrev pub told_by_move : ℕ → List ℕ → Func → ℕ → List Kept → ℕ → ℕ → List Change
 told_by_move window key func count kept old new =
     map (new_of window key func count kept) (numbers (upper kept old / count) (upper kept new / count))
+
+-- the time of the tuple that fills the next instance behind those that stand, and the final time where there are too few tuples
+abbrev pub next_filled : ℕ → List Kept → ℕ → ℕ
+next_filled count kept water =
+    option_map_or (λ x. x.time) (slice_get kept (upper kept water / count * count + count - 1)) FINAL

@@ -7,7 +7,7 @@ ghost use Rattle.stream_base.specs.Limits.{IsKindWithin};
 ghost use Rattle.stream_base.specs.Laws.{TimesDoNotFall, completions};
 ghost use Rattle.stream_base.specs.Model.Changes.{emissions, retractions};
 ghost use Rattle.stream_base.specs.Model.Journal.{put_in_order};
-ghost use Rattle.count_shift.specs.Counting.{IsEvents, IsNextPosition, count_of, events, kept_at, moment, move_changes, put_changes, upper};
+ghost use Rattle.count_shift.specs.Counting.{IsEvents, IsNextPosition, count_of, events, kept_at, moment, move_changes, next_filled, put_changes, upper};
 
 use crate::events_window::EventsWindow;
 use crate::ranks::{upper, upper_after};
@@ -15,7 +15,7 @@ use crate::shifted::Shifted;
 use agg_laws::Steps;
 use std::alloc::Global;
 use std::marker::Model;
-use stream_base::{Change, Def, Kept, KeyText, Kind, NoMemory};
+use stream_base::{Change, Def, FINAL, Kept, KeyText, Kind, NoMemory};
 
 /// All accepted tuples of one key, in event order, for an events window of it. Contracts see the
 /// tuples, and for how many more room is made.
@@ -141,6 +141,19 @@ impl CountLane {
         let stood = upper(&self.items, old) as u64 / count;
         let stand = upper(&self.items, new) as u64 / count;
         stand.saturating_sub(stood)
+    }
+
+    /// The time of the tuple that fills the next instance behind those that stand at a watermark, and
+    /// the final time where there are too few: a move of the watermark to before it completes none.
+    pub fn next_filled(&self, count: u64, water: u64) -> u64
+        requires { IsKindWithin (Events count) }
+        ensures { result ≡ next_filled count self.now.kept water }
+    {
+        let stand = upper(&self.items, water) as u64 / count * count;
+        match self.items.get((stand + count - 1) as usize) {
+            Some(x) => x.time,
+            None => FINAL,
+        }
     }
 
     /// Appends exactly the instances that a move of the watermark completes, as new. `due` says how
