@@ -72,13 +72,16 @@ marks_aside (Session gap) kept marks others water t = absurd (false≢true t)
 marks_aside Marks kept marks others water t = absurd (false≢true t)
 marks_aside (Events count) kept marks others water t = absurd (false≢true t)
 
--- it changes no interval
-pub mark_changes_nothing : (window : ℕ) (key : List ℕ) (w : Def) (m : Moment) (time : ℕ) → is_timed w.kind ≡ true → IsKindWithin w.kind → TimesDoNotFall m.kept → retractions key m (with_mark m time) (window, w) ++ emissions key m (with_mark m time) (window, w) ≡ []
-mark_changes_nothing window key w m time t k order =
-    let same : standing_of w.kind m.kept m.marks m.water ≡ standing_of w.kind m.kept (with_mark m time).marks m.water = marks_aside w.kind m.kept m.marks (with_mark m time).marks m.water t in
+-- where the same stands, nothing changes
+pub nothing_changes : (window : ℕ) (key : List ℕ) (w : Def) (m : Moment) (time : ℕ) → standing_of w.kind m.kept m.marks m.water ≡ standing_of w.kind m.kept (with_mark m time).marks m.water → IsKindWithin w.kind → TimesDoNotFall m.kept → retractions key m (with_mark m time) (window, w) ++ emissions key m (with_mark m time) (window, w) ≡ []
+nothing_changes window key w m time same k order =
     let gone : retractions key m (with_mark m time) (window, w) ≡ [] = none_retracted window key w.func (standing_of w.kind m.kept (with_mark m time).marks m.water) (standing_of w.kind m.kept m.marks m.water) same in
     let come : emissions key m (with_mark m time) (window, w) ≡ [] = none_emitted window key w.func (standing_of w.kind m.kept m.marks m.water) (standing_of w.kind m.kept (with_mark m time).marks m.water) (standing_rises w.kind m.kept m.marks m.water k order) same in
     λ i. gone i ++ come i
+
+-- a mark changes no interval
+pub mark_changes_nothing : (window : ℕ) (key : List ℕ) (w : Def) (m : Moment) (time : ℕ) → is_timed w.kind ≡ true → IsKindWithin w.kind → TimesDoNotFall m.kept → retractions key m (with_mark m time) (window, w) ++ emissions key m (with_mark m time) (window, w) ≡ []
+mark_changes_nothing window key w m time t k order = nothing_changes window key w m time (marks_aside w.kind m.kept m.marks (with_mark m time).marks m.water t) k order
 
 -- ---- the watermark moves
 not_yet : (water new : ℕ) (i : Instance) → new < i.bound → becomes_complete water new i ≡ false

@@ -1,5 +1,5 @@
 -- The window of a part, and the settled tuples that have left the store of its key.
-use Rattle.std.proofs.Common.{◌≡◌, ◌∙◌, ℕ, ◌+◌, ◌-◌, ◌*◌, ◌/◌, ◌<◌, ◌≤◌, true, false, Option, Some, None, List, [], length, take, drop, ap, sym, refl, subst, arith, inl, inr, get_or-drop, length-drop}
+use Rattle.std.proofs.Common.{◌≡◌, ◌∙◌, ℕ, Bool, ◌+◌, ◌-◌, ◌*◌, ◌/◌, ◌<◌, ◌≤◌, true, false, Option, Some, None, List, [], length, take, drop, ap, sym, refl, subst, arith, inl, inr, get_or-drop, length-drop}
 use Rattle.std.specs.Prelude.{slice_get}
 use Rattle.std.specs.List.{All, Contains, slice_index_or}
 use Rattle.std.specs.Option.{option_map_or}
@@ -40,18 +40,28 @@ use Rattle.key_parts.specs.Moves.{SettlesUpTo}
 use Rattle.time_parts.specs.Lanes.{IsTimedAt, kind_at, open_from}
 
 -- ---- the window at the place
+module _ (p : Def → Bool) (d : Definitions) (window : ℕ) (t : option_map_or p (slice_get d.windows window) false ≡ true) where
+  pub found_at : IsWindowAt d.windows window (window_at d window)
+  found_at = by (slice_get d.windows window) refl t
+    where
+      by : (o : Option Def) → slice_get d.windows window ≡ o → option_map_or p o false ≡ true → slice_get d.windows window ≡ Some (window_at d window)
+      by None e t = absurd (false≢true t)
+      by (Some def) e t = e ∙ ap Some (sym (get_or_from_slice_get d.windows window def (record { kind = Marks; func = Count }) e))
+
+  pub passes_at : p (window_at d window) ≡ true
+  passes_at = sym (ap (λ o. option_map_or p o false) found_at) ∙ t
+
+  pub among : Contains d.windows (window_at d window)
+  among = stands_among d.windows window (window_at d window) found_at
+
 pub stands_at : (d : Definitions) (window : ℕ) → IsTimedAt d window → IsWindowAt d.windows window (window_at d window)
-stands_at d window t = by (slice_get d.windows window) refl t
-  where
-    by : (o : Option Def) → slice_get d.windows window ≡ o → option_map_or (λ (def : Def). is_timed def.kind) o false ≡ true → slice_get d.windows window ≡ Some (window_at d window)
-    by None e t = absurd (false≢true t)
-    by (Some def) e t = e ∙ ap Some (sym (get_or_from_slice_get d.windows window def (record { kind = Marks; func = Count }) e))
+stands_at d window t = found_at (λ def. is_timed def.kind) d window t
 
 pub timed_at : (d : Definitions) (window : ℕ) → IsTimedAt d window → is_timed (kind_at d window) ≡ true
-timed_at d window t = sym (ap (λ o. option_map_or (λ (def : Def). is_timed def.kind) o false) (stands_at d window t)) ∙ t
+timed_at d window t = passes_at (λ def. is_timed def.kind) d window t
 
 pub member_at : (d : Definitions) (window : ℕ) → IsTimedAt d window → Contains d.windows (window_at d window)
-member_at d window t = stands_among d.windows window (window_at d window) (stands_at d window t)
+member_at d window t = among (λ def. is_timed def.kind) d window t
 
 pub within_at : (d : Definitions) (window : ℕ) → IsTimedAt d window → All (λ w. IsKindWithin w.kind) d.windows → IsKindWithin (kind_at d window)
 within_at d window t kinds = All-contains (λ w. IsKindWithin w.kind) d.windows (window_at d window) kinds (member_at d window t)

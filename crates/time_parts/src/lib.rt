@@ -6,6 +6,8 @@
 //! lane. *Promise*: a part appends exactly the changes of its window.
 #![tactic(auto)]
 
+mod count_part;
 mod lane_part;
 
+pub use count_part::CountPart;
 pub use lane_part::LanePart;

@@ -1,0 +1,76 @@
+-- What a mark changes of a window of event counts, and when its next instance is filled.
+use Rattle.std.proofs.Common.{◌≡◌, ◌∙◌, ℕ, ◌+◌, ◌-◌, ◌*◌, ◌/◌, ◌<◌, ◌≤◌, true, List, [], ◌++◌, ap, sym, refl, subst}
+use Rattle.std.specs.Prelude.{nat_le, slice_get}
+use Rattle.std.specs.List.{All}
+use Rattle.std.specs.Option.{option_map_or}
+use Rattle.std.proofs.lemmas.Bool.{false≢true}
+use Rattle.std.proofs.lemmas.List.Elements.{All-contains}
+use Rattle.std.proofs.lemmas.List.Sums.{length-filter}
+use Rattle.stream_base.specs.Limits.{Definitions, IsKindWithin}
+use Rattle.stream_base.specs.declared.def.Def.{Def}
+use Rattle.stream_base.specs.declared.kept.Kept.{Kept}
+use Rattle.stream_base.specs.declared.kind.Kind.{Kind}
+use Rattle.stream_base.specs.declared.kind.Kind.TheVariants.{Tumbling, Sliding, Session, Marks, Events}
+use Rattle.stream_base.specs.declared.limits.TheConstants.{FINAL}
+use Rattle.stream_base.specs.Laws.{TimesDoNotFall, completions}
+use Rattle.stream_base.specs.Model.Changes.{Moment, emissions, retractions}
+use Rattle.stream_base.specs.Model.Slices.{is_events}
+use Rattle.stream_base.specs.Model.Windows.{instances_of, standing_of}
+use Rattle.window_laws.specs.After.{with_mark}
+use Rattle.window_laws.specs.Due.{first_open}
+use Rattle.window_laws.specs.Counts as whole
+use Rattle.window_laws.proofs.NextFacts.{next_of_counts}
+use Rattle.count_shift.specs.Counting.{count_of, next_filled, upper}
+use Rattle.time_lanes.proofs.WalkFacts.{one_time_more}
+use Rattle.key_parts.specs.Calls.{window_at}
+use Rattle.time_parts.specs.Counted.{CountsAt}
+use Rattle.time_parts.specs.Lanes.{kind_at}
+use Rattle.time_parts.proofs.LaneFacts.{none_due, nothing_changes}
+use Rattle.time_parts.proofs.WindowFacts.{among, passes_at}
+
+-- ---- the window at the place
+pub counts_at : (d : Definitions) (window : ℕ) → CountsAt d window → is_events (kind_at d window) ≡ true
+counts_at d window t = passes_at (λ def. is_events def.kind) d window t
+
+pub count_within : (d : Definitions) (window : ℕ) → CountsAt d window → All (λ w. IsKindWithin w.kind) d.windows → IsKindWithin (kind_at d window)
+count_within d window t kinds = All-contains (λ w. IsKindWithin w.kind) d.windows (window_at d window) kinds (among (λ def. is_events def.kind) d window t)
+
+counts_so_many : (kind : Kind) → is_events kind ≡ true → kind ≡ Events (count_of kind)
+counts_so_many (Tumbling length) t = absurd (false≢true t)
+counts_so_many (Sliding length slide) t = absurd (false≢true t)
+counts_so_many (Session gap) t = absurd (false≢true t)
+counts_so_many Marks t = absurd (false≢true t)
+counts_so_many (Events count) t = refl
+
+some_events : (kind : Kind) → is_events kind ≡ true → IsKindWithin kind → 1 ≤ count_of kind
+some_events (Tumbling length) t k = absurd (false≢true t)
+some_events (Sliding length slide) t k = absurd (false≢true t)
+some_events (Session gap) t k = absurd (false≢true t)
+some_events Marks t k = absurd (false≢true t)
+some_events (Events count) t k = k.0
+
+-- ---- a mark comes
+marks_aside : (kind : Kind) (kept : List Kept) (marks others : List ℕ) (water : ℕ) → is_events kind ≡ true → standing_of kind kept marks water ≡ standing_of kind kept others water
+unfolding instances_of
+marks_aside (Tumbling length) kept marks others water t = absurd (false≢true t)
+marks_aside (Sliding length slide) kept marks others water t = absurd (false≢true t)
+marks_aside (Session gap) kept marks others water t = absurd (false≢true t)
+marks_aside Marks kept marks others water t = absurd (false≢true t)
+marks_aside (Events count) kept marks others water t = refl
+
+pub mark_changes_no_count : (window : ℕ) (key : List ℕ) (w : Def) (m : Moment) (time : ℕ) → is_events w.kind ≡ true → IsKindWithin w.kind → TimesDoNotFall m.kept → retractions key m (with_mark m time) (window, w) ++ emissions key m (with_mark m time) (window, w) ≡ []
+mark_changes_no_count window key w m time t k order = nothing_changes window key w m time (marks_aside w.kind m.kept m.marks (with_mark m time).marks m.water t) k order
+
+-- ---- the watermark moves
+-- the tuple that fills the next instance is the last one of the first that isn't complete
+next_is_open : (count : ℕ) (w : Def) (m : Moment) → w.kind ≡ Events count → 1 ≤ count → TimesDoNotFall m.kept → next_filled count m.kept m.water ≡ first_open m w
+next_is_open count w m e some order =
+    let same : upper m.kept m.water ≡ whole.upper m.water m.kept = sym (length-filter (λ x. nat_le x.time m.water) m.kept) in
+    ap (λ i. option_map_or (λ (x : Kept). x.time) (slice_get m.kept (i - 1)) FINAL)
+    (sym (one_time_more (upper m.kept m.water / count) count) ∙ ap (λ u. (u / count + 1) * count) same)
+    ∙ sym (next_of_counts count w m e some order)
+
+pub none_filled : (window : ℕ) (key : List ℕ) (w : Def) (m : Moment) (kept : List Kept) (water count new end : ℕ) → is_events w.kind ≡ true → IsKindWithin w.kind → TimesDoNotFall m.kept → count ≡ count_of w.kind → kept ≡ m.kept → m.water ≡ water → end ≡ next_filled count kept water → new < end → completions key m new (window, w) ≡ []
+none_filled window key w m kept water count new end t k order counts is at ends below =
+    none_due window key w m new k order
+    (subst (λ e. new < e) (ends ∙ (λ i. next_filled (counts i) (is i) (sym at i)) ∙ next_is_open (count_of w.kind) w m (counts_so_many w.kind t) (some_events w.kind t k) order) below)

@@ -1,0 +1,187 @@
+//! The part of a window of event counts.
+ghost use Rattle.std.specs.Prelude.{◌≡◌, ◌≤◌};
+ghost use Rattle.stream_base.specs.declared.kind.Kind.TheVariants.{Events};
+ghost use Rattle.stream_base.specs.Limits.{IsKindWithin};
+ghost use Rattle.count_shift.specs.Counting.{IsEvents, count_of};
+ghost use Rattle.key_parts.specs.Calls.{window_at};
+ghost use Rattle.time_parts.specs.Counted.{CountsAt};
+
+use agg_laws::{AggTree, Bundle, Steps};
+use count_shift::CountLane;
+use key_parts::KeyPart;
+use slice_store::SliceStore;
+use std::alloc::Global;
+use std::marker::Model;
+use stream_base::{Change, Def, Defs, FINAL, KeyText, Kind, NoMemory};
+
+/// The part of a window of event counts: all tuples of its key, since the store holds those alone that
+/// other windows need.
+#[derive(Drop)]
+pub struct CountPart {
+    lane: CountLane,
+}
+
+impl Model for CountPart {
+    ghost use Rattle.count_shift.specs.Lane.{Laned};
+
+    ghost Value = { Laned };
+
+    ghost view = { λ p. p.lane };
+}
+
+// The window at a place, which counts events.
+fn window_at(defs: &Defs, window: u32) -> Def
+    requires { CountsAt defs.now window }
+    ensures stands { result ≡ window_at defs.now window }
+    ensures events { IsEvents result.kind }
+{
+    defs.windows()[window as usize]
+}
+
+// How many tuples an instance of it selects.
+fn count_of(kind: &Kind) -> u64
+    requires { IsEvents kind.now }
+    ensures value { result ≡ count_of kind.now }
+    ensures within { IsKindWithin (Events result) }
+{
+    match *kind {
+        Kind::Events { count } => count,
+        _ => unreachable!(),
+    }
+}
+
+impl KeyPart for CountPart {
+    ghost use Rattle.std.specs.Prelude.{◌≤◌};
+    ghost use Rattle.stream_base.specs.declared.limits.TheConstants.{FINAL};
+    ghost use Rattle.time_parts.specs.Counted.{Counts, CountsAt, fill_room, shift_room};
+
+    ghost is_for = { CountsAt };
+
+    ghost stands = { λ d window m n s p. Counts d window m p };
+
+    ghost is_asked = { λ d window m time p. Unit {0} };
+
+    ghost is_ready = { λ d window time water p. 1 ≤ p.spare };
+
+    ghost put_room = { shift_room };
+
+    ghost mark_room = { λ d window time water p. 0 };
+
+    ghost can_move = { λ d window s old new p. Unit {0} };
+
+    ghost move_room = { λ d window s old new p. fill_room d window old new p };
+
+    ghost settles_at = { λ d window water p. FINAL };
+
+    fn fresh(alloc: Global, defs: &Defs, window: u32) -> Self {
+        CountPart {
+            lane: CountLane::new(alloc),
+        }
+    }
+
+    fn reserve_put(
+        &mut self,
+        defs: &Defs,
+        window: u32,
+        time: u64,
+        water: u64,
+    ) -> Result<u64, NoMemory> {
+        let count = count_of(&window_at(defs, window).kind);
+        self.lane.reserve(count, time, water)
+    }
+
+    fn before<T: AggTree<Bundle>, L>(
+        &mut self,
+        defs: &Defs,
+        window: u32,
+        store: &SliceStore<T>,
+        time: u64,
+        water: u64,
+        steps: &mut Steps<L>,
+    ) {}
+
+    fn put<T: AggTree<Bundle>, L>(
+        &mut self,
+        defs: &Defs,
+        window: u32,
+        store: &SliceStore<T>,
+        key: &KeyText,
+        pos: u64,
+        time: u64,
+        value: i64,
+        water: u64,
+        out: &mut Vec<Change>,
+        steps: &mut Steps<L>,
+    ) {
+        let def = window_at(defs, window);
+        self.lane
+            .put(window, &def, key, pos, time, value, water, out, steps);
+    }
+
+    fn reserve_mark(
+        &mut self,
+        defs: &Defs,
+        window: u32,
+        time: u64,
+        water: u64,
+    ) -> Result<u64, NoMemory> {
+        self.reserve_put(defs, window, time, water)?;
+        Ok(0)
+    }
+
+    fn mark<T: AggTree<Bundle>, L>(
+        &mut self,
+        defs: &Defs,
+        window: u32,
+        store: &SliceStore<T>,
+        key: &KeyText,
+        time: u64,
+        water: u64,
+        out: &mut Vec<Change>,
+        steps: &mut Steps<L>,
+    ) {}
+
+    fn reserve_water<T: AggTree<Bundle>>(
+        &mut self,
+        defs: &Defs,
+        window: u32,
+        store: &SliceStore<T>,
+        old: u64,
+        new: u64,
+    ) -> Result<u64, NoMemory> {
+        let count = count_of(&window_at(defs, window).kind);
+        Ok(self.lane.due(count, old, new))
+    }
+
+    fn water<T: AggTree<Bundle>, L>(
+        &mut self,
+        defs: &Defs,
+        window: u32,
+        store: &SliceStore<T>,
+        key: &KeyText,
+        old: u64,
+        new: u64,
+        out: &mut Vec<Change>,
+        steps: &mut Steps<L>,
+    ) {
+        let def = window_at(defs, window);
+        self.lane.rows(window, &def, key, old, new, out, steps);
+    }
+
+    fn next_due<T: AggTree<Bundle>>(
+        &self,
+        defs: &Defs,
+        window: u32,
+        store: &SliceStore<T>,
+        water: u64,
+    ) -> u64 {
+        let count = count_of(&window_at(defs, window).kind);
+        self.lane.next_filled(count, water)
+    }
+
+    fn first_unsettled(&self, defs: &Defs, window: u32, water: u64) -> u64 {
+        FINAL
+    }
+
+    fn drop_settled(&mut self, defs: &Defs, window: u32, water: u64) {}
+}
