@@ -14,8 +14,8 @@ use std::alloc::Global;
 use std::marker::Model;
 use stream_base::{Change, Def, Defs, FINAL, KeyText, Kind, NoMemory};
 
-/// The part of a window of event counts: all tuples of its key, since the store holds those alone that
-/// other windows need.
+/// The part of a window of event counts: all tuples of its key, since the store holds those alone
+/// that other windows need.
 #[derive(Drop)]
 pub struct CountPart {
     lane: CountLane,

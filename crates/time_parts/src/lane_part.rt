@@ -12,8 +12,8 @@ use std::marker::Model;
 use stream_base::{Change, Defs, Former, KeyText, NoMemory};
 use time_lanes::Lane;
 
-/// The part of a tumbling or sliding window: its lane, and what stood of the complete intervals that
-/// hold a late tuple.
+/// The part of a tumbling or sliding window: its lane, and what stood of the complete intervals
+/// that hold a late tuple.
 #[derive(Drop)]
 pub struct LanePart<Q: AggQueue<Bundle>> {
     lane: Lane<Q>,
@@ -122,18 +122,9 @@ impl<Q: AggQueue<Bundle> + Drop> KeyPart for LanePart<Q> {
         out: &mut Vec<Change>,
         steps: &mut Steps<L>,
     ) {
-        self.lane.late(
-            defs,
-            window,
-            store,
-            key,
-            time,
-            water,
-            &self.formers,
-            out,
-            steps,
-        );
-        self.lane.touched(time);
+        let LanePart { lane, formers } = self;
+        lane.late(defs, window, store, key, time, water, formers, out, steps);
+        lane.touched(time);
     }
 
     fn reserve_mark(
