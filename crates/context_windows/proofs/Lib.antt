@@ -13,3 +13,4 @@ pub mod Intervals
 pub mod Stretching
 pub mod Marking
 pub mod Aligning
+pub mod Firsts

@@ -4,3 +4,4 @@ pub mod Telling
 pub mod Held
 pub mod Marked
 pub mod Aligned
+pub mod Ahead

@@ -7,6 +7,7 @@
 //! counted. A late tuple joins sessions that had stood apart, and each of those is taken back.
 #![tactic(auto)]
 
+mod ahead;
 mod edges;
 mod joining;
 pub mod laws;

@@ -1,5 +1,5 @@
 //! The intervals between the marks of one key.
-ghost use Rattle.std.specs.Prelude.{◌≡◌, ◌≤◌, ◌+◌, ◌-◌, ◌*◌, ◌++◌, ℕ, List, [], filter, length, max, nat_lt, OnOk, IfOk, vec_len, vec_capacity, Some, option_to_list};
+ghost use Rattle.std.specs.Prelude.{◌≡◌, ◌≤◌, ◌<◌, ◌+◌, ◌-◌, ◌*◌, ◌++◌, ℕ, List, [], filter, length, max, nat_lt, OnOk, IfOk, vec_len, vec_capacity, Some, option_to_list};
 ghost use Rattle.std.specs.BTreeSet.{insert_key};
 ghost use Rattle.std.specs.Ordering.{nat_cmp};
 ghost use Rattle.stream_base.specs.declared.kept.Kept.{Kept};
@@ -8,11 +8,13 @@ ghost use Rattle.stream_base.specs.Laws.{completions};
 ghost use Rattle.stream_base.specs.Model.Changes.{Moment};
 ghost use Rattle.stream_base.specs.Model.Journal.{put_in_order};
 ghost use Rattle.window_laws.specs.After.{with_mark, with_tuple};
+ghost use Rattle.context_windows.specs.Ahead.{end_after, start_after};
 ghost use Rattle.context_windows.specs.Held.{AreAlignedWith};
 ghost use Rattle.context_windows.specs.Marked.{FollowsMarks, HoldsStretches, IsMarkedAsBefore, RemembersHolder, asked_at, entered_at, holder_in, marks_window, most_changes, parted_of, with_parts};
 ghost use Rattle.context_windows.specs.Spanned.{changes_of};
 ghost use Rattle.context_windows.specs.Spans.{due_of};
 
+use crate::ahead::{end_after, start_after};
 use crate::edges::{add_mark, holder};
 use crate::joining::replace;
 use crate::near::{between, due, first_asked, first_before, first_or, near};
@@ -277,6 +279,22 @@ impl MarkWindows {
             out,
             steps,
         );
+    }
+
+    /// When the first interval ends that ends after a watermark, and `u64::MAX` where there is none: a
+    /// move of the watermark to before it completes none.
+    pub fn next_end(&self, water: u64) -> u64
+        ensures value { result ≡ end_after water self.now.spans }
+        ensures none_due { (new : ℕ) → new < result → due_of water new self.now.spans ≡ [] }
+    {
+        end_after(&self.spans, water)
+    }
+
+    /// When the first interval starts that ends after a time, and `u64::MAX` where there is none.
+    pub fn first_open(&self, time: u64) -> u64
+        ensures { result ≡ start_after time self.now.spans }
+    {
+        start_after(&self.spans, time)
     }
 
     /// Forgets the intervals that end at or before a time. No tuple and no mark comes at an earlier

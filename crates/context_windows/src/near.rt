@@ -41,7 +41,7 @@ pub fn due(spans: &[Span], old: u64, new: u64) -> Places
 }
 
 // How many sessions end at or before a time.
-fn ended_by(spans: &[Span], time: u64) -> usize
+pub fn ended_by(spans: &[Span], time: u64) -> usize
     requires { AreApart spans.now }
     ensures { IsPlaceOf (λ s. nat_le s.high time) spans.now result }
 {

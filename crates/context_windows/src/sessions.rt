@@ -1,15 +1,17 @@
 //! The sessions of one key.
-ghost use Rattle.std.specs.Prelude.{◌≡◌, ◌≤◌, ◌+◌, ◌-◌, ◌*◌, ◌++◌, ℕ, List, [], filter, length, max, nat_lt, OnOk, IfOk, vec_len, vec_capacity};
+ghost use Rattle.std.specs.Prelude.{◌≡◌, ◌≤◌, ◌<◌, ◌+◌, ◌-◌, ◌*◌, ◌++◌, ℕ, List, [], filter, length, max, nat_lt, OnOk, IfOk, vec_len, vec_capacity};
 ghost use Rattle.stream_base.specs.declared.kept.Kept.{Kept};
 ghost use Rattle.stream_base.specs.declared.limits.TheConstants.{TIME_MAX};
 ghost use Rattle.stream_base.specs.Laws.{completions};
 ghost use Rattle.stream_base.specs.Model.Changes.{Moment};
 ghost use Rattle.stream_base.specs.Model.Journal.{put_in_order};
 ghost use Rattle.window_laws.specs.After.{with_tuple};
+ghost use Rattle.context_windows.specs.Ahead.{end_after, start_after};
 ghost use Rattle.context_windows.specs.Held.{AreAlignedWith, HoldsSessions};
 ghost use Rattle.context_windows.specs.Spanned.{Follows, HasAsked, IsAsBefore, IsSessionAt, Remembers, changes_of, gap_at, window_at};
 ghost use Rattle.context_windows.specs.Spans.{asked_of, due_of, put_changes, spans_with, told_at};
 
+use crate::ahead::{end_after, start_after};
 use crate::joining::{changes_of_joining, joined, replace};
 use crate::near::{between, due, first_standing, near};
 use crate::span::Span;
@@ -235,6 +237,22 @@ impl Sessions {
         let teller = Teller { window, key };
         let sessions = between(&self.spans, places);
         tell_all(&teller, store, sessions, def.func, out, steps);
+    }
+
+    /// When the first session ends that ends after a watermark, and `u64::MAX` where there is none: a
+    /// move of the watermark to before it completes none.
+    pub fn next_end(&self, water: u64) -> u64
+        ensures value { result ≡ end_after water self.now.spans }
+        ensures none_due { (new : ℕ) → new < result → due_of water new self.now.spans ≡ [] }
+    {
+        end_after(&self.spans, water)
+    }
+
+    /// When the first session starts that ends after a time, and `u64::MAX` where there is none.
+    pub fn first_open(&self, time: u64) -> u64
+        ensures { result ≡ start_after time self.now.spans }
+    {
+        start_after(&self.spans, time)
     }
 
     /// Forgets the sessions that end at or before a time. No tuple comes at an earlier time.

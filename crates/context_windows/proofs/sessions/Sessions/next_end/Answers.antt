@@ -1,0 +1,12 @@
+-- What is due ends after the watermark, and so at the first end behind it or later.
+use Rattle.std.proofs.Common.{◌≡◌, ◌<◌, ◌∙◌, ap, subst, sym, rules}
+use Rattle.context_windows.specs.Ahead.{end_after}
+use Rattle.context_windows.specs.Spanned.{Spanned}
+use Rattle.context_windows.specs.Spans.{AreApart}
+use Rattle.context_windows.proofs.Firsts.{none_due}
+use Rattle.context_windows.proofs.sessions.Sessions.next_end.Goals as goal
+
+pub returns-clause-none_due : goal.returns-clause-none_due
+returns-clause-none_due c = λ new l.
+    let is : c.end_after.result ≡ end_after c.args.water c.args.self.now.spans = search rules in
+    none_due c.args.water new c.args.self.now.spans (subst (λ (v : Spanned). AreApart v.spans) c.self.view_is c.self.invariant) (subst (λ e. new < e) is l)

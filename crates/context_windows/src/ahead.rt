@@ -1,0 +1,41 @@
+//! The first span that ends after a time.
+ghost use Rattle.std.specs.Prelude.{◌≡◌, ℕ};
+ghost use Rattle.context_windows.specs.Ahead.{end_after, first_after, start_after};
+ghost use Rattle.context_windows.specs.Spans.{AreApart};
+
+use crate::near::ended_by;
+use crate::span::Span;
+
+// When it ends, and the greatest number where there is none.
+pub fn end_after(spans: &[Span], time: u64) -> u64
+    requires { AreApart spans.now }
+    ensures { result ≡ end_after time spans.now }
+{
+    match first_after(spans, time) {
+        Some(span) => span.high,
+        None => u64::MAX,
+    }
+}
+
+// When it starts, and the greatest number where there is none.
+pub fn start_after(spans: &[Span], time: u64) -> u64
+    requires { AreApart spans.now }
+    ensures { result ≡ start_after time spans.now }
+{
+    match first_after(spans, time) {
+        Some(span) => span.low,
+        None => u64::MAX,
+    }
+}
+
+fn first_after(spans: &[Span], time: u64) -> Option<Span>
+    requires { AreApart spans.now }
+    ensures { result ≡ first_after time spans.now }
+{
+    let place = ended_by(spans, time);
+    if place < spans.len() {
+        Some(spans[place])
+    } else {
+        None
+    }
+}
