@@ -1,0 +1,4 @@
+pub mod Rest
+pub mod OfSessions
+pub mod Starts
+pub mod Settling

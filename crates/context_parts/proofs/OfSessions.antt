@@ -1,0 +1,91 @@
+-- The sessions of a key, where settled tuples have left the store.
+use Rattle.std.proofs.Common.{◌≡◌, ◌∙◌, ℕ, ◌+◌, ◌-◌, ◌^◌, ◌<◌, ◌≤◌, List, [], ◌++◌, drop, length, get_or, ap, sym, subst, refl, arith}
+use Rattle.std.specs.Prelude.{false, max, nat_lt, slice_index_or}
+use Rattle.std.specs.List.{All, Contains, filter}
+use Rattle.std.proofs.lemmas.List.Elements.{Contains-get_or}
+use Rattle.stream_base.specs.declared.def.Def.{Def}
+use Rattle.stream_base.specs.declared.func.Func.TheVariants.{Count}
+use Rattle.stream_base.specs.declared.kept.Kept.{Kept}
+use Rattle.stream_base.specs.declared.kind.Kind.{Kind}
+use Rattle.stream_base.specs.declared.kind.Kind.TheVariants.{Tumbling, Sliding, Session, Marks, Events}
+use Rattle.stream_base.specs.declared.limits.TheConstants.{FINAL}
+use Rattle.stream_base.specs.Laws.{TimesDoNotFall}
+use Rattle.stream_base.specs.Limits.{Definitions}
+use Rattle.stream_base.specs.Model.Changes.{Moment, emissions, retractions}
+use Rattle.stream_base.specs.Model.Journal.{put_in_order}
+use Rattle.stream_base.specs.Model.Slices.{is_events}
+use Rattle.stream_base.specs.Model.Windows.{Instance, instances_of, is_complete, sessions, within}
+use Rattle.stream_base.proofs.ChangeFacts.{none_emitted, none_retracted}
+use Rattle.stream_base.proofs.Distinct.{All_from_members, standing_rises}
+use Rattle.window_laws.specs.After.{at_water, with_mark, with_tuple}
+use Rattle.window_laws.specs.Settled.{MayLeave}
+use Rattle.slice_store.specs.Stored.{Stored, tuples_of}
+use Rattle.context_windows.specs.Aligned.{IsOfSessions}
+use Rattle.context_windows.specs.Held.{AreAlignedWith, HoldsSessions}
+use Rattle.context_windows.specs.Spanned.{Follows, IsSession, IsSessionAt, Spanned, gap_at, gap_of, sessions_after, window_at}
+use Rattle.context_windows.specs.Spans.{asked_of, due_of, told_at}
+use Rattle.context_windows.proofs.Aligning.{asked_aligned, due_aligned, told_aligned}
+use Rattle.context_windows.proofs.Following.{session_within}
+use Rattle.key_parts.specs.Moves.{AreLists, IsPutStep}
+use Rattle.context_parts.specs.SessionsStand.{DoStand}
+use Rattle.context_parts.proofs.Rest.{HoldsRest, few_kept, few_with, kept_with, left_over, open_few, open_selects, rest_held, rest_windows, rest_with}
+
+pub sessions_are : (kind : Kind) (kept : List Kept) (marks : List ℕ) → IsSession kind → instances_of kind kept marks ≡ sessions (gap_of kind) kept
+unfolding instances_of
+sessions_are (Tumbling length) kept marks h = absurd h
+sessions_are (Sliding length slide) kept marks h = absurd h
+sessions_are (Session gap) kept marks h = refl
+sessions_are Marks kept marks h = absurd h
+sessions_are (Events count) kept marks h = absurd h
+
+pub no_events : (kind : Kind) → IsSession kind → is_events kind ≡ false
+no_events (Tumbling length) h = absurd h
+no_events (Sliding length slide) h = absurd h
+no_events (Session gap) h = refl
+no_events Marks h = absurd h
+no_events (Events count) h = absurd h
+
+pub is_window : (d : Definitions) (window : ℕ) → window < length d.windows → Contains d.windows (window_at d window)
+is_window d window l = Contains-get_or d.windows window (record { kind = Marks; func = Count }) l
+
+-- ---- what the store holds and where its slices part
+module _ (d : Definitions) (window : ℕ) (at : IsSessionAt d window) where
+  c : Contains d.windows (window_at d window)
+  c = is_window d window at.within
+
+  e : is_events (window_at d window).kind ≡ false
+  e = no_events (window_at d window).kind at.session
+
+  module _ (m : Moment) (n : ℕ) (s : Stored) (h : HoldsRest d m n s) where
+    pub sessions_held : (time : ℕ) → m.water - d.lateness ≤ time → length m.kept < 2 ^ 64 → HoldsSessions (gap_at d window) time m.kept s
+    sessions_held time late few =
+        let is : filter (λ (i : Instance). nat_lt time i.high) (instances_of (window_at d window).kind m.kept m.marks) ≡ sessions_after (gap_at d window) time m.kept = ap (filter (λ (i : Instance). nat_lt time i.high)) (sessions_are (window_at d window).kind m.kept m.marks at.session) in
+        record {
+          chosen =
+              subst (λ l. All (λ i. within i.low i.high l ≡ i.chosen) (sessions_after (gap_at d window) time m.kept)) (sym h.tuples)
+              (subst (All (λ i. within i.low i.high (drop n m.kept) ≡ i.chosen)) is (open_selects d m n h.may_leave (window_at d window) (is_window d window at.within) (no_events (window_at d window).kind at.session) time late));
+          few = subst (All (λ i. length i.chosen < 2 ^ 64)) is (open_few d m n h.may_leave (window_at d window) (is_window d window at.within) (no_events (window_at d window).kind at.session) time late few);
+        }
+
+    pub of_sessions : IsOfSessions d.windows (window_at d window) m.kept s
+    of_sessions = record {
+      sliced = rest_windows d m n s h;
+      member = is_window d window at.within;
+      session = at.session;
+      early = h.may_leave.kept.early;
+      some = All_from_members (Contains m.kept) (tuples_of s) (λ z f. left_over n m.kept z (subst (λ l. Contains l z) h.tuples f));
+    }
+
+-- ---- a mark changes no session
+module _ (window : ℕ) (key : List ℕ) (def : Def) (m : Moment) (time : ℕ) (session : IsSession def.kind) (times : TimesDoNotFall m.kept) where
+  stand_alike : filter (is_complete m.water) (instances_of def.kind m.kept m.marks) ≡ filter (is_complete m.water) (instances_of def.kind m.kept (with_mark m time).marks)
+  stand_alike = ap (filter (is_complete m.water)) (sessions_are def.kind m.kept m.marks session ∙ sym (sessions_are def.kind m.kept (with_mark m time).marks session))
+
+  none_gone : retractions key m (with_mark m time) (window, def) ≡ []
+  none_gone = none_retracted window key def.func (filter (is_complete m.water) (instances_of def.kind m.kept (with_mark m time).marks)) (filter (is_complete m.water) (instances_of def.kind m.kept m.marks)) stand_alike
+
+  none_come : emissions key m (with_mark m time) (window, def) ≡ []
+  none_come = none_emitted window key def.func (filter (is_complete m.water) (instances_of def.kind m.kept m.marks)) (filter (is_complete m.water) (instances_of def.kind m.kept (with_mark m time).marks)) (standing_rises def.kind m.kept m.marks m.water (session_within def.kind session) times) stand_alike
+
+  pub none_changed : retractions key m (with_mark m time) (window, def) ++ emissions key m (with_mark m time) (window, def) ≡ []
+  none_changed = λ i. none_gone i ++ none_come i

@@ -1,0 +1,148 @@
+-- What the store of a key holds: all but some first tuples that are settled.
+use Rattle.std.proofs.Common.{◌≡◌, ◌∙◌, ℕ, zero, suc, ◌+◌, ◌-◌, ◌^◌, ◌<◌, ◌≤◌, Bool, true, false, List, [], ◌∷◌, ◌++◌, length, take, drop, get_or, ap, sym, subst, refl, arith, inl, inr}
+use Rattle.std.specs.Prelude.{◌≢◌, ◌⊎◌, nat_lt}
+use Rattle.std.specs.List.{All, Contains, filter, list_all}
+use Rattle.std.proofs.lemmas.Bool.{cases_Bool, false≢true}
+use Rattle.std.proofs.lemmas.List.{length-drop, take-append-drop}
+use Rattle.std.proofs.lemmas.List.Elements.{All-contains, All-drop, All-filter, All-weaker, Contains-append_left, Contains-append_right}
+use Rattle.std.proofs.lemmas.List.Sorted.{IsNonDecreasingBy-drop}
+use Rattle.stream_base.specs.declared.def.Def.{Def}
+use Rattle.stream_base.specs.declared.kept.Kept.{Kept}
+use Rattle.stream_base.specs.declared.limits.TheConstants.{FINAL, JOURNAL_MAX, TIME_MAX}
+use Rattle.stream_base.specs.Laws.{TimesDoNotFall}
+use Rattle.stream_base.specs.Limits.{Definitions, IsKindWithin}
+use Rattle.stream_base.specs.Model.Changes.{Moment}
+use Rattle.stream_base.specs.Model.Journal.{put_in_order}
+use Rattle.stream_base.specs.Model.Slices.{is_events, is_settled, is_settled_in}
+use Rattle.stream_base.specs.Model.Windows.{Instance, instances_of, is_within, within}
+use Rattle.stream_base.proofs.Distinct.{All_from_members}
+use Rattle.stream_base.proofs.Members.{filter_members}
+use Rattle.window_laws.specs.After.{with_tuple}
+use Rattle.window_laws.specs.Positions.{AreKept, HaveDistinctPositions}
+use Rattle.window_laws.specs.Settled.{MayLeave, without_first}
+use Rattle.window_laws.proofs.InstanceFacts.{bounds_are_ends, spans_hold_selections}
+use Rattle.window_laws.proofs.KeptFacts.{put_is_kept}
+use Rattle.window_laws.proofs.LeaveChanges.{may_leave_after_tuple, tuple_enters_the_rest}
+use Rattle.window_laws.proofs.LeaveFacts.{EndBy, firsts_leave}
+use Rattle.window_laws.proofs.RunFacts.{put_behind, put_first}
+use Rattle.window_laws.proofs.SettledFacts.{all_member, settled_by_times}
+use Rattle.slice_store.specs.Stored.{IsSliced, Stored, tuples_of}
+use Rattle.context_windows.specs.Aligned.{IsOfWindows}
+use Rattle.context_windows.proofs.Parts.{fewer_pass, filter_alike}
+use Rattle.key_parts.specs.Held.{IsHeld}
+use Rattle.key_parts.specs.Moves.{AreLists, Comes, IsPutStep, IsStored, all_count_events}
+use Rattle.key_parts.specs.Moves.Comes.{Enters, Leaves}
+
+taken : (n : ℕ) (kept : List Kept) (z : Kept) → Contains (take n kept) z → Contains kept z
+taken n kept z c = subst (λ l. Contains l z) (take-append-drop n kept) (Contains-append_left (take n kept) (drop n kept) z c)
+
+pub left_over : (n : ℕ) (kept : List Kept) (z : Kept) → Contains (drop n kept) z → Contains kept z
+left_over n kept z c = subst (λ l. Contains l z) (take-append-drop n kept) (Contains-append_right (take n kept) (drop n kept) z c)
+
+-- ---- the tuples that are left are tuples of a key
+drop_distinct : (n : ℕ) (kept : List Kept) → HaveDistinctPositions kept → HaveDistinctPositions (drop n kept)
+drop_distinct zero [] h = h
+drop_distinct zero (x ∷ xs) h = h
+drop_distinct (suc n) [] h = h
+drop_distinct (suc n) (x ∷ xs) h = drop_distinct n xs (λ i j d l m. h (suc i) (suc j) d (omega arith) (omega arith))
+
+pub rest_is_kept : (n : ℕ) (kept : List Kept) → AreKept kept → AreKept (drop n kept)
+rest_is_kept n kept k = record {
+  in_order = IsNonDecreasingBy-drop (λ (z : Kept). z.time) n kept k.in_order;
+  early = All-drop (λ (z : Kept). z.time < FINAL) n kept k.early;
+  distinct = drop_distinct n kept k.distinct;
+}
+
+-- ---- instances that end later than the watermark minus the lateness
+module _ (d : Definitions) (m : Moment) (n : ℕ) (may : MayLeave d m n) (w : Def) (c : Contains d.windows w) (e : is_events w.kind ≡ false) (time : ℕ) (late : m.water - d.lateness ≤ time) where
+  is_within_limits : IsKindWithin w.kind
+  is_within_limits = All-contains (λ w. IsKindWithin w.kind) d.windows w may.kinds c
+
+  ends_by : (z : Kept) → Contains (take n m.kept) z → EndBy w.kind m.kept m.marks time z.time
+  ends_by z b i g l r =
+      let s : is_settled d m z ≡ true = All-contains (λ x. is_settled d m x ≡ true) (take n m.kept) z may.are_settled b in
+      let f : i.high + d.lateness ≤ m.water = settled_by_times d.lateness m z w may.kept is_within_limits e (taken n m.kept z b) (all_member (is_settled_in d.lateness m z) d.windows w s c) i g l r in
+      omega (arith, f, late)
+
+  open_ones : (kept : List Kept) → filter (λ (i : Instance). nat_lt time i.high) (instances_of w.kind kept m.marks) ≡ filter (λ (i : Instance). nat_lt time i.bound) (instances_of w.kind kept m.marks)
+  open_ones kept =
+      filter_alike (λ (i : Instance). nat_lt time i.high) (λ (i : Instance). nat_lt time i.bound) (instances_of w.kind kept m.marks)
+      (All-weaker (λ (i : Instance). i.bound ≡ i.high) (λ i. nat_lt time i.high ≡ nat_lt time i.bound) (λ i f. ap (nat_lt time) (sym f)) (instances_of w.kind kept m.marks) (bounds_are_ends w.kind kept m.marks e))
+
+  -- they are those of the tuples that are left
+  pub open_alike : filter (λ (i : Instance). nat_lt time i.high) (instances_of w.kind m.kept m.marks) ≡ filter (λ (i : Instance). nat_lt time i.high) (instances_of w.kind (drop n m.kept) m.marks)
+  open_alike =
+      open_ones m.kept
+      ∙ firsts_leave w.kind n m.kept m.marks time is_within_limits e (may.kept).in_order ends_by
+      ∙ sym (open_ones (drop n m.kept))
+
+  -- and select only of these
+  pub open_selects : All (λ i. within i.low i.high (drop n m.kept) ≡ i.chosen) (filter (λ (i : Instance). nat_lt time i.high) (instances_of w.kind m.kept m.marks))
+  open_selects =
+      subst (All (λ i. within i.low i.high (drop n m.kept) ≡ i.chosen)) (sym open_alike)
+      (All-filter (λ (i : Instance). nat_lt time i.high) (λ i. within i.low i.high (drop n m.kept) ≡ i.chosen) (instances_of w.kind (drop n m.kept) m.marks)
+      (All-weaker (λ (i : Instance). i.chosen ≡ within i.low i.high (drop n m.kept)) (λ i. within i.low i.high (drop n m.kept) ≡ i.chosen) (λ i f. sym f) (instances_of w.kind (drop n m.kept) m.marks)
+      (spans_hold_selections w.kind (drop n m.kept) m.marks is_within_limits e (rest_is_kept n m.kept may.kept).in_order)))
+
+  pub open_few : length m.kept < 2 ^ 64 → All (λ i. length i.chosen < 2 ^ 64) (filter (λ (i : Instance). nat_lt time i.high) (instances_of w.kind m.kept m.marks))
+  open_few few =
+      All-weaker (λ i. within i.low i.high (drop n m.kept) ≡ i.chosen) (λ i. length i.chosen < 2 ^ 64)
+      (λ i f. let g : length i.chosen ≡ length (within i.low i.high (drop n m.kept)) = ap length (sym f) in
+      omega (arith, g, fewer_pass (is_within i.low i.high) (drop n m.kept), length-drop n m.kept))
+      (filter (λ (i : Instance). nat_lt time i.high) (instances_of w.kind m.kept m.marks)) open_selects
+
+-- ---- the store
+-- the store holds what is left of a key, in the slices of the windows
+pub record HoldsRest (d : Definitions) (m : Moment) (n : ℕ) (s : Stored) : Type 0 where
+  pub may_leave : MayLeave d m n
+  pub tuples : tuples_of s ≡ drop n m.kept
+  pub sliced : IsSliced d.windows s
+
+pub rest_held : (d : Definitions) (m : Moment) (n : ℕ) (s : Stored) → IsHeld d m n s → HoldsRest d m n s
+rest_held d m n s h = record { may_leave = h.may_leave; tuples = h.tuples; sliced = h.sliced }
+
+pub rest_windows : (d : Definitions) (m : Moment) (n : ℕ) (s : Stored) → HoldsRest d m n s → IsOfWindows d.windows s
+rest_windows d m n s h = record {
+  kinds = h.may_leave.kinds;
+  sliced = h.sliced;
+  in_order = subst TimesDoNotFall (sym h.tuples) (rest_is_kept n m.kept h.may_leave.kept).in_order;
+  early = subst (All (λ (x : Kept). x.time < FINAL)) (sym h.tuples) (rest_is_kept n m.kept h.may_leave.kept).early;
+}
+
+-- ---- a tuple comes
+stored : (d : Definitions) (n : ℕ) (before : Stored) (x : Kept) (more : ℕ) (after : Stored) (w : Def) → Contains d.windows w → is_events w.kind ≡ false → Comes d n before x more after → (more ≡ n) × IsStored d before x after
+stored d n before x more after w c e (Enters some st) = (refl, st)
+stored d n before x more after w c e (Leaves all none) = absurd (false≢true (sym e ∙ all_member (λ (w : Def). is_events w.kind) d.windows w all c))
+
+pub kept_with : (m : Moment) (x : Kept) → AreKept m.kept → AreLists m x.position → x.time ≤ TIME_MAX → AreKept (put_in_order m.kept x)
+kept_with m x k l t =
+    put_is_kept m.kept x k (omega arith)
+    (All-weaker (λ (y : Kept). y.position < x.position) (λ (y : Kept). x.position ≢ y.position) (λ y b f. omega (arith, b, f)) m.kept l.below)
+
+module _ (d : Definitions) (m : Moment) (n : ℕ) (before : Stored) (x : Kept) (more : ℕ) (after : Stored) (w : Def) (c : Contains d.windows w) (e : is_events w.kind ≡ false) (p : IsPutStep d m n before x more after) where
+  pub rest_with : HoldsRest d (with_tuple m x) n after
+  rest_with =
+      let s = (stored d n before x more after w c e p.comes).1 in
+      let k : AreKept (put_in_order m.kept x) = kept_with m x p.held.may_leave.kept p.lists p.time in
+      record {
+        may_leave = may_leave_after_tuple d m n w x p.held.may_leave c e k p.in_time;
+        tuples =
+            s.tuples
+            ∙ ap (λ l. put_in_order l x) p.held.tuples
+            ∙ ap (λ (a : Moment). a.kept) (tuple_enters_the_rest d m n w x p.held.may_leave c e k p.in_time);
+        sliced = s.sliced;
+      }
+
+pub few_kept : (m : Moment) (next : ℕ) → AreLists m next → length m.kept < 2 ^ 64
+few_kept m next l = omega (arith, l.few, l.most)
+
+put_length : (kept : List Kept) (x : Kept) → length (put_in_order kept x) ≡ length kept + 1
+put_length [] x = refl
+put_length (y ∷ ys) x = by (cases_Bool (nat_lt x.time y.time)) (put_length ys x)
+  where
+    by : (nat_lt x.time y.time ≡ true) ⊎ (nat_lt x.time y.time ≡ false) → length (put_in_order ys x) ≡ length ys + 1 → length (put_in_order (y ∷ ys) x) ≡ length (y ∷ ys) + 1
+    by (inl e) h = ap length (put_first y ys x e) ∙ omega arith
+    by (inr e) h = ap length (put_behind y ys x e) ∙ omega arith
+
+pub few_with : (m : Moment) (x : Kept) → AreLists m x.position → length (put_in_order m.kept x) < 2 ^ 64
+few_with m x l = omega (arith, l.few, l.most, put_length m.kept x)

@@ -1,0 +1,45 @@
+-- The store holds all of the session that the tuple makes.
+use Rattle.std.proofs.Common.{◌≤◌, ◌-◌, ◌+◌, arith, ap, refl, subst, sym}
+use Rattle.context_windows.specs.Spanned.{Remembers, Spanned, gap_at, window_at}
+use Rattle.context_windows.proofs.Aligning.{told_aligned}
+use Rattle.key_windows.specs.Calls.{kept_at}
+use Rattle.window_laws.specs.After.{with_tuple}
+use Rattle.context_parts.proofs.OfSessions.{is_window, no_events, of_sessions, sessions_held}
+use Rattle.context_parts.proofs.Rest.{few_with, rest_with}
+use Rattle.context_parts.proofs.session_part.SessionPartKeyPart.put.Goals as goal
+
+pub put-requires-clause-aligned : goal.put-requires-clause-aligned
+put-requires-clause-aligned g c =
+    let d = c.args.defs.now in
+    let w = window_at d c.args.window in
+    let x = kept_at c.args.pos c.args.time c.args.value in
+    let t = c.requires.takes in
+    let at = (t.4).stood.session in
+    let open_ : c.args.self.now.sessions.forgotten ≤ c.args.time = omega (arith, (t.4).stood.bounded, (t.4).step.in_time) in
+    told_aligned d.windows w (t.0).kept x c.args.store.now c.args.self.now.sessions c.args.water
+    (of_sessions d c.args.window at (with_tuple t.0 x) t.1 c.args.store.now (rest_with d t.0 t.1 t.2 x t.3 c.args.store.now w (is_window d c.args.window at.within) (no_events w.kind at.session) (t.4).step))
+    (t.4).stood.follows open_
+
+pub returns-clause-stands : goal.returns-clause-stands
+returns-clause-stands g c = λ m n before more t.
+    let d = c.args.defs.now in
+    let x = kept_at c.args.pos c.args.time c.args.value in
+    let open_ : c.args.self.now.sessions.forgotten ≤ c.args.time = omega (arith, t.stood.bounded, t.step.in_time) in
+    record {
+      session = t.stood.session;
+      follows = c.put.ensures.follows m.kept x t.stood.follows open_ refl;
+      bounded = subst (λ n. n ≤ m.water - d.lateness) (sym c.put.ensures.forgotten) t.stood.bounded;
+    }
+
+pub returns-clause-changes : goal.returns-clause-changes
+returns-clause-changes g c = λ m n before more t.
+    let d = c.args.defs.now in
+    let w = window_at d c.args.window in
+    let x = kept_at c.args.pos c.args.time c.args.value in
+    let at = t.stood.session in
+    let late : m.water - d.lateness ≤ c.args.time = omega (arith, t.step.in_time) in
+    let open_ : c.args.self.now.sessions.forgotten ≤ c.args.time = omega (arith, t.stood.bounded, late) in
+    let rest = rest_with d m n before x more c.args.store.now w (is_window d c.args.window at.within) (no_events w.kind at.session) t.step in
+    c.put.ensures.changes m x t.stood.follows open_ refl t.water_is
+    (subst (λ water. Remembers w c.args.time water m.kept c.args.self.now.sessions) t.water_is t.asked.remembers)
+    (sessions_held d c.args.window at (with_tuple m x) n c.args.store.now rest c.args.time late (few_with m x t.step.lists))

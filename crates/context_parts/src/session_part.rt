@@ -1,0 +1,170 @@
+//! The part of a session window in the state of a key.
+ghost use Rattle.std.specs.Prelude.{◌≡◌, ◌≤◌, ◌-◌, ℕ, length};
+
+use agg_laws::{AggTree, Bundle, Steps};
+use context_windows::Sessions;
+use key_parts::KeyPart;
+use slice_store::SliceStore;
+use std::alloc::Global;
+use stream_base::{Change, Defs, KeyText, NoMemory};
+
+/// The sessions of one key for a session window of it. They end and start by all tuples that were
+/// kept of the key: what has left the store lay in sessions that are forgotten.
+#[derive(Debug, Drop)]
+pub struct SessionPart {
+    sessions: Sessions,
+}
+
+impl KeyPart for SessionPart {
+    ghost use Rattle.std.specs.Prelude.{◌≤◌, ◌-◌, length};
+    ghost use Rattle.context_parts.specs.SessionsStand.{AreAsked, DoStand};
+    ghost use Rattle.context_windows.specs.Ahead.{start_after};
+    ghost use Rattle.context_windows.specs.Spanned.{IsSessionAt, gap_at};
+    ghost use Rattle.context_windows.specs.Spans.{due_of, put_changes};
+
+    ghost is_for = { IsSessionAt };
+
+    ghost stands = { λ d window m n s p. DoStand d window m p.sessions };
+
+    ghost is_asked = { λ d window m time p. AreAsked d window m time p.sessions };
+
+    ghost is_ready = { λ d window time water p. 1 ≤ p.sessions.spare };
+
+    ghost put_room = { λ d window time water p.
+        put_changes (gap_at d window) time water p.sessions.spans };
+
+    ghost mark_room = { λ d window time water p. 0 };
+
+    ghost can_move = { λ d window s old new p. Unit {0} };
+
+    ghost move_room = { λ d window s old new p. length (due_of old new p.sessions.spans) };
+
+    ghost settles_at = { λ d window water p.
+        start_after (water - d.lateness) p.sessions.spans };
+
+    fn fresh(alloc: Global, defs: &Defs, window: u32) -> Self {
+        let _ = defs;
+        let _ = window;
+        SessionPart {
+            sessions: Sessions::new(alloc),
+        }
+    }
+
+    fn reserve_put(
+        &mut self,
+        defs: &Defs,
+        window: u32,
+        time: u64,
+        water: u64,
+    ) -> Result<u64, NoMemory> {
+        self.sessions.reserve(defs, window, time, water)
+    }
+
+    fn before<T: AggTree<Bundle>, L>(
+        &mut self,
+        defs: &Defs,
+        window: u32,
+        store: &SliceStore<T>,
+        time: u64,
+        water: u64,
+        steps: &mut Steps<L>,
+    ) {
+        self.sessions
+            .before(defs, window, store, time, water, steps);
+    }
+
+    fn put<T: AggTree<Bundle>, L>(
+        &mut self,
+        defs: &Defs,
+        window: u32,
+        store: &SliceStore<T>,
+        key: &KeyText,
+        pos: u64,
+        time: u64,
+        value: i64,
+        water: u64,
+        out: &mut Vec<Change>,
+        steps: &mut Steps<L>,
+    ) {
+        let _ = pos;
+        let _ = value;
+        self.sessions
+            .put(defs, window, store, key, time, water, out, steps);
+    }
+
+    fn reserve_mark(
+        &mut self,
+        defs: &Defs,
+        window: u32,
+        time: u64,
+        water: u64,
+    ) -> Result<u64, NoMemory> {
+        self.sessions.reserve(defs, window, time, water)?;
+        Ok(0)
+    }
+
+    // A mark changes no session.
+    fn mark<T: AggTree<Bundle>, L>(
+        &mut self,
+        defs: &Defs,
+        window: u32,
+        store: &SliceStore<T>,
+        key: &KeyText,
+        time: u64,
+        water: u64,
+        out: &mut Vec<Change>,
+        steps: &mut Steps<L>,
+    ) {}
+
+    fn reserve_water<T: AggTree<Bundle>>(
+        &mut self,
+        defs: &Defs,
+        window: u32,
+        store: &SliceStore<T>,
+        old: u64,
+        new: u64,
+    ) -> Result<u64, NoMemory> {
+        let _ = store;
+        Ok(self.sessions.due(defs, window, old, new))
+    }
+
+    fn water<T: AggTree<Bundle>, L>(
+        &mut self,
+        defs: &Defs,
+        window: u32,
+        store: &SliceStore<T>,
+        key: &KeyText,
+        old: u64,
+        new: u64,
+        out: &mut Vec<Change>,
+        steps: &mut Steps<L>,
+    ) {
+        self.sessions
+            .water(defs, window, store, key, old, new, out, steps);
+    }
+
+    fn next_due<T: AggTree<Bundle>>(
+        &self,
+        defs: &Defs,
+        window: u32,
+        store: &SliceStore<T>,
+        water: u64,
+    ) -> u64 {
+        let _ = defs;
+        let _ = window;
+        let _ = store;
+        self.sessions.next_end(water)
+    }
+
+    fn first_unsettled(&self, defs: &Defs, window: u32, water: u64) -> u64 {
+        let _ = window;
+        self.sessions
+            .first_open(water.saturating_sub(defs.lateness()))
+    }
+
+    fn drop_settled(&mut self, defs: &Defs, window: u32, water: u64) {
+        let _ = window;
+        self.sessions
+            .drop_settled(water.saturating_sub(defs.lateness()));
+    }
+}
