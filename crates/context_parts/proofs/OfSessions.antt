@@ -1,34 +1,25 @@
 -- The sessions of a key, where settled tuples have left the store.
-use Rattle.std.proofs.Common.{◌≡◌, ◌∙◌, ℕ, ◌+◌, ◌-◌, ◌^◌, ◌<◌, ◌≤◌, List, [], ◌++◌, drop, length, get_or, ap, sym, subst, refl, arith}
-use Rattle.std.specs.Prelude.{false, max, nat_lt, slice_index_or}
+use Rattle.std.proofs.Common.{◌≡◌, ◌∙◌, ℕ, ◌+◌, ◌-◌, ◌^◌, ◌<◌, ◌≤◌, List, [], ◌++◌, drop, length, ap, sym, subst, refl}
+use Rattle.std.specs.Prelude.{false, nat_lt}
 use Rattle.std.specs.List.{All, Contains, filter}
-use Rattle.std.proofs.lemmas.List.Elements.{Contains-get_or}
 use Rattle.stream_base.specs.declared.def.Def.{Def}
-use Rattle.stream_base.specs.declared.func.Func.TheVariants.{Count}
 use Rattle.stream_base.specs.declared.kept.Kept.{Kept}
 use Rattle.stream_base.specs.declared.kind.Kind.{Kind}
 use Rattle.stream_base.specs.declared.kind.Kind.TheVariants.{Tumbling, Sliding, Session, Marks, Events}
-use Rattle.stream_base.specs.declared.limits.TheConstants.{FINAL}
 use Rattle.stream_base.specs.Laws.{TimesDoNotFall}
 use Rattle.stream_base.specs.Limits.{Definitions}
 use Rattle.stream_base.specs.Model.Changes.{Moment, emissions, retractions}
-use Rattle.stream_base.specs.Model.Journal.{put_in_order}
 use Rattle.stream_base.specs.Model.Slices.{is_events}
 use Rattle.stream_base.specs.Model.Windows.{Instance, instances_of, is_complete, sessions, within}
 use Rattle.stream_base.proofs.ChangeFacts.{none_emitted, none_retracted}
 use Rattle.stream_base.proofs.Distinct.{All_from_members, standing_rises}
-use Rattle.window_laws.specs.After.{at_water, with_mark, with_tuple}
-use Rattle.window_laws.specs.Settled.{MayLeave}
+use Rattle.window_laws.specs.After.{with_mark}
 use Rattle.slice_store.specs.Stored.{Stored, tuples_of}
 use Rattle.context_windows.specs.Aligned.{IsOfSessions}
-use Rattle.context_windows.specs.Held.{AreAlignedWith, HoldsSessions}
-use Rattle.context_windows.specs.Spanned.{Follows, IsSession, IsSessionAt, Spanned, gap_at, gap_of, sessions_after, window_at}
-use Rattle.context_windows.specs.Spans.{asked_of, due_of, told_at}
-use Rattle.context_windows.proofs.Aligning.{asked_aligned, due_aligned, told_aligned}
+use Rattle.context_windows.specs.Held.{HoldsSessions}
+use Rattle.context_windows.specs.Spanned.{IsSession, IsSessionAt, gap_at, gap_of, sessions_after, window_at}
 use Rattle.context_windows.proofs.Following.{session_within}
-use Rattle.key_parts.specs.Moves.{AreLists, IsPutStep}
-use Rattle.context_parts.specs.SessionsStand.{DoStand}
-use Rattle.context_parts.proofs.Rest.{HoldsRest, few_kept, few_with, kept_with, left_over, open_few, open_selects, rest_held, rest_windows, rest_with}
+use Rattle.context_parts.proofs.Rest.{HoldsRest, is_window, left_over, open_few, open_selects, rest_windows}
 
 pub sessions_are : (kind : Kind) (kept : List Kept) (marks : List ℕ) → IsSession kind → instances_of kind kept marks ≡ sessions (gap_of kind) kept
 unfolding instances_of
@@ -45,17 +36,8 @@ no_events (Session gap) h = refl
 no_events Marks h = absurd h
 no_events (Events count) h = absurd h
 
-pub is_window : (d : Definitions) (window : ℕ) → window < length d.windows → Contains d.windows (window_at d window)
-is_window d window l = Contains-get_or d.windows window (record { kind = Marks; func = Count }) l
-
 -- ---- what the store holds and where its slices part
 module _ (d : Definitions) (window : ℕ) (at : IsSessionAt d window) where
-  c : Contains d.windows (window_at d window)
-  c = is_window d window at.within
-
-  e : is_events (window_at d window).kind ≡ false
-  e = no_events (window_at d window).kind at.session
-
   module _ (m : Moment) (n : ℕ) (s : Stored) (h : HoldsRest d m n s) where
     pub sessions_held : (time : ℕ) → m.water - d.lateness ≤ time → length m.kept < 2 ^ 64 → HoldsSessions (gap_at d window) time m.kept s
     sessions_held time late few =

@@ -1,25 +1,25 @@
 -- What the store of a key holds: all but some first tuples that are settled.
-use Rattle.std.proofs.Common.{◌≡◌, ◌∙◌, ℕ, zero, suc, ◌+◌, ◌-◌, ◌^◌, ◌<◌, ◌≤◌, Bool, true, false, List, [], ◌∷◌, ◌++◌, length, take, drop, get_or, ap, sym, subst, refl, arith, inl, inr}
+use Rattle.std.proofs.Common.{◌≡◌, ◌∙◌, ℕ, zero, suc, ◌+◌, ◌-◌, ◌^◌, ◌<◌, ◌≤◌, true, false, List, [], ◌∷◌, length, take, drop, ap, sym, subst, refl, arith, inl, inr}
 use Rattle.std.specs.Prelude.{◌≢◌, ◌⊎◌, nat_lt}
-use Rattle.std.specs.List.{All, Contains, filter, list_all}
+use Rattle.std.specs.List.{All, Contains, filter}
 use Rattle.std.proofs.lemmas.Bool.{cases_Bool, false≢true}
 use Rattle.std.proofs.lemmas.List.{length-drop, take-append-drop}
-use Rattle.std.proofs.lemmas.List.Elements.{All-contains, All-drop, All-filter, All-weaker, Contains-append_left, Contains-append_right}
+use Rattle.std.proofs.lemmas.List.Elements.{All-contains, All-drop, All-filter, All-weaker, Contains-append_left, Contains-append_right, Contains-get_or}
 use Rattle.std.proofs.lemmas.List.Sorted.{IsNonDecreasingBy-drop}
 use Rattle.stream_base.specs.declared.def.Def.{Def}
+use Rattle.stream_base.specs.declared.func.Func.TheVariants.{Count}
 use Rattle.stream_base.specs.declared.kept.Kept.{Kept}
-use Rattle.stream_base.specs.declared.limits.TheConstants.{FINAL, JOURNAL_MAX, TIME_MAX}
+use Rattle.stream_base.specs.declared.kind.Kind.TheVariants.{Marks}
+use Rattle.stream_base.specs.declared.limits.TheConstants.{FINAL, TIME_MAX}
 use Rattle.stream_base.specs.Laws.{TimesDoNotFall}
 use Rattle.stream_base.specs.Limits.{Definitions, IsKindWithin}
 use Rattle.stream_base.specs.Model.Changes.{Moment}
 use Rattle.stream_base.specs.Model.Journal.{put_in_order}
 use Rattle.stream_base.specs.Model.Slices.{is_events, is_settled, is_settled_in}
 use Rattle.stream_base.specs.Model.Windows.{Instance, instances_of, is_within, within}
-use Rattle.stream_base.proofs.Distinct.{All_from_members}
-use Rattle.stream_base.proofs.Members.{filter_members}
 use Rattle.window_laws.specs.After.{with_tuple}
 use Rattle.window_laws.specs.Positions.{AreKept, HaveDistinctPositions}
-use Rattle.window_laws.specs.Settled.{MayLeave, without_first}
+use Rattle.window_laws.specs.Settled.{MayLeave}
 use Rattle.window_laws.proofs.InstanceFacts.{bounds_are_ends, spans_hold_selections}
 use Rattle.window_laws.proofs.KeptFacts.{put_is_kept}
 use Rattle.window_laws.proofs.LeaveChanges.{may_leave_after_tuple, tuple_enters_the_rest}
@@ -28,9 +28,10 @@ use Rattle.window_laws.proofs.RunFacts.{put_behind, put_first}
 use Rattle.window_laws.proofs.SettledFacts.{all_member, settled_by_times}
 use Rattle.slice_store.specs.Stored.{IsSliced, Stored, tuples_of}
 use Rattle.context_windows.specs.Aligned.{IsOfWindows}
+use Rattle.context_windows.specs.Spanned.{window_at}
 use Rattle.context_windows.proofs.Parts.{fewer_pass, filter_alike}
 use Rattle.key_parts.specs.Held.{IsHeld}
-use Rattle.key_parts.specs.Moves.{AreLists, Comes, IsPutStep, IsStored, all_count_events}
+use Rattle.key_parts.specs.Moves.{AreLists, Comes, IsMarkStep, IsPutStep, IsStored}
 use Rattle.key_parts.specs.Moves.Comes.{Enters, Leaves}
 
 taken : (n : ℕ) (kept : List Kept) (z : Kept) → Contains (take n kept) z → Contains kept z
@@ -91,6 +92,10 @@ module _ (d : Definitions) (m : Moment) (n : ℕ) (may : MayLeave d m n) (w : De
       omega (arith, g, fewer_pass (is_within i.low i.high) (drop n m.kept), length-drop n m.kept))
       (filter (λ (i : Instance). nat_lt time i.high) (instances_of w.kind m.kept m.marks)) open_selects
 
+-- ---- the window
+pub is_window : (d : Definitions) (window : ℕ) → window < length d.windows → Contains d.windows (window_at d window)
+is_window d window l = Contains-get_or d.windows window (record { kind = Marks; func = Count }) l
+
 -- ---- the store
 -- the store holds what is left of a key, in the slices of the windows
 pub record HoldsRest (d : Definitions) (m : Moment) (n : ℕ) (s : Stored) : Type 0 where
@@ -114,6 +119,9 @@ stored : (d : Definitions) (n : ℕ) (before : Stored) (x : Kept) (more : ℕ) (
 stored d n before x more after w c e (Enters some st) = (refl, st)
 stored d n before x more after w c e (Leaves all none) = absurd (false≢true (sym e ∙ all_member (λ (w : Def). is_events w.kind) d.windows w all c))
 
+pub is_stored : (d : Definitions) (n : ℕ) (before : Stored) (x : Kept) (more : ℕ) (after : Stored) (w : Def) → Contains d.windows w → is_events w.kind ≡ false → Comes d n before x more after → IsStored d before x after
+is_stored d n before x more after w c e comes = (stored d n before x more after w c e comes).1
+
 pub kept_with : (m : Moment) (x : Kept) → AreKept m.kept → AreLists m x.position → x.time ≤ TIME_MAX → AreKept (put_in_order m.kept x)
 kept_with m x k l t =
     put_is_kept m.kept x k (omega arith)
@@ -122,7 +130,7 @@ kept_with m x k l t =
 module _ (d : Definitions) (m : Moment) (n : ℕ) (before : Stored) (x : Kept) (more : ℕ) (after : Stored) (w : Def) (c : Contains d.windows w) (e : is_events w.kind ≡ false) (p : IsPutStep d m n before x more after) where
   pub rest_with : HoldsRest d (with_tuple m x) n after
   rest_with =
-      let s = (stored d n before x more after w c e p.comes).1 in
+      let s = is_stored d n before x more after w c e p.comes in
       let k : AreKept (put_in_order m.kept x) = kept_with m x p.held.may_leave.kept p.lists p.time in
       record {
         may_leave = may_leave_after_tuple d m n w x p.held.may_leave c e k p.in_time;
@@ -133,6 +141,11 @@ module _ (d : Definitions) (m : Moment) (n : ℕ) (before : Stored) (x : Kept) (
         sliced = s.sliced;
       }
 
+-- ---- a mark comes
+pub rest_marked : (d : Definitions) (m : Moment) (n : ℕ) (before : Stored) (time : ℕ) (after : Stored) → IsMarkStep d m n before time after → HoldsRest d m n after
+rest_marked d m n before time after p = record { may_leave = p.held.may_leave; tuples = p.tuples ∙ p.held.tuples; sliced = p.sliced }
+
+-- ---- how many tuples there are
 pub few_kept : (m : Moment) (next : ℕ) → AreLists m next → length m.kept < 2 ^ 64
 few_kept m next l = omega (arith, l.few, l.most)
 

@@ -1,1 +1,2 @@
 pub mod SessionsStand
+pub mod MarksStand

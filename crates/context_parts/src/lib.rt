@@ -6,6 +6,8 @@
 //! slices may leave the store, and the changes stay those of all that was kept of the key.
 #![tactic(auto)]
 
+mod mark_part;
 mod session_part;
 
+pub use mark_part::MarkPart;
 pub use session_part::SessionPart;

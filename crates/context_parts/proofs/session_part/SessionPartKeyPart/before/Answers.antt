@@ -1,5 +1,5 @@
 -- Slices part at the sessions of all that was kept, and in those that are asked the store holds all.
-use Rattle.std.proofs.Common.{◌≤◌, ◌-◌, ◌+◌, arith, subst, sym}
+use Rattle.std.proofs.Common.{◌≤◌, ◌-◌, arith, subst, sym}
 use Rattle.context_windows.specs.Spanned.{HasAsked, Remembers, gap_at, window_at}
 use Rattle.context_windows.proofs.Aligning.{asked_aligned}
 use Rattle.context_parts.proofs.OfSessions.{of_sessions, sessions_held}

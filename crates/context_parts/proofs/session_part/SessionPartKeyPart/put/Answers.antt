@@ -1,11 +1,11 @@
 -- The store holds all of the session that the tuple makes.
-use Rattle.std.proofs.Common.{◌≤◌, ◌-◌, ◌+◌, arith, ap, refl, subst, sym}
-use Rattle.context_windows.specs.Spanned.{Remembers, Spanned, gap_at, window_at}
+use Rattle.std.proofs.Common.{◌≤◌, ◌-◌, arith, refl, subst, sym}
+use Rattle.context_windows.specs.Spanned.{Remembers, window_at}
 use Rattle.context_windows.proofs.Aligning.{told_aligned}
 use Rattle.key_windows.specs.Calls.{kept_at}
 use Rattle.window_laws.specs.After.{with_tuple}
-use Rattle.context_parts.proofs.OfSessions.{is_window, no_events, of_sessions, sessions_held}
-use Rattle.context_parts.proofs.Rest.{few_with, rest_with}
+use Rattle.context_parts.proofs.OfSessions.{no_events, of_sessions, sessions_held}
+use Rattle.context_parts.proofs.Rest.{few_with, is_window, rest_with}
 use Rattle.context_parts.proofs.session_part.SessionPartKeyPart.put.Goals as goal
 
 pub put-requires-clause-aligned : goal.put-requires-clause-aligned

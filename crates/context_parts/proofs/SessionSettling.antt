@@ -1,0 +1,49 @@
+-- Up to which time tuples are settled in a session window.
+use Rattle.std.proofs.Common.{◌∙◌, ℕ, ◌+◌, ◌-◌, ◌≤◌, List, [], ◌∷◌, drop, map, ap, sym, subst, arith}
+use Rattle.std.specs.Prelude.{nat_le, nat_lt}
+use Rattle.std.specs.List.{All, filter}
+use Rattle.std.proofs.lemmas.List.Elements.{All-weaker}
+use Rattle.stream_base.specs.declared.kept.Kept.{Kept}
+use Rattle.stream_base.specs.declared.limits.TheConstants.{TIME_MAX}
+use Rattle.stream_base.specs.Laws.{TimesDoNotFall}
+use Rattle.stream_base.specs.Limits.{Definitions}
+use Rattle.stream_base.specs.Model.Changes.{Moment}
+use Rattle.stream_base.specs.Model.Windows.{Instance, first_time, last_time, pieces_of, session, sessions}
+use Rattle.window_laws.specs.After.{at_water}
+use Rattle.window_laws.specs.Runs.{AreParted}
+use Rattle.window_laws.specs.Settled.{MayLeave, without_first}
+use Rattle.window_laws.proofs.InstanceFacts.{gap_cut, session_far, session_near, session_runs}
+use Rattle.window_laws.proofs.Order.{All-map_of, IsApart, IsNear, run_spans, runs_behind}
+use Rattle.context_windows.specs.Ahead.{start_after}
+use Rattle.context_windows.specs.Spanned.{Spanned, gap_at, window_at}
+use Rattle.context_windows.specs.Spans.{AreApart, span_of}
+use Rattle.context_windows.proofs.Following.{gap_some}
+use Rattle.key_parts.specs.Moves.{SettlesUpTo}
+use Rattle.context_parts.specs.SessionsStand.{DoStand}
+use Rattle.context_parts.proofs.OfSessions.{no_events, sessions_are}
+use Rattle.context_parts.proofs.Rest.{is_window, rest_is_kept}
+use Rattle.context_parts.proofs.Settling.{settles_up_to}
+
+-- sessions lie apart
+runs_apart : (gap : ℕ) → 1 ≤ gap → (runs : List (List Kept)) → AreParted (IsNear (gap_cut gap)) (IsApart (gap_cut gap)) runs → AreApart (map span_of (map (session gap) runs))
+runs_apart gap some [] a = tt
+runs_apart gap some (run ∷ runs) a =
+    let l : first_time run ≤ last_time run = (run_spans (IsNear (gap_cut gap)) (IsApart (gap_cut gap)) gap (session_near gap) (λ s t. session_far gap s t some) run a.0).1 in (
+      omega (arith, l),
+      All-map_of (λ t. last_time run + gap ≤ t.low) span_of (map (session gap) runs)
+          (All-map_of (λ (i : Instance). last_time run + gap ≤ i.low) (session gap) runs
+          (All-weaker (λ r. (last_time run + gap ≤ first_time r) × (first_time r ≤ last_time r)) (λ r. last_time run + gap ≤ first_time r) (λ r h. h.0) runs
+          (runs_behind (IsNear (gap_cut gap)) (IsApart (gap_cut gap)) gap (session_near gap) (λ s t. session_far gap s t some) run runs a))),
+      runs_apart gap some runs a.2,
+    )
+
+sessions_lie_apart : (gap : ℕ) (kept : List Kept) → 1 ≤ gap → TimesDoNotFall kept → AreApart (map span_of (sessions gap kept))
+sessions_lie_apart gap kept some h = runs_apart gap some (pieces_of (λ x y. nat_le gap (y.time - x.time)) kept) (session_runs gap kept h)
+
+pub sessions_settle : (d : Definitions) (window : ℕ) (m : Moment) (n water : ℕ) (p : Spanned) → m.water ≤ water → MayLeave d m n → All (λ (x : Kept). x.time ≤ TIME_MAX) m.kept → DoStand d window m p → SettlesUpTo d.lateness (at_water (without_first n m) water) (window_at d window) (start_after (water - d.lateness) p.spans)
+sessions_settle d window m n water p rises may times st =
+    let w = window_at d window in
+    let session = st.session.session in
+    settles_up_to d m n water w may (is_window d window st.session.within) (no_events w.kind session) rises times p.forgotten st.bounded p.spans
+    (st.follows.spans ∙ ap (λ l. map span_of (filter (λ (i : Instance). nat_lt p.forgotten i.high) l)) (sym (sessions_are w.kind m.kept m.marks session)))
+    (subst (λ l. AreApart (map span_of l)) (sym (sessions_are w.kind (drop n m.kept) m.marks session)) (sessions_lie_apart (gap_at d window) (drop n m.kept) (gap_some w.kind session) (rest_is_kept n m.kept may.kept).in_order))

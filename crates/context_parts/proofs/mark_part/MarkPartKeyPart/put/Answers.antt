@@ -1,0 +1,52 @@
+-- The store holds all of the interval that the tuple enters.
+use Rattle.std.proofs.Common.{◌∙◌, ◌++◌, ◌≤◌, ◌-◌, ◌+◌, arith, ap, refl, subst, sym}
+use Rattle.window_laws.specs.After.{with_tuple}
+use Rattle.context_windows.specs.Marked.{RemembersHolder, entered_at, marks_window}
+use Rattle.context_windows.specs.Spanned.{changes_of, window_at}
+use Rattle.key_windows.specs.Calls.{kept_at}
+use Rattle.context_parts.proofs.Edges.{HasMarks, edged_aligned, entered_edged, marks_with, parts_at_edges}
+use Rattle.context_parts.proofs.OfMarks.{are_intervals, marks_window_is, no_events, stretches_held}
+use Rattle.context_parts.proofs.Rest.{few_with, is_window, rest_windows, rest_with}
+use Rattle.context_parts.proofs.mark_part.MarkPartKeyPart.put.Goals as goal
+
+pub put-requires-clause-aligned : goal.put-requires-clause-aligned
+put-requires-clause-aligned g c =
+    let d = c.args.defs.now in
+    let w = window_at d c.args.window in
+    let x = kept_at c.args.pos c.args.time c.args.value in
+    let t = c.requires.takes in
+    let p = c.args.self.now.windows in
+    let store = c.args.store.now in
+    let at = (t.4).stood.marks in
+    let rest = rest_with d t.0 t.1 t.2 x t.3 store w (is_window d c.args.window at.within) (no_events w.kind at.kind) (t.4).step in
+    let has = marks_with d t.0 t.1 t.2 x t.3 store w (is_window d c.args.window at.within) (no_events w.kind at.kind) (t.4).step in
+    edged_aligned p.marks store.slices (entered_at c.args.time c.args.water p)
+    (parts_at_edges d.windows p.marks store (rest_windows d (with_tuple t.0 x) t.1 store rest) (subst (λ ms. HasMarks ms store) (sym (t.4).stood.follows.known) has))
+    (entered_edged c.args.time c.args.water p (are_intervals (t.0).marks (t.0).kept p (t.4).stood.follows (t.4).step.lists.rising (t.4).step.lists.mark_times) (t.4).step.time)
+
+pub returns-clause-stands : goal.returns-clause-stands
+returns-clause-stands g c = λ m n before more t.
+    let d = c.args.defs.now in
+    let x = kept_at c.args.pos c.args.time c.args.value in
+    let open_ : c.args.self.now.windows.forgotten ≤ c.args.time = omega (arith, t.stood.bounded, t.step.in_time) in
+    record {
+      marks = t.stood.marks;
+      follows = c.put.ensures.follows m.marks m.kept x t.stood.follows open_ refl;
+      bounded = subst (λ n. n ≤ m.water - d.lateness) (sym c.put.ensures.forgotten) t.stood.bounded;
+    }
+
+pub returns-clause-changes : goal.returns-clause-changes
+returns-clause-changes g c = λ m n before more t.
+    let d = c.args.defs.now in
+    let w = window_at d c.args.window in
+    let x = kept_at c.args.pos c.args.time c.args.value in
+    let p = c.args.self.now.windows in
+    let at = t.stood.marks in
+    let late : m.water - d.lateness ≤ c.args.time = omega (arith, t.step.in_time) in
+    let open_ : c.args.self.now.windows.forgotten ≤ c.args.time = omega (arith, t.stood.bounded, late) in
+    let rest = rest_with d m n before x more c.args.store.now w (is_window d c.args.window at.within) (no_events w.kind at.kind) t.step in
+    let remembers : RemembersHolder c.func_at-func.result c.args.time c.args.water m.marks m.kept p =
+    subst (λ f. RemembersHolder f c.args.time c.args.water m.marks m.kept p) (sym c.func_at-func.ensures) (subst (λ water. RemembersHolder w.func c.args.time water m.marks m.kept p) t.water_is t.asked.remembers) in
+    c.put.ensures.changes m x t.stood.follows open_ refl t.water_is remembers
+    (stretches_held d c.args.window at (with_tuple m x) n c.args.store.now rest c.args.time late (few_with m x t.step.lists))
+    ∙ ap (λ def. c.args.out.now.items ++ changes_of c.args.key.now m (with_tuple m x) (c.args.window, def)) (ap marks_window c.func_at-func.ensures ∙ marks_window_is w at.kind)

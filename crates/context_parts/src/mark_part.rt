@@ -1,0 +1,188 @@
+//! The part of a window between marks in the state of a key.
+ghost use Rattle.std.specs.Prelude.{◌≡◌, ◌<◌, length};
+ghost use Rattle.context_windows.specs.Spanned.{window_at};
+
+use agg_laws::{AggTree, Bundle, Steps};
+use context_windows::MarkWindows;
+use key_parts::KeyPart;
+use slice_store::SliceStore;
+use std::alloc::Global;
+use stream_base::{Change, Defs, Func, KeyText, NoMemory};
+
+/// The intervals between the marks of one key for a window of it. They are those of all tuples and
+/// marks that were kept of the key: what has left the store lay in intervals that are forgotten.
+#[derive(Debug, Drop)]
+pub struct MarkPart {
+    windows: MarkWindows,
+}
+
+// The function of the window at a place of the definitions.
+fn func_at(defs: &Defs, window: u32) -> Func
+    requires { window < length (defs.now).windows }
+    ensures { result ≡ (window_at defs.now window).func }
+{
+    let windows = defs.windows();
+    windows[window as usize].func
+}
+
+impl KeyPart for MarkPart {
+    ghost use Rattle.std.specs.Prelude.{◌≤◌, ◌-◌, length};
+    ghost use Rattle.context_parts.specs.MarksStand.{DoStandBetween, IsMarksAt, RemembersHolderAt};
+    ghost use Rattle.context_windows.specs.Ahead.{start_after};
+    ghost use Rattle.context_windows.specs.Marked.{holder_in, most_changes};
+    ghost use Rattle.context_windows.specs.Spans.{due_of};
+
+    ghost is_for = { IsMarksAt };
+
+    ghost stands = { λ d window m n s p. DoStandBetween d window m p.windows };
+
+    ghost is_asked = { λ d window m time p. RemembersHolderAt d window m time p.windows };
+
+    ghost is_ready = { λ d window time water p. 1 ≤ p.windows.spare };
+
+    ghost put_room = { λ d window time water p.
+        most_changes time water (holder_in time p.windows.spans p.windows.marks) };
+
+    ghost mark_room = { λ d window time water p.
+        most_changes time water (holder_in time p.windows.spans p.windows.marks) };
+
+    ghost can_move = { λ d window s old new p. Unit {0} };
+
+    ghost move_room = { λ d window s old new p. length (due_of old new p.windows.spans) };
+
+    ghost settles_at = { λ d window water p.
+        start_after (water - d.lateness) p.windows.spans };
+
+    fn fresh(alloc: Global, defs: &Defs, window: u32) -> Self {
+        let _ = defs;
+        let _ = window;
+        MarkPart {
+            windows: MarkWindows::new(alloc),
+        }
+    }
+
+    fn reserve_put(
+        &mut self,
+        defs: &Defs,
+        window: u32,
+        time: u64,
+        water: u64,
+    ) -> Result<u64, NoMemory> {
+        let _ = defs;
+        self.windows.reserve(window, time, water)
+    }
+
+    fn before<T: AggTree<Bundle>, L>(
+        &mut self,
+        defs: &Defs,
+        window: u32,
+        store: &SliceStore<T>,
+        time: u64,
+        water: u64,
+        steps: &mut Steps<L>,
+    ) {
+        let func = func_at(defs, window);
+        self.windows.before(window, func, store, time, water, steps);
+    }
+
+    fn put<T: AggTree<Bundle>, L>(
+        &mut self,
+        defs: &Defs,
+        window: u32,
+        store: &SliceStore<T>,
+        key: &KeyText,
+        pos: u64,
+        time: u64,
+        value: i64,
+        water: u64,
+        out: &mut Vec<Change>,
+        steps: &mut Steps<L>,
+    ) {
+        let _ = pos;
+        let _ = value;
+        let func = func_at(defs, window);
+        self.windows
+            .put(window, func, store, key, time, water, out, steps);
+    }
+
+    fn reserve_mark(
+        &mut self,
+        defs: &Defs,
+        window: u32,
+        time: u64,
+        water: u64,
+    ) -> Result<u64, NoMemory> {
+        let _ = defs;
+        self.windows.reserve(window, time, water)
+    }
+
+    fn mark<T: AggTree<Bundle>, L>(
+        &mut self,
+        defs: &Defs,
+        window: u32,
+        store: &SliceStore<T>,
+        key: &KeyText,
+        time: u64,
+        water: u64,
+        out: &mut Vec<Change>,
+        steps: &mut Steps<L>,
+    ) {
+        let func = func_at(defs, window);
+        self.windows
+            .mark(window, func, store, key, time, water, out, steps);
+    }
+
+    fn reserve_water<T: AggTree<Bundle>>(
+        &mut self,
+        defs: &Defs,
+        window: u32,
+        store: &SliceStore<T>,
+        old: u64,
+        new: u64,
+    ) -> Result<u64, NoMemory> {
+        let _ = defs;
+        let _ = store;
+        Ok(self.windows.due(window, old, new))
+    }
+
+    fn water<T: AggTree<Bundle>, L>(
+        &mut self,
+        defs: &Defs,
+        window: u32,
+        store: &SliceStore<T>,
+        key: &KeyText,
+        old: u64,
+        new: u64,
+        out: &mut Vec<Change>,
+        steps: &mut Steps<L>,
+    ) {
+        let func = func_at(defs, window);
+        self.windows
+            .water(window, func, store, key, old, new, out, steps);
+    }
+
+    fn next_due<T: AggTree<Bundle>>(
+        &self,
+        defs: &Defs,
+        window: u32,
+        store: &SliceStore<T>,
+        water: u64,
+    ) -> u64 {
+        let _ = defs;
+        let _ = window;
+        let _ = store;
+        self.windows.next_end(water)
+    }
+
+    fn first_unsettled(&self, defs: &Defs, window: u32, water: u64) -> u64 {
+        let _ = window;
+        self.windows
+            .first_open(water.saturating_sub(defs.lateness()))
+    }
+
+    fn drop_settled(&mut self, defs: &Defs, window: u32, water: u64) {
+        let _ = window;
+        self.windows
+            .drop_settled(water.saturating_sub(defs.lateness()));
+    }
+}
