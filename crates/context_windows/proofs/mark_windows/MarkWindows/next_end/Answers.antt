@@ -1,5 +1,5 @@
 -- What is due ends after the watermark, and so at the first end behind it or later.
-use Rattle.std.proofs.Common.{◌≡◌, ◌<◌, ◌∙◌, ap, subst, sym, rules}
+use Rattle.std.proofs.Common.{◌≡◌, ◌<◌, subst, rules}
 use Rattle.context_windows.specs.Ahead.{end_after}
 use Rattle.context_windows.specs.Marked.{Marked}
 use Rattle.context_windows.specs.Spans.{AreApart}
