@@ -1,5 +1,5 @@
 -- The slices of a key's store part at the edges of all its marks, where those at its start have gone.
-use Rattle.std.proofs.Common.{◌≡◌, ℕ, ◌-◌, ◌<◌, ◌≤◌, Bool, true, false, cond, List, [], ◌∷◌, Some, None, sym, subst, arith, inl, inr}
+use Rattle.std.proofs.Common.{◌≡◌, ℕ, ◌<◌, ◌≤◌, Bool, true, false, cond, List, [], ◌∷◌, Some, None, sym, subst, arith, inl, inr}
 use Rattle.std.specs.Prelude.{◌⊎◌, nat_lt, option_to_list}
 use Rattle.std.specs.BTreeSet.{insert_key}
 use Rattle.std.specs.List.{All, Contains}

@@ -1,5 +1,5 @@
 -- The sessions of a key, where settled tuples have left the store.
-use Rattle.std.proofs.Common.{◌≡◌, ◌∙◌, ℕ, ◌+◌, ◌-◌, ◌^◌, ◌<◌, ◌≤◌, List, [], ◌++◌, drop, length, ap, sym, subst, refl}
+use Rattle.std.proofs.Common.{◌≡◌, ◌∙◌, ℕ, ◌-◌, ◌^◌, ◌<◌, ◌≤◌, List, [], ◌++◌, drop, length, ap, sym, subst, refl}
 use Rattle.std.specs.Prelude.{false, nat_lt}
 use Rattle.std.specs.List.{All, Contains, filter}
 use Rattle.stream_base.specs.declared.def.Def.{Def}

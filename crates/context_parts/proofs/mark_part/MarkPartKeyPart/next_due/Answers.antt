@@ -1,5 +1,5 @@
 -- Before the first end no interval is due.
-use Rattle.std.proofs.Common.{◌≡◌, ◌∙◌, ◌≤◌, ◌-◌, List, [], ◌∷◌, length, arith, ap, refl, sym}
+use Rattle.std.proofs.Common.{◌≡◌, ◌∙◌, ◌≤◌, List, [], ◌∷◌, length, arith, ap, refl, sym}
 use Rattle.stream_base.specs.Laws.{completions}
 use Rattle.context_windows.specs.Spanned.{window_at}
 use Rattle.context_windows.proofs.Stretching.{marks_due_length}

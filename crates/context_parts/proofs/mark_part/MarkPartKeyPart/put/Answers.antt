@@ -1,5 +1,5 @@
 -- The store holds all of the interval that the tuple enters.
-use Rattle.std.proofs.Common.{◌∙◌, ◌++◌, ◌≤◌, ◌-◌, ◌+◌, arith, ap, refl, subst, sym}
+use Rattle.std.proofs.Common.{◌∙◌, ◌++◌, ◌≤◌, ◌-◌, arith, ap, refl, subst, sym}
 use Rattle.window_laws.specs.After.{with_tuple}
 use Rattle.context_windows.specs.Marked.{RemembersHolder, entered_at, marks_window}
 use Rattle.context_windows.specs.Spanned.{changes_of, window_at}

@@ -1,5 +1,5 @@
 -- Before the first end no session is due.
-use Rattle.std.proofs.Common.{◌≡◌, ◌∙◌, ◌≤◌, ◌-◌, List, [], ◌∷◌, length, arith, ap, refl, sym}
+use Rattle.std.proofs.Common.{◌≡◌, ◌∙◌, ◌≤◌, List, [], ◌∷◌, length, arith, ap, refl, sym}
 use Rattle.context_windows.specs.Spanned.{window_at}
 use Rattle.context_windows.proofs.Following.{completions_length}
 use Rattle.context_parts.proofs.session_part.SessionPartKeyPart.next_due.Goals as goal
