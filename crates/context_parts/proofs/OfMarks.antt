@@ -23,7 +23,7 @@ use Rattle.window_laws.specs.After.{at_water}
 use Rattle.window_laws.specs.Settled.{MayLeave, without_first}
 use Rattle.window_laws.proofs.InstanceFacts.{between_ends}
 use Rattle.window_laws.proofs.Order.{All-map_of}
-use Rattle.slice_store.specs.Stored.{Stored}
+use Rattle.slice_store.specs.Stored.{Stored, tuples_of}
 use Rattle.context_windows.specs.declared.span.Span.{Span}
 use Rattle.context_windows.specs.Ahead.{start_after}
 use Rattle.context_windows.specs.Marked.{AreIntervals, FollowsMarks, HoldsStretches, IsEdge, Marked, marks_window, stretches_after}
@@ -32,7 +32,7 @@ use Rattle.context_windows.specs.Spans.{AreApart, span_of}
 use Rattle.key_parts.specs.Moves.{SettlesUpTo}
 use Rattle.context_parts.specs.MarksStand.{DoStandBetween, IsMarksAt}
 use Rattle.context_parts.proofs.Edges.{AreEdged}
-use Rattle.context_parts.proofs.Rest.{HoldsRest, is_window, open_few, open_selects}
+use Rattle.context_parts.proofs.Rest.{HoldsRest, is_window, open_alike, open_few, open_selects, rest_is_kept}
 use Rattle.context_parts.proofs.Settling.{settles_up_to}
 
 pub stretches_are : (kind : Kind) (kept : List Kept) (marks : List ℕ) → kind ≡ Marks → instances_of kind kept marks ≡ stretches marks kept
@@ -131,8 +131,32 @@ are_intervals marks kept s f r t = record {
   edges = subst (λ ms. AreEdged ms s.spans) (sym f.known) (spans_edged marks kept s f);
 }
 
+-- ---- the intervals of what is left
+-- those that end later than the watermark minus the lateness are those of all that was kept
+stretches_alike : (d : Definitions) (window : ℕ) (at : IsMarksAt d window) (m : Moment) (n : ℕ) → MayLeave d m n → (time : ℕ) → m.water - d.lateness ≤ time → stretches_after time m.marks m.kept ≡ stretches_after time m.marks (drop n m.kept)
+stretches_alike d window at m n may time late =
+    let kind = (window_at d window).kind in
+    ap (filter (λ (i : Instance). nat_lt time i.high)) (sym (stretches_are kind m.kept m.marks at.kind))
+    ∙ open_alike d m n may (window_at d window) (is_window d window at.within) (no_events kind at.kind) time late
+    ∙ ap (filter (λ (i : Instance). nat_lt time i.high)) (stretches_are kind (drop n m.kept) m.marks at.kind)
+
+pub follows_left : (d : Definitions) (window : ℕ) (at : IsMarksAt d window) (m : Moment) (n : ℕ) (p : Marked) → MayLeave d m n → m.water - d.lateness ≤ p.forgotten → FollowsMarks m.marks m.kept p → FollowsMarks m.marks (drop n m.kept) p
+follows_left d window at m n p may late f = record {
+  in_order = (rest_is_kept n m.kept may.kept).in_order;
+  known = f.known;
+  spans = f.spans ∙ ap (map span_of) (stretches_alike d window at m n may p.forgotten late);
+}
+
+pub left_held : (d : Definitions) (window : ℕ) (at : IsMarksAt d window) (m : Moment) (n : ℕ) (s : Stored) → MayLeave d m n → (time : ℕ) → m.water - d.lateness ≤ time → HoldsStretches time m.marks m.kept s → HoldsStretches time m.marks (drop n m.kept) s
+left_held d window at m n s may time late h =
+    let is = stretches_alike d window at m n may time late in
+    record {
+      chosen = subst (All (λ i. within i.low i.high (tuples_of s) ≡ i.chosen)) is h.chosen;
+      few = subst (All (λ i. length i.chosen < 2 ^ 64)) is h.few;
+    }
+
 -- ---- up to which time tuples are settled
-pub stretches_settle : (d : Definitions) (window : ℕ) (m : Moment) (n water : ℕ) (p : Marked) → m.water ≤ water → MayLeave d m n → All (λ (x : Kept). x.time ≤ TIME_MAX) m.kept → DoStandBetween d window m p → SettlesUpTo d.lateness (at_water (without_first n m) water) (window_at d window) (start_after (water - d.lateness) p.spans)
+pub stretches_settle : (d : Definitions) (window : ℕ) (m : Moment) (n water : ℕ) (p : Marked) → m.water ≤ water → MayLeave d m n → All (λ (x : Kept). x.time ≤ TIME_MAX) m.kept → DoStandBetween d window m n p → SettlesUpTo d.lateness (at_water (without_first n m) water) (window_at d window) (start_after (water - d.lateness) p.spans)
 stretches_settle d window m n water p rises may times st =
     let w = window_at d window in
     let kind = st.marks.kind in

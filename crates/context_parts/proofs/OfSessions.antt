@@ -1,5 +1,5 @@
 -- The sessions of a key, where settled tuples have left the store.
-use Rattle.std.proofs.Common.{◌≡◌, ◌∙◌, ℕ, ◌-◌, ◌^◌, ◌<◌, ◌≤◌, List, [], ◌++◌, drop, length, ap, sym, subst, refl}
+use Rattle.std.proofs.Common.{◌≡◌, ◌∙◌, ℕ, ◌-◌, ◌^◌, ◌<◌, ◌≤◌, List, [], ◌++◌, drop, length, ap, sym, subst, refl, map}
 use Rattle.std.specs.Prelude.{false, nat_lt}
 use Rattle.std.specs.List.{All, Contains, filter}
 use Rattle.stream_base.specs.declared.def.Def.{Def}
@@ -14,12 +14,14 @@ use Rattle.stream_base.specs.Model.Windows.{Instance, instances_of, is_complete,
 use Rattle.stream_base.proofs.ChangeFacts.{none_emitted, none_retracted}
 use Rattle.stream_base.proofs.Distinct.{All_from_members, standing_rises}
 use Rattle.window_laws.specs.After.{with_mark}
+use Rattle.window_laws.specs.Settled.{MayLeave}
 use Rattle.slice_store.specs.Stored.{Stored, tuples_of}
 use Rattle.context_windows.specs.Aligned.{IsOfSessions}
 use Rattle.context_windows.specs.Held.{HoldsSessions}
-use Rattle.context_windows.specs.Spanned.{IsSession, IsSessionAt, gap_at, gap_of, sessions_after, window_at}
+use Rattle.context_windows.specs.Spanned.{Follows, IsSession, IsSessionAt, Spanned, gap_at, gap_of, sessions_after, window_at}
+use Rattle.context_windows.specs.Spans.{span_of}
 use Rattle.context_windows.proofs.Following.{session_within}
-use Rattle.context_parts.proofs.Rest.{HoldsRest, is_window, left_over, open_few, open_selects, rest_windows}
+use Rattle.context_parts.proofs.Rest.{HoldsRest, is_window, left_over, open_alike, open_few, open_selects, rest_is_kept, rest_windows}
 
 pub sessions_are : (kind : Kind) (kept : List Kept) (marks : List ℕ) → IsSession kind → instances_of kind kept marks ≡ sessions (gap_of kind) kept
 unfolding instances_of
@@ -56,6 +58,18 @@ module _ (d : Definitions) (window : ℕ) (at : IsSessionAt d window) where
       session = at.session;
       early = h.may_leave.kept.early;
       some = All_from_members (Contains m.kept) (tuples_of s) (λ z f. left_over n m.kept z (subst (λ l. Contains l z) h.tuples f));
+    }
+
+-- ---- the sessions of what is left
+pub follows_left : (d : Definitions) (window : ℕ) (at : IsSessionAt d window) (m : Moment) (n : ℕ) (p : Spanned) → MayLeave d m n → m.water - d.lateness ≤ p.forgotten → Follows (gap_at d window) m.kept p → Follows (gap_at d window) (drop n m.kept) p
+follows_left d window at m n p may late f =
+    let kind = (window_at d window).kind in
+    let is : (kept : List Kept) → filter (λ (i : Instance). nat_lt p.forgotten i.high) (instances_of kind kept m.marks) ≡ sessions_after (gap_at d window) p.forgotten kept = λ kept. ap (filter (λ (i : Instance). nat_lt p.forgotten i.high)) (sessions_are kind kept m.marks at.session) in
+    record {
+      in_order = (rest_is_kept n m.kept may.kept).in_order;
+      spans =
+          f.spans
+          ∙ ap (map span_of) (sym (is m.kept) ∙ open_alike d m n may (window_at d window) (is_window d window at.within) (no_events kind at.session) p.forgotten late ∙ is (drop n m.kept));
     }
 
 -- ---- a mark changes no session

@@ -141,6 +141,13 @@ module _ (d : Definitions) (m : Moment) (n : ℕ) (before : Stored) (x : Kept) (
         sliced = s.sliced;
       }
 
+  -- the tuple enters what is left
+  pub left_with : put_in_order (drop n m.kept) x ≡ drop more (put_in_order m.kept x)
+  left_with =
+      let k : AreKept (put_in_order m.kept x) = kept_with m x p.held.may_leave.kept p.lists p.time in
+      ap (λ (a : Moment). a.kept) (tuple_enters_the_rest d m n w x p.held.may_leave c e k p.in_time)
+      ∙ ap (λ k. drop k (put_in_order m.kept x)) (sym (stored d n before x more after w c e p.comes).0)
+
 -- ---- a mark comes
 pub rest_marked : (d : Definitions) (m : Moment) (n : ℕ) (before : Stored) (time : ℕ) (after : Stored) → IsMarkStep d m n before time after → HoldsRest d m n after
 rest_marked d m n before time after p = record { may_leave = p.held.may_leave; tuples = p.tuples ∙ p.held.tuples; sliced = p.sliced }

@@ -40,7 +40,7 @@ runs_apart gap some (run ∷ runs) a =
 sessions_lie_apart : (gap : ℕ) (kept : List Kept) → 1 ≤ gap → TimesDoNotFall kept → AreApart (map span_of (sessions gap kept))
 sessions_lie_apart gap kept some h = runs_apart gap some (pieces_of (λ x y. nat_le gap (y.time - x.time)) kept) (session_runs gap kept h)
 
-pub sessions_settle : (d : Definitions) (window : ℕ) (m : Moment) (n water : ℕ) (p : Spanned) → m.water ≤ water → MayLeave d m n → All (λ (x : Kept). x.time ≤ TIME_MAX) m.kept → DoStand d window m p → SettlesUpTo d.lateness (at_water (without_first n m) water) (window_at d window) (start_after (water - d.lateness) p.spans)
+pub sessions_settle : (d : Definitions) (window : ℕ) (m : Moment) (n water : ℕ) (p : Spanned) → m.water ≤ water → MayLeave d m n → All (λ (x : Kept). x.time ≤ TIME_MAX) m.kept → DoStand d window m n p → SettlesUpTo d.lateness (at_water (without_first n m) water) (window_at d window) (start_after (water - d.lateness) p.spans)
 sessions_settle d window m n water p rises may times st =
     let w = window_at d window in
     let session = st.session.session in

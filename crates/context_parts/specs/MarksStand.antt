@@ -1,5 +1,5 @@
 -- What the intervals between the marks of a key stand for, where settled tuples may have left the store.
-use Rattle.std.specs.Prelude.{◌≡◌, ◌≤◌, ◌<◌, ◌-◌, ℕ, length}
+use Rattle.std.specs.Prelude.{◌≡◌, ◌≤◌, ◌<◌, ◌-◌, ℕ, drop, length}
 use Rattle.stream_base.specs.Limits.{Definitions}
 use Rattle.stream_base.specs.declared.kind.Kind.TheVariants.{Marks}
 use Rattle.stream_base.specs.Model.Changes.{Moment}
@@ -11,10 +11,11 @@ pub record IsMarksAt (d : Definitions) (window : ℕ) : Type 0 where
   pub within : window < length d.windows
   pub kind : (window_at d window).kind ≡ Marks
 
--- they are the intervals with a tuple of all that is kept of a key, but for some that end by the watermark minus the lateness
-pub record DoStandBetween (d : Definitions) (window : ℕ) (m : Moment) (s : Marked) : Type 0 where
+-- they are the intervals with a tuple of all that is kept of a key, and of what is left of it without so many first tuples, but for some that end by the watermark minus the lateness
+pub record DoStandBetween (d : Definitions) (window : ℕ) (m : Moment) (n : ℕ) (s : Marked) : Type 0 where
   pub marks : IsMarksAt d window
   pub follows : FollowsMarks m.marks m.kept s
+  pub left : FollowsMarks m.marks (drop n m.kept) s
   pub bounded : s.forgotten ≤ m.water - d.lateness
 
 -- of the interval that a tuple at a time may change is kept what it shows

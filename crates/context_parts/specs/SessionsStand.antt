@@ -1,13 +1,14 @@
 -- What the sessions of a window stand for, where settled tuples may have left the store.
-use Rattle.std.specs.Prelude.{◌≤◌, ◌-◌, ℕ}
+use Rattle.std.specs.Prelude.{◌≤◌, ◌-◌, ℕ, drop}
 use Rattle.stream_base.specs.Limits.{Definitions}
 use Rattle.stream_base.specs.Model.Changes.{Moment}
 use Rattle.context_windows.specs.Spanned.{Follows, HasAsked, IsSessionAt, Remembers, Spanned, gap_at, window_at}
 
--- they are the sessions of all that is kept of a key, but for some that end by the watermark minus the lateness
-pub record DoStand (d : Definitions) (window : ℕ) (m : Moment) (s : Spanned) : Type 0 where
+-- they are the sessions of all that is kept of a key, and of what is left of it without so many first tuples, but for some that end by the watermark minus the lateness
+pub record DoStand (d : Definitions) (window : ℕ) (m : Moment) (n : ℕ) (s : Spanned) : Type 0 where
   pub session : IsSessionAt d window
   pub follows : Follows (gap_at d window) m.kept s
+  pub left : Follows (gap_at d window) (drop n m.kept) s
   pub bounded : s.forgotten ≤ m.water - d.lateness
 
 -- of those that a tuple at a time may change is kept what they show

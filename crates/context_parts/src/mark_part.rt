@@ -34,7 +34,7 @@ impl KeyPart for MarkPart {
 
     ghost is_for = { IsMarksAt };
 
-    ghost stands = { λ d window m n s p. DoStandBetween d window m p.windows };
+    ghost stands = { λ d window m n s p. DoStandBetween d window m n p.windows };
 
     ghost is_asked = { λ d window m time p. RemembersHolderAt d window m time p.windows };
 

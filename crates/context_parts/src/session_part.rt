@@ -24,7 +24,7 @@ impl KeyPart for SessionPart {
 
     ghost is_for = { IsSessionAt };
 
-    ghost stands = { λ d window m n s p. DoStand d window m p.sessions };
+    ghost stands = { λ d window m n s p. DoStand d window m n p.sessions };
 
     ghost is_asked = { λ d window m time p. AreAsked d window m time p.sessions };
 
@@ -99,6 +99,7 @@ impl KeyPart for SessionPart {
         time: u64,
         water: u64,
     ) -> Result<u64, NoMemory> {
+        // Whoever is ready has room for a tuple too.
         self.sessions.reserve(defs, window, time, water)?;
         Ok(0)
     }

@@ -1,12 +1,12 @@
 -- The store holds all of the interval that the mark parts.
-use Rattle.std.proofs.Common.{◌∙◌, ◌++◌, ◌≤◌, ◌-◌, arith, ap, subst, sym}
+use Rattle.std.proofs.Common.{◌∙◌, ◌++◌, ◌≤◌, ◌-◌, arith, ap, subst, sym, drop}
 use Rattle.std.specs.BTreeSet.{insert_key}
 use Rattle.std.specs.Ordering.{nat_cmp}
 use Rattle.window_laws.specs.After.{with_mark}
 use Rattle.context_windows.specs.Marked.{marks_window, parted_of, with_parts}
 use Rattle.context_windows.specs.Spanned.{changes_of, window_at}
 use Rattle.context_parts.proofs.Edges.{edged_aligned, marks_marked, parts_at_edges, parts_edged}
-use Rattle.context_parts.proofs.OfMarks.{marks_window_is, spans_edged, stretches_held}
+use Rattle.context_parts.proofs.OfMarks.{left_held, marks_window_is, spans_edged, stretches_held}
 use Rattle.context_parts.proofs.Rest.{few_kept, rest_marked, rest_windows}
 use Rattle.context_parts.proofs.mark_part.MarkPartKeyPart.mark.Goals as goal
 
@@ -30,6 +30,7 @@ returns-clause-stands g c = λ m n before t.
     record {
       marks = t.stood.marks;
       follows = c.mark.ensures.follows m.marks m.kept t.stood.follows open_ held;
+      left = c.mark.ensures.follows m.marks (drop n m.kept) t.stood.left open_ (left_held d c.args.window t.stood.marks m n c.args.store.now t.step.held.may_leave c.args.time late held);
       bounded = subst (λ n. n ≤ m.water - d.lateness) (sym c.mark.ensures.forgotten) t.stood.bounded;
     }
 

@@ -1,12 +1,12 @@
 -- The store holds all of the interval that the tuple enters.
-use Rattle.std.proofs.Common.{◌∙◌, ◌++◌, ◌≤◌, ◌-◌, arith, ap, refl, subst, sym}
+use Rattle.std.proofs.Common.{◌∙◌, ◌++◌, ◌≤◌, ◌-◌, arith, ap, refl, subst, sym, drop}
 use Rattle.window_laws.specs.After.{with_tuple}
-use Rattle.context_windows.specs.Marked.{RemembersHolder, entered_at, marks_window}
+use Rattle.context_windows.specs.Marked.{FollowsMarks, RemembersHolder, entered_at, marks_window}
 use Rattle.context_windows.specs.Spanned.{changes_of, window_at}
 use Rattle.key_windows.specs.Calls.{kept_at}
 use Rattle.context_parts.proofs.Edges.{HasMarks, edged_aligned, entered_edged, marks_with, parts_at_edges}
 use Rattle.context_parts.proofs.OfMarks.{are_intervals, marks_window_is, no_events, stretches_held}
-use Rattle.context_parts.proofs.Rest.{few_with, is_window, rest_windows, rest_with}
+use Rattle.context_parts.proofs.Rest.{few_with, is_window, left_with, rest_windows, rest_with}
 use Rattle.context_parts.proofs.mark_part.MarkPartKeyPart.put.Goals as goal
 
 pub put-requires-clause-aligned : goal.put-requires-clause-aligned
@@ -27,11 +27,14 @@ put-requires-clause-aligned g c =
 pub returns-clause-stands : goal.returns-clause-stands
 returns-clause-stands g c = λ m n before more t.
     let d = c.args.defs.now in
+    let w = window_at d c.args.window in
+    let at = t.stood.marks in
     let x = kept_at c.args.pos c.args.time c.args.value in
     let open_ : c.args.self.now.windows.forgotten ≤ c.args.time = omega (arith, t.stood.bounded, t.step.in_time) in
     record {
       marks = t.stood.marks;
       follows = c.put.ensures.follows m.marks m.kept x t.stood.follows open_ refl;
+      left = subst (λ l. FollowsMarks m.marks l c.put.new.self) (left_with d m n before x more c.args.store.now w (is_window d c.args.window at.within) (no_events w.kind at.kind) t.step) (c.put.ensures.follows m.marks (drop n m.kept) x t.stood.left open_ refl);
       bounded = subst (λ n. n ≤ m.water - d.lateness) (sym c.put.ensures.forgotten) t.stood.bounded;
     }
 

@@ -1,11 +1,11 @@
 -- The store holds all of the session that the tuple makes.
-use Rattle.std.proofs.Common.{◌≤◌, ◌-◌, arith, refl, subst, sym}
-use Rattle.context_windows.specs.Spanned.{Remembers, window_at}
+use Rattle.std.proofs.Common.{◌≤◌, ◌-◌, arith, refl, subst, sym, drop}
+use Rattle.context_windows.specs.Spanned.{Follows, Remembers, gap_at, window_at}
 use Rattle.context_windows.proofs.Aligning.{told_aligned}
 use Rattle.key_windows.specs.Calls.{kept_at}
 use Rattle.window_laws.specs.After.{with_tuple}
 use Rattle.context_parts.proofs.OfSessions.{no_events, of_sessions, sessions_held}
-use Rattle.context_parts.proofs.Rest.{few_with, is_window, rest_with}
+use Rattle.context_parts.proofs.Rest.{few_with, is_window, left_with, rest_with}
 use Rattle.context_parts.proofs.session_part.SessionPartKeyPart.put.Goals as goal
 
 pub put-requires-clause-aligned : goal.put-requires-clause-aligned
@@ -23,11 +23,14 @@ put-requires-clause-aligned g c =
 pub returns-clause-stands : goal.returns-clause-stands
 returns-clause-stands g c = λ m n before more t.
     let d = c.args.defs.now in
+    let w = window_at d c.args.window in
+    let at = t.stood.session in
     let x = kept_at c.args.pos c.args.time c.args.value in
     let open_ : c.args.self.now.sessions.forgotten ≤ c.args.time = omega (arith, t.stood.bounded, t.step.in_time) in
     record {
       session = t.stood.session;
       follows = c.put.ensures.follows m.kept x t.stood.follows open_ refl;
+      left = subst (λ l. Follows (gap_at d c.args.window) l c.put.new.self) (left_with d m n before x more c.args.store.now w (is_window d c.args.window at.within) (no_events w.kind at.session) t.step) (c.put.ensures.follows (drop n m.kept) x t.stood.left open_ refl);
       bounded = subst (λ n. n ≤ m.water - d.lateness) (sym c.put.ensures.forgotten) t.stood.bounded;
     }
 
