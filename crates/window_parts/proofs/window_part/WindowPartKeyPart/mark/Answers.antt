@@ -1,0 +1,17 @@
+-- The part of each kind stands for the same.
+use Rattle.std.proofs.Common.{subst}
+use Rattle.window_parts.specs.Any.{stands_any}
+use Rattle.window_parts.proofs.As.{mark_as}
+use Rattle.window_parts.proofs.window_part.WindowPartKeyPart.mark.Goals as goal
+
+pub returns-in-Intervals-clause-stands : goal.returns-in-Intervals-clause-stands
+returns-in-Intervals-clause-stands g c = λ m n before t. c.mark.ensures.stands m n before (mark_as (λ m n s h. subst (λ p. stands_any c.args.defs.now c.args.window m n s p) c.in-Intervals.is h) t)
+
+pub returns-in-Sessions-clause-stands : goal.returns-in-Sessions-clause-stands
+returns-in-Sessions-clause-stands g c = λ m n before t. c.mark-in-Sessions.ensures.stands m n before (mark_as (λ m n s h. subst (λ p. stands_any c.args.defs.now c.args.window m n s p) c.in-Sessions.is h) t)
+
+pub returns-in-Marks-clause-stands : goal.returns-in-Marks-clause-stands
+returns-in-Marks-clause-stands g c = λ m n before t. c.mark-in-Marks.ensures.stands m n before (mark_as (λ m n s h. subst (λ p. stands_any c.args.defs.now c.args.window m n s p) c.in-Marks.is h) t)
+
+pub returns-in-Events-clause-stands : goal.returns-in-Events-clause-stands
+returns-in-Events-clause-stands g c = λ m n before t. c.mark-in-Events.ensures.stands m n before (mark_as (λ m n s h. subst (λ p. stands_any c.args.defs.now c.args.window m n s p) c.in-Events.is h) t)

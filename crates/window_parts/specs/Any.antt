@@ -1,0 +1,72 @@
+-- What the part of a window of any kind is in contracts, by the part of its kind.
+use Rattle.std.specs.Prelude.{◌≤◌, ◌-◌, ℕ, length}
+use Rattle.stream_base.specs.declared.limits.TheConstants.{FINAL}
+use Rattle.stream_base.specs.Limits.{Definitions}
+use Rattle.stream_base.specs.Model.Changes.{Moment}
+use Rattle.slice_store.specs.Stored.{Stored}
+use Rattle.context_windows.specs.Ahead.{start_after}
+use Rattle.context_windows.specs.Marked.{holder_in, most_changes}
+use Rattle.context_windows.specs.Spanned.{gap_at}
+use Rattle.context_windows.specs.Spans.{due_of, put_changes}
+use Rattle.context_parts.specs.MarksStand.{DoStandBetween, RemembersHolderAt}
+use Rattle.context_parts.specs.SessionsStand.{AreAsked, DoStand}
+use Rattle.time_parts.specs.Lanes.{CanMove, HasTold, Serves, late_room, open_from, rows_due}
+use Rattle.time_parts.specs.Counted.{Counts, fill_room, shift_room}
+use Rattle.window_parts.specs.declared.window_part.WindowPart.{WindowPart}
+use Rattle.window_parts.specs.declared.window_part.WindowPart.TheVariants.{Intervals, Sessions, Marks, Events}
+
+-- what the part of a window of any kind stands for: what the part of its kind does
+abbrev pub stands_any : {Q : Type 0} → Definitions → ℕ → Moment → ℕ → Stored → WindowPart Q → Type 0
+stands_any d window m n s (Intervals p) = Serves d window m s p.lane
+stands_any d window m n s (Sessions p) = DoStand d window m p.sessions
+stands_any d window m n s (Marks p) = DoStandBetween d window m p.windows
+stands_any d window m n s (Events p) = Counts d window m p
+
+-- what it has kept before a tuple comes
+abbrev pub asked_any : {Q : Type 0} → Definitions → ℕ → Moment → ℕ → WindowPart Q → Type 0
+asked_any d window m time (Intervals p) = HasTold d window m time p
+asked_any d window m time (Sessions p) = AreAsked d window m time p.sessions
+asked_any d window m time (Marks p) = RemembersHolderAt d window m time p.windows
+asked_any d window m time (Events p) = Unit {0}
+
+-- its room for a tuple or a mark
+abbrev pub ready_any : {Q : Type 0} → Definitions → ℕ → ℕ → ℕ → WindowPart Q → Type 0
+ready_any d window time water (Intervals p) = late_room d window time water ≤ p.room
+ready_any d window time water (Sessions p) = 1 ≤ p.sessions.spare
+ready_any d window time water (Marks p) = 1 ≤ p.windows.spare
+ready_any d window time water (Events p) = 1 ≤ p.spare
+
+-- how many changes a tuple appends at most
+abbrev pub put_room_any : {Q : Type 0} → Definitions → ℕ → ℕ → ℕ → WindowPart Q → ℕ
+put_room_any d window time water (Intervals p) = late_room d window time water
+put_room_any d window time water (Sessions p) = put_changes (gap_at d window) time water p.sessions.spans
+put_room_any d window time water (Marks p) = most_changes time water (holder_in time p.windows.spans p.windows.marks)
+put_room_any d window time water (Events p) = shift_room d window time water p
+
+-- and a mark
+abbrev pub mark_room_any : {Q : Type 0} → Definitions → ℕ → ℕ → ℕ → WindowPart Q → ℕ
+mark_room_any d window time water (Intervals p) = 0
+mark_room_any d window time water (Sessions p) = 0
+mark_room_any d window time water (Marks p) = most_changes time water (holder_in time p.windows.spans p.windows.marks)
+mark_room_any d window time water (Events p) = 0
+
+-- its room for a move of the watermark
+abbrev pub can_move_any : {Q : Type 0} → Definitions → ℕ → Stored → ℕ → ℕ → WindowPart Q → Type 0
+can_move_any d window s old new (Intervals p) = CanMove d window s old new p.lane
+can_move_any d window s old new (Sessions p) = Unit {0}
+can_move_any d window s old new (Marks p) = Unit {0}
+can_move_any d window s old new (Events p) = Unit {0}
+
+-- how many changes that appends at most
+abbrev pub move_room_any : {Q : Type 0} → Definitions → ℕ → Stored → ℕ → ℕ → WindowPart Q → ℕ
+move_room_any d window s old new (Intervals p) = rows_due d window s old new
+move_room_any d window s old new (Sessions p) = length (due_of old new p.sessions.spans)
+move_room_any d window s old new (Marks p) = length (due_of old new p.windows.spans)
+move_room_any d window s old new (Events p) = fill_room d window old new p
+
+-- from which time on tuples are not settled
+abbrev pub settles_any : {Q : Type 0} → Definitions → ℕ → ℕ → WindowPart Q → ℕ
+settles_any d window water (Intervals p) = open_from d window water
+settles_any d window water (Sessions p) = start_after (water - d.lateness) p.sessions.spans
+settles_any d window water (Marks p) = start_after (water - d.lateness) p.windows.spans
+settles_any d window water (Events p) = FINAL

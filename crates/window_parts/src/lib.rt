@@ -1,0 +1,11 @@
+//! The part of a window of any kind in the state of a key.
+//!
+//! *From* the tuples and marks of a key in its store of slices and moves of the watermark, *to* the
+//! changes of one window of any kind. *Stands on* `time_parts` and `context_parts`, whose parts it
+//! hands each call on to. *Promise*: that of `key_parts`, for the window at each place of all
+//! definitions.
+#![tactic(auto)]
+
+mod window_part;
+
+pub use window_part::WindowPart;

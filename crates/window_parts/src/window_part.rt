@@ -1,0 +1,233 @@
+//! The part of a window of any kind.
+use agg_laws::{AggQueue, AggTree, Bundle, Steps};
+use context_parts::{MarkPart, SessionPart};
+use key_parts::{AnyPart, KeyPart};
+use slice_store::SliceStore;
+use std::alloc::Global;
+use stream_base::{Change, Defs, KeyText, Kind, NoMemory};
+use time_parts::{CountPart, LanePart};
+
+/// The part of a window of any kind in the state of a key.
+#[derive(Drop)]
+pub enum WindowPart<Q: AggQueue<Bundle>> {
+    /// Of a tumbling or sliding window.
+    Intervals(LanePart<Q>),
+    /// Of a session window.
+    Sessions(SessionPart),
+    /// Of a window between marks.
+    Marks(MarkPart),
+    /// Of a window of event counts.
+    Events(CountPart),
+}
+
+impl<Q: AggQueue<Bundle> + Drop> AnyPart for WindowPart<Q> {
+    ghost serves = { λ d window within. within };
+}
+
+impl<Q: AggQueue<Bundle> + Drop> KeyPart for WindowPart<Q> {
+    ghost use Rattle.std.specs.Prelude.{◌<◌, length};
+    ghost use Rattle.window_parts.specs.Any.{asked_any, can_move_any, mark_room_any, move_room_any, put_room_any, ready_any, settles_any, stands_any};
+
+    ghost is_for = { λ d window. window < length d.windows };
+
+    ghost stands = { stands_any };
+
+    ghost is_asked = { asked_any };
+
+    ghost is_ready = { ready_any };
+
+    ghost put_room = { put_room_any };
+
+    ghost mark_room = { mark_room_any };
+
+    ghost can_move = { can_move_any };
+
+    ghost move_room = { move_room_any };
+
+    ghost settles_at = { settles_any };
+
+    fn fresh(alloc: Global, defs: &Defs, window: u32) -> Self {
+        let windows = defs.windows();
+        match windows[window as usize].kind {
+            Kind::Tumbling { .. } | Kind::Sliding { .. } => {
+                WindowPart::Intervals(LanePart::fresh(alloc, defs, window))
+            }
+            Kind::Session { .. } => WindowPart::Sessions(SessionPart::fresh(alloc, defs, window)),
+            Kind::Marks => WindowPart::Marks(MarkPart::fresh(alloc, defs, window)),
+            Kind::Events { .. } => WindowPart::Events(CountPart::fresh(alloc, defs, window)),
+        }
+    }
+
+    fn reserve_put(
+        &mut self,
+        defs: &Defs,
+        window: u32,
+        time: u64,
+        water: u64,
+    ) -> Result<u64, NoMemory> {
+        match self {
+            WindowPart::Intervals(part) => part.reserve_put(defs, window, time, water),
+            WindowPart::Sessions(part) => part.reserve_put(defs, window, time, water),
+            WindowPart::Marks(part) => part.reserve_put(defs, window, time, water),
+            WindowPart::Events(part) => part.reserve_put(defs, window, time, water),
+        }
+    }
+
+    fn before<T: AggTree<Bundle>, L>(
+        &mut self,
+        defs: &Defs,
+        window: u32,
+        store: &SliceStore<T>,
+        time: u64,
+        water: u64,
+        steps: &mut Steps<L>,
+    ) {
+        match self {
+            WindowPart::Intervals(part) => part.before(defs, window, store, time, water, steps),
+            WindowPart::Sessions(part) => part.before(defs, window, store, time, water, steps),
+            WindowPart::Marks(part) => part.before(defs, window, store, time, water, steps),
+            WindowPart::Events(part) => part.before(defs, window, store, time, water, steps),
+        }
+    }
+
+    fn put<T: AggTree<Bundle>, L>(
+        &mut self,
+        defs: &Defs,
+        window: u32,
+        store: &SliceStore<T>,
+        key: &KeyText,
+        pos: u64,
+        time: u64,
+        value: i64,
+        water: u64,
+        out: &mut Vec<Change>,
+        steps: &mut Steps<L>,
+    ) {
+        match self {
+            WindowPart::Intervals(part) => part.put(
+                defs, window, store, key, pos, time, value, water, out, steps,
+            ),
+            WindowPart::Sessions(part) => part.put(
+                defs, window, store, key, pos, time, value, water, out, steps,
+            ),
+            WindowPart::Marks(part) => part.put(
+                defs, window, store, key, pos, time, value, water, out, steps,
+            ),
+            WindowPart::Events(part) => part.put(
+                defs, window, store, key, pos, time, value, water, out, steps,
+            ),
+        }
+    }
+
+    fn reserve_mark(
+        &mut self,
+        defs: &Defs,
+        window: u32,
+        time: u64,
+        water: u64,
+    ) -> Result<u64, NoMemory> {
+        match self {
+            WindowPart::Intervals(part) => part.reserve_mark(defs, window, time, water),
+            WindowPart::Sessions(part) => part.reserve_mark(defs, window, time, water),
+            WindowPart::Marks(part) => part.reserve_mark(defs, window, time, water),
+            WindowPart::Events(part) => part.reserve_mark(defs, window, time, water),
+        }
+    }
+
+    fn mark<T: AggTree<Bundle>, L>(
+        &mut self,
+        defs: &Defs,
+        window: u32,
+        store: &SliceStore<T>,
+        key: &KeyText,
+        time: u64,
+        water: u64,
+        out: &mut Vec<Change>,
+        steps: &mut Steps<L>,
+    ) {
+        match self {
+            WindowPart::Intervals(part) => part.mark(
+                defs, window, store, key, time, water, out, steps,
+            ),
+            WindowPart::Sessions(part) => part.mark(
+                defs, window, store, key, time, water, out, steps,
+            ),
+            WindowPart::Marks(part) => part.mark(defs, window, store, key, time, water, out, steps),
+            WindowPart::Events(part) => part.mark(
+                defs, window, store, key, time, water, out, steps,
+            ),
+        }
+    }
+
+    fn reserve_water<T: AggTree<Bundle>>(
+        &mut self,
+        defs: &Defs,
+        window: u32,
+        store: &SliceStore<T>,
+        old: u64,
+        new: u64,
+    ) -> Result<u64, NoMemory> {
+        match self {
+            WindowPart::Intervals(part) => part.reserve_water(defs, window, store, old, new),
+            WindowPart::Sessions(part) => part.reserve_water(defs, window, store, old, new),
+            WindowPart::Marks(part) => part.reserve_water(defs, window, store, old, new),
+            WindowPart::Events(part) => part.reserve_water(defs, window, store, old, new),
+        }
+    }
+
+    fn water<T: AggTree<Bundle>, L>(
+        &mut self,
+        defs: &Defs,
+        window: u32,
+        store: &SliceStore<T>,
+        key: &KeyText,
+        old: u64,
+        new: u64,
+        out: &mut Vec<Change>,
+        steps: &mut Steps<L>,
+    ) {
+        match self {
+            WindowPart::Intervals(part) => part.water(
+                defs, window, store, key, old, new, out, steps,
+            ),
+            WindowPart::Sessions(part) => part.water(
+                defs, window, store, key, old, new, out, steps,
+            ),
+            WindowPart::Marks(part) => part.water(defs, window, store, key, old, new, out, steps),
+            WindowPart::Events(part) => part.water(defs, window, store, key, old, new, out, steps),
+        }
+    }
+
+    fn next_due<T: AggTree<Bundle>>(
+        &self,
+        defs: &Defs,
+        window: u32,
+        store: &SliceStore<T>,
+        water: u64,
+    ) -> u64 {
+        match self {
+            WindowPart::Intervals(part) => part.next_due(defs, window, store, water),
+            WindowPart::Sessions(part) => part.next_due(defs, window, store, water),
+            WindowPart::Marks(part) => part.next_due(defs, window, store, water),
+            WindowPart::Events(part) => part.next_due(defs, window, store, water),
+        }
+    }
+
+    fn first_unsettled(&self, defs: &Defs, window: u32, water: u64) -> u64 {
+        match self {
+            WindowPart::Intervals(part) => part.first_unsettled(defs, window, water),
+            WindowPart::Sessions(part) => part.first_unsettled(defs, window, water),
+            WindowPart::Marks(part) => part.first_unsettled(defs, window, water),
+            WindowPart::Events(part) => part.first_unsettled(defs, window, water),
+        }
+    }
+
+    fn drop_settled(&mut self, defs: &Defs, window: u32, water: u64) {
+        match self {
+            WindowPart::Intervals(part) => part.drop_settled(defs, window, water),
+            WindowPart::Sessions(part) => part.drop_settled(defs, window, water),
+            WindowPart::Marks(part) => part.drop_settled(defs, window, water),
+            WindowPart::Events(part) => part.drop_settled(defs, window, water),
+        }
+    }
+}
