@@ -53,6 +53,8 @@ impl KeyPart for MarkPart {
     ghost settles_at = { λ d window water p.
         start_after (water - d.lateness) p.windows.spans };
 
+    ghost stands_with_room = { λ d window m n s more part same stood. stood };
+
     fn fresh(alloc: Global, defs: &Defs, window: u32) -> Self {
         let _ = defs;
         let _ = window;

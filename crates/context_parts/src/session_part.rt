@@ -42,6 +42,8 @@ impl KeyPart for SessionPart {
     ghost settles_at = { λ d window water p.
         start_after (water - d.lateness) p.sessions.spans };
 
+    ghost stands_with_room = { λ d window m n s more part same stood. stood };
+
     fn fresh(alloc: Global, defs: &Defs, window: u32) -> Self {
         let _ = defs;
         let _ = window;

@@ -26,7 +26,7 @@ pub trait KeyPart: Drop {
     ghost use Rattle.std.specs.Prelude.{ℕ};
     ghost use Rattle.stream_base.specs.Limits.{Definitions};
     ghost use Rattle.stream_base.specs.Model.Changes.{Moment};
-    ghost use Rattle.slice_store.specs.Stored.{Stored};
+    ghost use Rattle.slice_store.specs.Stored.{IsAsBefore, Stored};
 
     /// The window at a place of the definitions is of the kind that it is for.
     ghost is_for: { Definitions → ℕ → Type 0 };
@@ -278,4 +278,9 @@ pub trait KeyPart: Drop {
             → LosesSettled stands defs.now window water time self.old m n before more after
             → time ≤ settles_at defs.now window water self.old
             → stands defs.now window m more after self.new };
+
+    /// What it stands for has nothing to do with the room of the store.
+    ghost stands_with_room: { (d : Definitions) (window : ℕ) (m : Moment) (n : ℕ)
+        (s more : Stored) (part : Self) → IsAsBefore s more
+        → stands d window m n s part → stands d window m n more part };
 }

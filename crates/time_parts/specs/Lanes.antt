@@ -1,12 +1,13 @@
 -- What the part of a tumbling or sliding window is in contracts, and what it promises.
-use Rattle.std.specs.Prelude.{◌≡◌, ◌≤◌, ◌-◌, ℕ, true, List, length, Option}
+use Rattle.std.proofs.Common.{◌≡◌, ◌≤◌, ◌-◌, ℕ, true, List, length, Option, subst, sym}
 use Rattle.stream_base.specs.Limits.{Definitions}
 use Rattle.stream_base.specs.declared.former.Former.{Former}
 use Rattle.stream_base.specs.declared.kind.Kind.{Kind}
 use Rattle.stream_base.specs.Model.Changes.{Moment}
+use Rattle.window_laws.specs.Runs.{runs_within}
 use Rattle.window_laws.specs.Walk.{next_start_of}
-use Rattle.slice_store.specs.Stored.{Stored, tuples_of}
-use Rattle.time_lanes.specs.Lane.{Knows, Laned}
+use Rattle.slice_store.specs.Stored.{IsAsBefore, Stored, tuples_of}
+use Rattle.time_lanes.specs.Lane.{Knows, Laned, partials_of}
 use Rattle.time_lanes.specs.Late.{complete_holding, formers_of}
 use Rattle.time_lanes.specs.Moves.{completed_starts, slices_due}
 use Rattle.time_lanes.specs.Spans.{is_served}
@@ -50,3 +51,14 @@ rows_due d window s old new = length (completed_starts (kind_at d window) (tuple
 -- the start of the first interval that ends after the watermark minus the lateness
 abbrev pub open_from : Definitions → ℕ → ℕ → ℕ
 open_from d window water = next_start_of (kind_at d window) (water - d.lateness)
+
+-- the room of the store makes no difference
+pub serves_with_room : (d : Definitions) (window : ℕ) (m : Moment) (s more : Stored) (lane : Laned) → IsAsBefore s more → Serves d window m s lane → Serves d window m more lane
+serves_with_room d window m s more lane same stood = record {
+  timed = stood.timed;
+  knows = record {
+    reached = stood.knows.reached;
+    edge = stood.knows.edge;
+    held = λ fresh. subst (λ slices. lane.partials ≡ partials_of (runs_within (next_start_of (kind_at d window) m.water) lane.to slices)) (sym same.slices) (stood.knows.held fresh);
+  };
+}

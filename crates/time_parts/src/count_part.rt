@@ -73,6 +73,8 @@ impl KeyPart for CountPart {
 
     ghost settles_at = { λ d window water p. FINAL };
 
+    ghost stands_with_room = { λ d window m n s more part same stood. stood };
+
     fn fresh(alloc: Global, defs: &Defs, window: u32) -> Self {
         CountPart {
             lane: CountLane::new(alloc),

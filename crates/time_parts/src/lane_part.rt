@@ -58,7 +58,7 @@ impl<Q: AggQueue<Bundle>> LanePart<Q> {
 }
 
 impl<Q: AggQueue<Bundle> + Drop> KeyPart for LanePart<Q> {
-    ghost use Rattle.time_parts.specs.Lanes.{CanMove, HasTold, IsTimedAt, Serves, late_room, open_from, rows_due};
+    ghost use Rattle.time_parts.specs.Lanes.{CanMove, HasTold, IsTimedAt, Serves, late_room, open_from, rows_due, serves_with_room};
 
     ghost is_for = { IsTimedAt };
 
@@ -77,6 +77,9 @@ impl<Q: AggQueue<Bundle> + Drop> KeyPart for LanePart<Q> {
     ghost move_room = { λ d window s old new p. rows_due d window s old new };
 
     ghost settles_at = { λ d window water p. open_from d window water };
+
+    ghost stands_with_room = { λ d window m n s more part same stood.
+        serves_with_room d window m s more part.lane same stood };
 
     fn fresh(alloc: Global, defs: &Defs, window: u32) -> Self {
         LanePart {

@@ -3,14 +3,14 @@ use Rattle.std.specs.Prelude.{◌≤◌, ◌-◌, ℕ, length}
 use Rattle.stream_base.specs.declared.limits.TheConstants.{FINAL}
 use Rattle.stream_base.specs.Limits.{Definitions}
 use Rattle.stream_base.specs.Model.Changes.{Moment}
-use Rattle.slice_store.specs.Stored.{Stored}
+use Rattle.slice_store.specs.Stored.{IsAsBefore, Stored}
 use Rattle.context_windows.specs.Ahead.{start_after}
 use Rattle.context_windows.specs.Marked.{holder_in, most_changes}
 use Rattle.context_windows.specs.Spanned.{gap_at}
 use Rattle.context_windows.specs.Spans.{due_of, put_changes}
 use Rattle.context_parts.specs.MarksStand.{DoStandBetween, RemembersHolderAt}
 use Rattle.context_parts.specs.SessionsStand.{AreAsked, DoStand}
-use Rattle.time_parts.specs.Lanes.{CanMove, HasTold, Serves, late_room, open_from, rows_due}
+use Rattle.time_parts.specs.Lanes.{CanMove, HasTold, Serves, late_room, open_from, rows_due, serves_with_room}
 use Rattle.time_parts.specs.Counted.{Counts, fill_room, shift_room}
 use Rattle.window_parts.specs.declared.window_part.WindowPart.{WindowPart}
 use Rattle.window_parts.specs.declared.window_part.WindowPart.TheVariants.{Intervals, Sessions, Marks, Events}
@@ -18,8 +18,8 @@ use Rattle.window_parts.specs.declared.window_part.WindowPart.TheVariants.{Inter
 -- what the part of a window of any kind stands for: what the part of its kind does
 abbrev pub stands_any : {Q : Type 0} → Definitions → ℕ → Moment → ℕ → Stored → WindowPart Q → Type 0
 stands_any d window m n s (Intervals p) = Serves d window m s p.lane
-stands_any d window m n s (Sessions p) = DoStand d window m p.sessions
-stands_any d window m n s (Marks p) = DoStandBetween d window m p.windows
+stands_any d window m n s (Sessions p) = DoStand d window m n p.sessions
+stands_any d window m n s (Marks p) = DoStandBetween d window m n p.windows
 stands_any d window m n s (Events p) = Counts d window m p
 
 -- what it has kept before a tuple comes
@@ -70,3 +70,10 @@ settles_any d window water (Intervals p) = open_from d window water
 settles_any d window water (Sessions p) = start_after (water - d.lateness) p.sessions.spans
 settles_any d window water (Marks p) = start_after (water - d.lateness) p.windows.spans
 settles_any d window water (Events p) = FINAL
+
+-- the room of the store makes no difference
+pub stands_with_room_any : {Q : Type 0} → (d : Definitions) (window : ℕ) (m : Moment) (n : ℕ) (s more : Stored) (part : WindowPart Q) → IsAsBefore s more → stands_any d window m n s part → stands_any d window m n more part
+stands_with_room_any d window m n s more (Intervals p) same stood = serves_with_room d window m s more p.lane same stood
+stands_with_room_any d window m n s more (Sessions p) same stood = stood
+stands_with_room_any d window m n s more (Marks p) same stood = stood
+stands_with_room_any d window m n s more (Events p) same stood = stood

@@ -26,7 +26,7 @@ impl<Q: AggQueue<Bundle> + Drop> AnyPart for WindowPart<Q> {
 
 impl<Q: AggQueue<Bundle> + Drop> KeyPart for WindowPart<Q> {
     ghost use Rattle.std.specs.Prelude.{◌<◌, length};
-    ghost use Rattle.window_parts.specs.Any.{asked_any, can_move_any, mark_room_any, move_room_any, put_room_any, ready_any, settles_any, stands_any};
+    ghost use Rattle.window_parts.specs.Any.{asked_any, can_move_any, mark_room_any, move_room_any, put_room_any, ready_any, settles_any, stands_any, stands_with_room_any};
 
     ghost is_for = { λ d window. window < length d.windows };
 
@@ -45,6 +45,8 @@ impl<Q: AggQueue<Bundle> + Drop> KeyPart for WindowPart<Q> {
     ghost move_room = { move_room_any };
 
     ghost settles_at = { settles_any };
+
+    ghost stands_with_room = { stands_with_room_any };
 
     fn fresh(alloc: Global, defs: &Defs, window: u32) -> Self {
         let windows = defs.windows();
