@@ -16,7 +16,7 @@ use Rattle.std.proofs.lemmas.List.Kept.{AllPairs-cons, AllPairs-filter}
 use Rattle.std.proofs.lemmas.Map.Keys.{IsDistinct-from_sorted, sorted_tail}
 use Rattle.std.proofs.lemmas.Map.Lookups.{exact_bytes}
 use Rattle.std.proofs.lemmas.Map.Views.{Contains-from_lookup, lookup-from_Contains, tells_apart}
-use Rattle.key_slicer.specs.Calls.{changes_by_move, moment}
+use Rattle.key_windows.specs.Calls.{IsWater, changes_by_move, moment}
 use Rattle.stream_base.specs.Limits.{AreWithinLimits, Definitions}
 use Rattle.stream_base.specs.declared.change.Change.{Change}
 use Rattle.stream_base.specs.declared.entry.Entry.{Entry}
@@ -91,22 +91,24 @@ module _ {K : Type 0} (key_of : K → List ℕ) (fits : Definitions → List Kep
     of_key = c.of_key;
     stands = rw (same.kept, same.marks) c.stands;
     position = omega (arith, c.position);
+    is_water = c.is_water;
     past = omega (arith, c.past);
     waits = inr early;
     quiet = rw (same.kept, same.marks) c.quiet;
   }
 
   -- a moved state is that of the longer journal
-  pub moved_on : (longer : List Entry) (new : Slot K) (new_due : ℕ) → IsSameFor d sources journal longer key → length journal ≤ length longer
+  pub moved_on : (longer : List Entry) (new : Slot K) (new_due : ℕ) → IsSameFor d sources journal longer key → length journal ≤ length longer → IsWater (water_of sources longer)
       → IsMovedSlot key_of fits next_position d (water_of sources longer) slot new new_due
       → IsCurrent key_of fits next_position d sources longer key new new_due
-  moved_on longer new new_due same long m =
+  moved_on longer new new_due same long is_water m =
       let own : key_of new.state ≡ key = m.same_key ∙ c.of_key in
       let stands : fits d (kept_of d.lateness sources key longer) (marks_of d.lateness sources key longer) new.water new.state = rw (same.kept, same.marks) (m.still_fits (kept_of d.lateness sources key journal) (marks_of d.lateness sources key journal) c.stands) in
       record {
         of_key = own;
         stands = stands;
         position = omega (arith, c.position, m.same_next);
+        is_water = rw m.moved is_water;
         past = omega (arith, m.moved);
         waits = inl m.moved;
         quiet = subst (λ k. IsQuiet d k (kept_of d.lateness sources key longer) (marks_of d.lateness sources key longer) new.water new_due) own (m.quiet (kept_of d.lateness sources key longer) (marks_of d.lateness sources key longer) stands);
@@ -212,11 +214,13 @@ module _ {K : Type 0} (key_of : K → List ℕ) (fits : Definitions → List Kep
         i j 0 l m
 
     -- the states there can be moved
-    pub due_movable : water_of sources journal ≤ new → AreMovable t.slots.items (due_places t new) new
+    pub due_movable : water_of sources journal ≤ new → AreMovable fits d t.slots.items (due_places t new) new
     due_movable le = record {
       within = λ i l. c.placed (due_at i l).key (get_or (due_places t new) i 0) (due_at i l).at;
       apart = due_places_apart;
       rises = λ i l x. omega (arith, (c.current (due_at i l).key (get_or (due_places t new) i 0) x (due_at i l).at).past);
+      stand = λ i l x. let key = (due_at i l).key in
+          (kept_of d.lateness sources key journal, marks_of d.lateness sources key journal, (c.current key (get_or (due_places t new) i 0) x (due_at i l).at).stands);
     }
 
     -- and each stands for what is kept of its key
@@ -321,7 +325,7 @@ module _ {K : Type 0} (key_of : K → List ℕ) (fits : Definitions → List Kep
 
   -- a table whose due states were moved is that of the longer journal
   pub moved_table : (old new : KeyTable K) (e : Entry) (water : ℕ)
-      → AreWithinLimits d → is_progress e.what ≡ true → water ≡ water_of sources (journal ++ e ∷ [])
+      → AreWithinLimits d → is_progress e.what ≡ true → water ≡ water_of sources (journal ++ e ∷ []) → IsWater water
       → AreCurrent key_of fits next_position d sources journal old
       → new.index ≡ old.index
       → length new.slots.items ≡ length old.slots.items
@@ -330,7 +334,7 @@ module _ {K : Type 0} (key_of : K → List ℕ) (fits : Definitions → List Kep
       → IsSameOutside old.dues.items new.dues.items (due_places old water)
       → ((x : Slot K) → EachIndex (due_places old water) (λ i. IsMovedSlot key_of fits next_position d water (get_or old.slots.items (get_or (due_places old water) i 0) x) (get_or new.slots.items (get_or (due_places old water) i 0) x) (get_or new.dues.items (get_or (due_places old water) i 0) 0)))
       → AreCurrent key_of fits next_position d sources (journal ++ e ∷ []) new
-  moved_table old new e water limits progress is c index n n_dues others other_dues moved = record {
+  moved_table old new e water limits progress is is_water c index n n_dues others other_dues moved = record {
     in_order = rw index c.in_order;
     aligned = n_dues ∙ c.aligned ∙ sym n;
     counted = n ∙ c.counted ∙ sym (ap length index);
@@ -347,7 +351,7 @@ module _ {K : Type 0} (key_of : K → List ℕ) (fits : Definitions → List Kep
       on key p x at due =
           let m : Contains (due_places old water) p = is_due key_of fits next_position d sources journal old c water key p at due in
           moved_on key_of fits next_position d sources journal limits key (get_or old.slots.items p x) (get_or old.dues.items p 0) (c.current key p x at) (journal ++ e ∷ []) (get_or new.slots.items p x) (get_or new.dues.items p 0)
-          (progress_stays d sources journal e progress key) longer
+          (progress_stays d sources journal e progress key) longer (subst IsWater is is_water)
           (let same : get_or (due_places old water) m.0 0 ≡ p = get_or_default (due_places old water) m.0 0 p m.1 ∙ m.2 in
           subst (λ q. IsMovedSlot key_of fits next_position d (water_of sources (journal ++ e ∷ [])) (get_or old.slots.items q x) (get_or new.slots.items q x) (get_or new.dues.items q 0)) same
           (rw (← is) (moved x m.0 m.1)))
@@ -401,11 +405,10 @@ module _ {K : Type 0} (key_of : K → List ℕ) (fits : Definitions → List Kep
 
   -- the rows of the keys in the table are those of all keys
   pub rows_of_table : (t : KeyTable K) → AreCurrent key_of fits next_position d sources journal t
-      → flat_map (λ (e : List ℕ × ℕ). rows_at d.windows e.0 (moment_of d sources e.0 journal)) t.index ≡ standing_rows d sources journal
+      → flat_map (λ key. rows_at d.windows key (moment_of d sources key journal)) (map (λ (e : List ℕ × ℕ). e.0) t.index) ≡ standing_rows d sources journal
   unfolding standing_rows
   rows_of_table t c =
-      sym (flat_map_of_map (λ (e : List ℕ × ℕ). e.0) (λ key. rows_at d.windows key (moment_of d sources key journal)) t.index)
-      ∙ same_for_keys (λ key. rows_at d.windows key (moment_of d sources key journal)) (map (λ (e : List ℕ × ℕ). e.0) t.index) (keys_of journal) c.in_order (keys_in_order journal)
+      same_for_keys (λ key. rows_at d.windows key (moment_of d sources key journal)) (map (λ (e : List ℕ × ℕ). e.0) t.index) (keys_of journal) c.in_order (keys_in_order journal)
       (λ key m out. no_rows_of_none d.windows key (moment_of d sources key journal) (nothing_kept d.lateness sources key journal out))
       (λ key m out. no_rows_of_none d.windows key (moment_of d sources key journal) (c.nothing_kept key (no_place key out (place_of t key) refl)))
     where

@@ -5,7 +5,7 @@ use Rattle.std.specs.Ordering.{nat_cmp}
 use Rattle.std.specs.Str.{bytes_eq}
 use Rattle.std.proofs.lemmas.Bool.Decides.{nat_tests}
 use Rattle.std.proofs.lemmas.Bool.{false_from_ne_true, le-ltb}
-use Rattle.key_slicer.specs.Calls.{changes_by_mark, changes_by_put, kept_at}
+use Rattle.key_windows.specs.Calls.{changes_by_mark, changes_by_put, kept_at}
 use Rattle.stream_base.specs.Limits.{AreWithinLimits, Definitions}
 use Rattle.stream_base.specs.declared.entry.Entry.{Entry}
 use Rattle.stream_base.specs.declared.kept.Kept.{Kept}
@@ -116,6 +116,7 @@ module _ {K : Type 0} (key_of : K → List ℕ) (fits : Definitions → List Kep
         of_key = own;
         stands = now;
         position = rw length-append next;
+        is_water = rw same_water was.is_water;
         past = omega (arith, same_water, w, still);
         waits = inl (same_water ∙ w ∙ sym still);
         quiet = subst (λ l. IsQuiet d l (kept_of d.lateness sources key (journal ++ e ∷ [])) (marks_of d.lateness sources key (journal ++ e ∷ [])) new_slot.water due) own (quiet (kept_of d.lateness sources key (journal ++ e ∷ [])) (marks_of d.lateness sources key (journal ++ e ∷ [])) now);

@@ -50,14 +50,17 @@ journal_push sources journal e h source within goes room = record {
 -- what is kept of the past, one entry on
 pub past_push : (old new : Inside) (e : Entry) → IsPast old
     → new.defs ≡ old.defs
+    → new.sources ≡ old.sources
     → sources_of new.waters ≡ sources_of old.waters
     → (new.waters).lateness ≡ (old.waters).lateness
     → StandsFor new.waters (old.journal.items ++ e ∷ [])
     → new.journal.items ≡ old.journal.items ++ e ∷ []
     → e.source < sources_of old.waters → is_entry_within e ≡ true → has_ended e.source old.journal.items ≡ false → length old.journal.items < JOURNAL_MAX
     → IsPast new
-past_push old new e h defs sources lateness stands journal source within goes room = record {
+past_push old new e h defs number sources lateness stands journal source within goes room = record {
   limits = subst AreWithinLimits (sym defs) h.limits;
+  sources = sources ∙ h.sources ∙ sym number;
+  some = rw number h.some;
   lateness = lateness ∙ h.lateness ∙ ap (λ d. d.lateness) (sym defs);
   waters = subst (StandsFor new.waters) (sym journal) stands;
   journal_is = rw (sources, journal) (journal_push (sources_of old.waters) old.journal.items e h.journal_is source within goes room);

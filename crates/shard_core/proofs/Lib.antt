@@ -2,6 +2,7 @@ pub mod Places
 pub mod Placing
 pub mod Journals
 pub mod Entries
+pub mod Waters
 pub mod Moves
 pub mod Loops
 pub mod Advance

@@ -6,13 +6,13 @@ use Rattle.std.proofs.lemmas.Bool.{cases_eq}
 use Rattle.std.proofs.lemmas.List.{append-nil, take_more}
 use Rattle.std.proofs.lemmas.List.Concat.{flat_map-append}
 use Rattle.std.proofs.lemmas.List.Sums.{sum_by-cons, sum_by-drop_more, sum_by_more}
-use Rattle.key_slicer.specs.Calls.Call.{Move}
-use Rattle.key_slicer.specs.Calls.{Call, changes_by_move}
+use Rattle.key_windows.specs.Calls.Call.{Move}
+use Rattle.key_windows.specs.Calls.{Call, changes_by_move}
 use Rattle.stream_base.specs.Limits.{Definitions}
 use Rattle.stream_base.specs.declared.change.Change.{Change}
 use Rattle.stream_base.specs.declared.kept.Kept.{Kept}
 use Rattle.shard_core.specs.declared.slot.Slot.{Slot}
-use Rattle.shard_core.specs.Engines.{AreApart, AreSameSlots, IsMovedSlot, IsSameElsewhere, IsSameSlot, StandsIn, moves_of}
+use Rattle.shard_core.specs.Engines.{AreApart, AreSameSlots, HasLists, IsMovedSlot, IsSameElsewhere, IsSameSlot, StandsIn, moves_of}
 
 -- ---- sums and lists over the first places
 sum_same : (f g : ℕ → ℕ) (places : List ℕ) (i : ℕ) → i ≤ length places → ((j : ℕ) → j < i → g (get_or places j 0) ≡ f (get_or places j 0)) → sum_by g (take i places) ≡ sum_by f (take i places)
@@ -35,6 +35,10 @@ module _ {K : Type 0} (key_of : K → List ℕ) (fits : Definitions → List Kep
     same_water = g.same_water ∙ f.same_water;
     still_fits = λ kept marks water h. g.still_fits kept marks water (f.still_fits kept marks water h);
   }
+
+  -- and so for the same lists
+  pub same_lists : (old new : Slot K) → IsSameSlot key_of fits next_position d old new → HasLists fits d old → HasLists fits d new
+  same_lists old new s h = (h.0, h.1, subst (λ w. fits d h.0 h.1 w new.state) (sym s.same_water) (s.still_fits h.0 h.1 old.water h.2))
 
   pub all_same : (slots : List (Slot K)) → AreSameSlots key_of fits next_position d slots slots
   all_same slots = record { as_many = refl; each_same = λ p x. record { same_key = refl; same_next = refl; same_water = refl; still_fits = λ kept marks water h. h } }

@@ -10,7 +10,7 @@ use Rattle.std.proofs.Math.ListN.{length-set}
 use Rattle.std.proofs.lemmas.Bool.Decides.{eqb_tells}
 use Rattle.std.proofs.lemmas.List.{get_or_append_left, get_or_default, get_or_push}
 use Rattle.std.proofs.lemmas.Map.Text.{is_eq-slice_cmp}
-use Rattle.key_slicer.specs.Calls.{changes_by_move}
+use Rattle.key_windows.specs.Calls.{IsWater, changes_by_move}
 use Rattle.stream_base.specs.Limits.{Definitions}
 use Rattle.stream_base.specs.declared.entry.Entry.{Entry}
 use Rattle.stream_base.specs.declared.kept.Kept.{Kept}
@@ -20,7 +20,7 @@ use Rattle.stream_base.proofs.Absent.{bytes_eq_true}
 use Rattle.shard_core.specs.Placed.{AreByKey}
 use Rattle.shard_core.specs.declared.keys.KeyTable.{KeyTable}
 use Rattle.shard_core.specs.declared.slot.Slot.{Slot}
-use Rattle.shard_core.specs.Engines.{AreCurrent, IsCurrent, IsQuiet, IsSameSlot, place_of}
+use Rattle.shard_core.specs.Engines.{AreCurrent, HasLists, IsCurrent, IsQuiet, IsSameSlot, place_of}
 
 -- a key tells itself from every other
 pub same_key : (key other : List ℕ) → is_at (slice_cmp nat_cmp key) other ≡ true → key ≡ other
@@ -74,9 +74,10 @@ module _ {K : Type 0} (key_of : K → List ℕ) (fits : Definitions → List Kep
       → next_position slot.state ≡ 0
       → fits d [] [] slot.water slot.state
       → slot.water ≡ water_of sources journal
+      → IsWater slot.water
       → IsQuiet d key [] [] slot.water due
       → AreCurrent key_of fits next_position d sources journal new
-  added old new key slot due c absent index ordered len slots dues of_key first empty water quiet = record {
+  added old new key slot due c absent index ordered len slots dues of_key first empty water is_water quiet = record {
     in_order = ordered;
     aligned = ap length dues ∙ length-append old.dues.items (due ∷ []) ∙ ap (λ n. n + 1) c.aligned ∙ sym (ap length slots ∙ length-append old.slots.items (slot ∷ []));
     counted = ap length slots ∙ length-append old.slots.items (slot ∷ []) ∙ ap (λ n. n + 1) c.counted ∙ sym len;
@@ -109,6 +110,7 @@ module _ {K : Type 0} (key_of : K → List ℕ) (fits : Definitions → List Kep
             of_key = of_key ∙ own;
             stands = rw (kept, marks) empty;
             position = omega (arith, first);
+            is_water = is_water;
             past = omega (arith, water);
             waits = inl water;
             quiet = rw (kept, marks, ← own) quiet;
@@ -142,6 +144,7 @@ module _ {K : Type 0} (key_of : K → List ℕ) (fits : Definitions → List Kep
     of_key = c.of_key;
     stands = rw (same.kept, same.marks) c.stands;
     position = omega (arith, c.position);
+    is_water = c.is_water;
     past = rw water c.past;
     waits = rw water c.waits;
     quiet = rw (same.kept, same.marks) c.quiet;
@@ -197,6 +200,10 @@ module _ {K : Type 0} (key_of : K → List ℕ) (fits : Definitions → List Kep
       → IsCurrent key_of fits next_position d sources journal key slot (get_or t.dues.items p 0)
   current_at t key p slot c at is = subst (λ s. IsCurrent key_of fits next_position d sources journal key s (get_or t.dues.items p 0)) (sym is) (c.current key p slot at)
 
+  -- there are lists for which it stands
+  pub has_lists : (t : KeyTable K) (key : List ℕ) (p : ℕ) (slot : Slot K) → AreCurrent key_of fits next_position d sources journal t → place_of t key ≡ Some p → slot ≡ get_or t.slots.items p slot → HasLists fits d slot
+  has_lists t key p slot c at is = (kept_of d.lateness sources key journal, marks_of d.lateness sources key journal, (current_at t key p slot c at is).stands)
+
   -- a state that was brought to the journal's watermark
   pub up_to_date : (key : List ℕ) (old new : Slot K) (due new_due : ℕ)
       → IsCurrent key_of fits next_position d sources journal key old due
@@ -204,15 +211,17 @@ module _ {K : Type 0} (key_of : K → List ℕ) (fits : Definitions → List Kep
       → next_position new.state ≡ next_position old.state
       → ((kept : List Kept) (marks : List ℕ) → fits d kept marks old.water old.state → fits d kept marks new.water new.state)
       → new.water ≡ water_of sources journal
+      → IsWater (water_of sources journal)
       → ((kept : List Kept) (marks : List ℕ) → fits d kept marks new.water new.state → IsQuiet d (key_of new.state) kept marks new.water new_due)
       → IsCurrent key_of fits next_position d sources journal key new new_due
-  up_to_date key old new due new_due c k n f w q =
+  up_to_date key old new due new_due c k n f w is_water q =
       let own : key_of new.state ≡ key = k ∙ c.of_key in
       let stands : fits d (kept_of d.lateness sources key journal) (marks_of d.lateness sources key journal) new.water new.state = f (kept_of d.lateness sources key journal) (marks_of d.lateness sources key journal) c.stands in
       record {
         of_key = own;
         stands = stands;
         position = omega (arith, n, c.position);
+        is_water = rw w is_water;
         past = omega (arith, w);
         waits = inl w;
         quiet = subst (λ l. IsQuiet d l (kept_of d.lateness sources key journal) (marks_of d.lateness sources key journal) new.water new_due) own (q (kept_of d.lateness sources key journal) (marks_of d.lateness sources key journal) stands);
@@ -230,6 +239,7 @@ module _ {K : Type 0} (key_of : K → List ℕ) (fits : Definitions → List Kep
     of_key = k ∙ c.of_key;
     stands = f (kept_of d.lateness sources key journal) (marks_of d.lateness sources key journal) c.stands;
     position = omega (arith, n, c.position);
+    is_water = rw w c.is_water;
     past = omega (arith, w, c.past);
     waits = rw w c.waits;
     quiet = rw w c.quiet;

@@ -23,7 +23,7 @@ none_some : {X : Type 0} {x : X} → None ≡ Some x → ⊥
 none_some h = cc
 
 module _ {K : Type 0} (key_of : K → List ℕ) (fits : Definitions → List Kept → List ℕ → ℕ → K → Type 0) (next_position : K → ℕ) where
-  empty_table : (d : Definitions) (sources : ℕ) (t : KeyTable K) → t.index ≡ [] → t.slots.items ≡ [] → t.dues.items ≡ [] → AreCurrent key_of fits next_position d sources [] t
+  pub empty_table : (d : Definitions) (sources : ℕ) (t : KeyTable K) → t.index ≡ [] → t.slots.items ≡ [] → t.dues.items ≡ [] → AreCurrent key_of fits next_position d sources [] t
   empty_table d sources t index slots dues = record {
     in_order = rw index (sorted_nil nat_list_cmp_total);
     aligned = ap length dues ∙ sym (ap length slots);

@@ -1,8 +1,8 @@
 -- What the table of keys keeps of each key.
 use Rattle.std.specs.Prelude.{◌≡◌, ◌≤◌, ◌<◌, ◌⊎◌, ℕ, List, [], ◌∷◌, ◌++◌, Option, None, Some, length, slice_index, slice_index_or, ◌≢◌, EachIndex, nat_le}
 use Rattle.std.specs.Map.{values_of}
-use Rattle.key_slicer.specs.Calls.{Call, changes_by_move}
-use Rattle.key_slicer.specs.Calls.Call.{Move}
+use Rattle.key_windows.specs.Calls.{Call, IsWater, changes_by_move}
+use Rattle.key_windows.specs.Calls.Call.{Move}
 use Rattle.std.specs.List.{HoldsAt, filter}
 use Rattle.stream_base.specs.Limits.{Definitions}
 use Rattle.stream_base.specs.declared.change.Change.{Change}
@@ -30,6 +30,10 @@ pub record IsSameSlot {K : Type 0} (key_of : K → List ℕ) (fits : Definitions
 abbrev pub SlotFits : {K : Type 0} → (Definitions → List Kept → List ℕ → ℕ → K → Type 0) → Definitions → List Kept → List ℕ → Slot K → Type 0
 SlotFits fits d kept marks slot = fits d kept marks slot.water slot.state
 
+-- there are lists for which a slot stands
+abbrev pub HasLists : {K : Type 0} → (Definitions → List Kept → List ℕ → ℕ → K → Type 0) → Definitions → Slot K → Type 0
+HasLists fits d slot = (kept : List Kept) × (marks : List ℕ) × SlotFits fits d kept marks slot
+
 -- room was made for the move of a slot to a watermark
 abbrev pub CanMove : {K : Type 0} → (Call → K → Type 0) → ℕ → Slot K → Type 0
 CanMove is_ready water slot = is_ready (Move slot.water water) slot.state
@@ -44,6 +48,7 @@ module _ {K : Type 0} (key_of : K → List ℕ) (fits : Definitions → List Kep
     pub of_key : key_of slot.state ≡ key
     pub stands : fits d (kept_of d.lateness sources key journal) (marks_of d.lateness sources key journal) slot.water slot.state
     pub position : next_position slot.state ≤ length journal
+    pub is_water : IsWater slot.water
     pub past : slot.water ≤ water_of sources journal
     pub waits : (slot.water ≡ water_of sources journal) ⊎ (water_of sources journal < due)
     pub quiet : IsQuiet d key (kept_of d.lateness sources key journal) (marks_of d.lateness sources key journal) slot.water due
@@ -104,8 +109,9 @@ StandsIn key_of fits d kept marks slot = fits d (kept (key_of slot.state)) (mark
 abbrev pub moves_of : {K : Type 0} → (K → List ℕ) → Definitions → (List ℕ → List Kept) → (List ℕ → List ℕ) → ℕ → Slot K → List Change
 moves_of key_of d kept marks new slot = changes_by_move d (key_of slot.state) (kept (key_of slot.state)) (marks (key_of slot.state)) slot.water new
 
--- these are places of the slots, each once, and no slot stands under a later watermark
-pub record AreMovable {K : Type 0} (slots : List (Slot K)) (places : List ℕ) (water : ℕ) : Type 0 where
+-- these are places of the slots, each once, and each slot there stands for some lists, under no later watermark
+pub record AreMovable {K : Type 0} (fits : Definitions → List Kept → List ℕ → ℕ → K → Type 0) (d : Definitions) (slots : List (Slot K)) (places : List ℕ) (water : ℕ) : Type 0 where
   pub within : EachIndex places (λ i. slice_index places i < length slots)
   pub apart : AreApart places
   pub rises : EachIndex places (λ i. HoldsAt (λ slot. slot.water ≤ water) slots (slice_index places i))
+  pub stand : EachIndex places (λ i. HoldsAt (HasLists fits d) slots (slice_index places i))

@@ -5,3 +5,4 @@ pub mod Placed
 pub mod Numbers
 pub mod Engines
 pub mod Flat
+pub mod Replays

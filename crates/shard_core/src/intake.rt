@@ -8,7 +8,7 @@ ghost use Rattle.shard_core.specs.Engines.{IsTableOf, IsTableWith};
 use crate::keys::KeyTable;
 use crate::past::Past;
 use agg_laws::Steps;
-use key_slicer::KeyWindows;
+use key_windows::KeyWindows;
 use std::alloc::Global;
 use stream_base::{Change, Entry, NoMemory, What};
 

@@ -1,10 +1,10 @@
 ghost use Rattle.std.specs.Prelude.{◌≡◌, ◌≤◌, ◌<◌, ◌+◌, ◌++◌, ◌∷◌, [], ℕ, List, true, IfOk, OnOk, OnErr, Some, None, IfSome, length, All, EachIndex, sum_by, ◌-◌, vec_len, vec_capacity, slice_index, slice_index_or};
 ghost use Rattle.std.specs.List.{HoldsAt, flat_map};
-ghost use Rattle.key_slicer.specs.Calls.{changes_by_move};
-ghost use Rattle.key_slicer.specs.Calls.Call.{Move};
+ghost use Rattle.key_windows.specs.Calls.{IsWater, changes_by_move};
+ghost use Rattle.key_windows.specs.Calls.Call.{Move};
 ghost use Rattle.stream_base.specs.declared.kept.Kept.{Kept};
 ghost use Rattle.stream_base.specs.declared.entry.Entry.{Entry};
-ghost use Rattle.stream_base.specs.declared.limits.TheConstants.{FINAL, JOURNAL_MAX, TIME_MAX};
+ghost use Rattle.stream_base.specs.declared.limits.TheConstants.{JOURNAL_MAX, TIME_MAX};
 ghost use Rattle.stream_base.specs.declared.what.What.TheVariants.{Tuple, Mark};
 ghost use Rattle.stream_base.specs.Model.Changes.{changes_after};
 ghost use Rattle.stream_base.specs.Model.What.{is_progress};
@@ -16,7 +16,7 @@ use crate::key_index::KeyIndex;
 use crate::past::Past;
 use crate::slot::Slot;
 use agg_laws::Steps;
-use key_slicer::KeyWindows;
+use key_windows::KeyWindows;
 use std::alloc::Global;
 use stream_base::{Change, Defs, KeyText, NoMemory};
 
@@ -50,7 +50,7 @@ impl<K: KeyWindows> KeyTable<K> {
         key: &KeyText,
         water: u64,
     ) -> Result<usize, NoMemory>
-        requires { water ≤ FINAL }
+        requires { IsWater water }
         ensures place { IfOk result (λ p. place_of self.new key.now ≡ Some p) }
         ensures current { (sources : ℕ) (journal : List Entry) → water ≡ water_of sources journal
             → AreCurrent K.key_of K.fits K.next_position defs.now sources journal self.old
@@ -71,7 +71,7 @@ impl<K: KeyWindows> KeyTable<K> {
         water: u64,
     ) -> Result<usize, NoMemory>
         requires absent { place_of self.old key.now ≡ None }
-        requires water { water ≤ FINAL }
+        requires water { IsWater water }
         ensures place { IfOk result (λ p. place_of self.new key.now ≡ Some p) }
         ensures current { (sources : ℕ) (journal : List Entry) → water ≡ water_of sources journal
             → AreCurrent K.key_of K.fits K.next_position defs.now sources journal self.old
@@ -87,31 +87,26 @@ impl<K: KeyWindows> KeyTable<K> {
         Ok(place)
     }
 
-    // Brings the state at a place on to a watermark.
-    pub fn catch_up<L>(
+    // Brings the state of a key, which is at this place, on to the watermark of the past.
+    fn catch_up<L>(
         &mut self,
-        defs: &Defs,
+        past: &Past,
+        key: &KeyText,
         place: usize,
-        water: u64,
         out: &mut Vec<Change>,
         steps: &mut Steps<L>,
     ) -> Result<(), NoMemory>
-        requires place { place < length self.old.slots.items }
-        requires due { place < length self.old.dues.items }
-        requires rises { HoldsAt (λ slot. slot.water ≤ water) self.old.slots.items place }
-        requires water { water ≤ FINAL }
+        requires current { IsTableOf K.key_of K.fits K.next_position past.now self.old }
+        requires place { place_of self.old key.now ≡ Some place }
+        ensures current { IsTableOf K.key_of K.fits K.next_position past.now self.new }
         ensures index { self.new.index ≡ self.old.index }
         ensures water { OnOk result (HoldsAt (λ slot. slot.water
-            ≡ water) self.new.slots.items place) }
-        ensures current { (sources : ℕ) (journal : List Entry) (key : List ℕ)
-            → place_of self.old key ≡ Some place → water ≡ water_of sources journal
-            → AreCurrent K.key_of K.fits K.next_position defs.now sources journal self.old
-            → AreCurrent K.key_of K.fits K.next_position defs.now sources journal self.new }
-        ensures out { (sources : ℕ) (journal : List Entry) (key : List ℕ)
-            → place_of self.old key ≡ Some place → water ≡ water_of sources journal
-            → AreCurrent K.key_of K.fits K.next_position defs.now sources journal self.old
-            → out.new.items ≡ out.old.items }
+            ≡ water_of past.now.sources past.now.journal) self.new.slots.items place) }
+        ensures out { out.new.items ≡ out.old.items }
     {
+        let _ = key;
+        let defs = past.defs();
+        let water = past.water();
         let old = self.slots[place].water;
         if old == water {
             return Ok(());
@@ -140,7 +135,7 @@ impl<K: KeyWindows> KeyTable<K> {
         let water = past.water();
         let defs = past.defs();
         let place = self.place_or_add(alloc, defs, key, water)?;
-        self.catch_up(defs, place, water, out, steps)?;
+        self.catch_up(past, key, place, out, steps)?;
         Ok(place)
     }
 

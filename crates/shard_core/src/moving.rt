@@ -1,22 +1,22 @@
 ghost use Rattle.std.specs.Prelude.{◌≡◌, ◌≤◌, ◌<◌, ◌+◌, ◌++◌, ◌∷◌, [], ℕ, List, true, IfOk, OnOk, OnErr, Some, None, IfSome, length, All, EachIndex, sum_by, ◌-◌, vec_len, vec_capacity, slice_index, slice_index_or, ◌↔◌, IsTrue};
 ghost use Rattle.std.specs.List.{HoldsAt, flat_map};
 ghost use Rattle.std.specs.Map.{values_of};
-ghost use Rattle.key_slicer.specs.Calls.{changes_by_move};
-ghost use Rattle.key_slicer.specs.Calls.Call.{Move};
+ghost use Rattle.key_windows.specs.Calls.{IsWater, changes_by_move};
+ghost use Rattle.key_windows.specs.Calls.Call.{Move};
 ghost use Rattle.stream_base.specs.declared.kept.Kept.{Kept};
 ghost use Rattle.stream_base.specs.declared.entry.Entry.{Entry};
-ghost use Rattle.stream_base.specs.declared.limits.TheConstants.{FINAL, JOURNAL_MAX, TIME_MAX};
+ghost use Rattle.stream_base.specs.declared.limits.TheConstants.{JOURNAL_MAX, TIME_MAX};
 ghost use Rattle.stream_base.specs.declared.what.What.TheVariants.{Tuple, Mark};
 ghost use Rattle.stream_base.specs.Model.Changes.{changes_after};
 ghost use Rattle.stream_base.specs.Model.What.{is_progress};
 ghost use Rattle.stream_base.specs.Model.Watermark.{water_of};
-ghost use Rattle.shard_core.specs.Engines.{AreCurrent, AreMovable, AreSameSlots, CanMove, IsMovedSlot, IsSameElsewhere, IsSameOutside, IsSameSlot, IsTableOf, IsTableWith, SlotFits, StandsIn, due_places, moves_of, place_of};
+ghost use Rattle.shard_core.specs.Engines.{AreCurrent, AreMovable, AreSameSlots, CanMove, HasLists, IsMovedSlot, IsSameElsewhere, IsSameOutside, IsSameSlot, IsTableOf, IsTableWith, SlotFits, StandsIn, due_places, moves_of, place_of};
 
 use crate::keys::KeyTable;
 use crate::past::Past;
 use crate::slot::Slot;
 use agg_laws::Steps;
-use key_slicer::KeyWindows;
+use key_windows::KeyWindows;
 use std::alloc::Global;
 use stream_base::{Change, Defs, Entry, NoMemory};
 
@@ -35,7 +35,7 @@ impl<K: KeyWindows> KeyTable<K> {
         requires current { IsTableOf K.key_of K.fits K.next_position past.now self.old }
         requires progress { is_progress entry.now.what ≡ true }
         requires new { new ≡ water_of past.now.sources (past.now.journal ++ entry.now ∷ []) }
-        requires water { new ≤ FINAL }
+        requires water { IsWater new }
         ensures refused { OnErr result
             (IsTableOf K.key_of K.fits K.next_position past.now self.new) }
         ensures nothing { OnErr result (out.new.items ≡ out.old.items) }
@@ -69,8 +69,9 @@ impl<K: KeyWindows> KeyTable<K> {
     // Makes room for the move of the state at a place, and answers for how many changes.
     fn reserve_at(&mut self, defs: &Defs, place: usize, new: u64) -> Result<u64, NoMemory>
         requires place { place < length self.old.slots.items }
+        requires stands { HoldsAt (HasLists K.fits defs.now) self.old.slots.items place }
         requires rises { HoldsAt (λ slot. slot.water ≤ new) self.old.slots.items place }
-        requires water { new ≤ FINAL }
+        requires water { IsWater new }
         ensures index { self.new.index ≡ self.old.index }
         ensures dues { self.new.dues ≡ self.old.dues }
         ensures len { length self.new.slots.items ≡ length self.old.slots.items }
@@ -97,8 +98,9 @@ impl<K: KeyWindows> KeyTable<K> {
     )
         requires place { place < length self.old.slots.items }
         requires due { place < length self.old.dues.items }
+        requires stands { HoldsAt (HasLists K.fits defs.now) self.old.slots.items place }
         requires rises { HoldsAt (λ slot. slot.water ≤ new) self.old.slots.items place }
-        requires water { new ≤ FINAL }
+        requires water { IsWater new }
         requires ready { HoldsAt (CanMove (K.is_ready defs.now) new) self.old.slots.items place }
         requires spare { HoldsAt (λ slot. K.promised slot.state
             ≤ vec_capacity out.old - vec_len out.old) self.old.slots.items place }
@@ -126,8 +128,8 @@ impl<K: KeyWindows> KeyTable<K> {
 
     // Makes room for the moves of the states at these places, and answers for how many changes.
     fn reserve_moves(&mut self, defs: &Defs, places: &[usize], new: u64) -> Result<u64, NoMemory>
-        requires movable { AreMovable self.old.slots.items places.now new }
-        requires water { new ≤ FINAL }
+        requires movable { AreMovable K.fits defs.now self.old.slots.items places.now new }
+        requires water { IsWater new }
         ensures index { self.new.index ≡ self.old.index }
         ensures dues { self.new.dues ≡ self.old.dues }
         ensures same { AreSameSlots K.key_of K.fits K.next_position defs.now
@@ -156,9 +158,9 @@ impl<K: KeyWindows> KeyTable<K> {
         out: &mut Vec<Change>,
         steps: &mut Steps<L>,
     )
-        requires movable { AreMovable self.old.slots.items places.now new }
+        requires movable { AreMovable K.fits defs.now self.old.slots.items places.now new }
         requires aligned { length self.old.dues.items ≡ length self.old.slots.items }
-        requires water { new ≤ FINAL }
+        requires water { IsWater new }
         requires ready { EachIndex places.now
             (λ i. HoldsAt (CanMove (K.is_ready defs.now) new) self.old.slots.items
             (slice_index places.now i)) }

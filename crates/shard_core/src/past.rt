@@ -1,7 +1,8 @@
 ghost use Rattle.std.specs.Prelude.{◌≡◌, ◌≤◌, ◌<◌, ◌++◌, ◌∷◌, [], List, true, false, IfOk, OnOk, length};
+ghost use Rattle.key_windows.specs.Calls.{IsWater};
 ghost use Rattle.stream_base.specs.Limits.{AreWithinLimits};
 ghost use Rattle.stream_base.specs.declared.entry.Entry.{Entry};
-ghost use Rattle.stream_base.specs.declared.limits.TheConstants.{FINAL, JOURNAL_MAX};
+ghost use Rattle.stream_base.specs.declared.limits.TheConstants.{JOURNAL_MAX};
 ghost use Rattle.stream_base.specs.Model.Journals.{is_entry_within};
 ghost use Rattle.stream_base.specs.Model.Watermark.{has_ended, water_of};
 ghost use Rattle.stream_base.specs.Model.What.{is_late, is_what_within};
@@ -18,6 +19,7 @@ use watermark_table::{Verdict, Waters};
 #[derive(Drop)]
 pub struct Past {
     defs: Defs,
+    sources: u16,
     waters: Waters,
     journal: Vec<Entry>,
 }
@@ -45,9 +47,18 @@ impl Past {
         let waters = Waters::new(alloc, sources, defs.lateness())?;
         Ok(Past {
             defs,
+            sources,
             waters,
             journal: Vec::new(alloc),
         })
+    }
+
+    // The past of the same shard before its first entry.
+    pub fn beginning(&self, alloc: Global) -> Result<Past, NoMemory>
+        ensures same { IfOk result (λ past. IsSameShard self.now past) }
+        ensures journal { IfOk result (λ past. past.journal ≡ []) }
+    {
+        Past::new(alloc, self.defs.copy(alloc)?, self.sources)
     }
 
     pub fn defs(&self) -> &Defs
@@ -74,7 +85,7 @@ impl Past {
     // The watermark.
     pub fn water(&self) -> u64
         ensures value { result ≡ water_of self.now.sources self.now.journal }
-        ensures bounded { result ≤ FINAL }
+        ensures is_water { IsWater result }
     {
         self.waters.water()
     }

@@ -9,8 +9,9 @@ ghost use Rattle.shard_core.specs.Shard.{IsJournal, sharded_with, slices_after};
 use crate::applied::{Applied, ApplyFault};
 use crate::keys::KeyTable;
 use crate::past::Past;
+use crate::replay::Replay;
 use agg_laws::Steps;
-use key_slicer::KeyWindows;
+use key_windows::KeyWindows;
 use std::alloc::Global;
 use std::marker::Model;
 use stream_base::{Change, Defs, Entry, JOURNAL_MAX, KeyText, NoMemory, Row};
@@ -136,11 +137,17 @@ impl<K: KeyWindows> KeyedShard<K> {
     }
 
     /// The rows of all that stands, by key, window, start and end.
+    ///
+    /// It replays the journal: the state of a key need not have its settled tuples any more, but their
+    /// rows stand, so all entries are taken in once more, by keys that keep every tuple in plain
+    /// lists. That takes the time of applying the journal to a shard over the plain engine, and a
+    /// second journal's memory and those lists' while it runs. The shard itself stays as it is.
     pub fn standing<L>(&self, steps: &mut Steps<L>) -> Result<Vec<Row>, NoMemory>
         ensures { IfOk result (λ rows. rows.items
             ≡ standing_rows self.now.defs self.now.sources self.now.journal) }
     {
-        self.keys.standing(self.alloc, &self.past, steps)
+        let replay = Replay::of(self.alloc, &self.past, steps)?;
+        replay.standing(self.alloc, steps)
     }
 
     /// How many slices a key has: the maximal stretches of its unsettled tuples with no cut between

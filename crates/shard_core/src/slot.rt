@@ -1,15 +1,15 @@
 ghost use Rattle.std.specs.Prelude.{◌≡◌, ◌≤◌, ◌<◌, ◌+◌, ◌++◌, [], ◌-◌, ℕ, List, IfOk, OnOk, OnErr, vec_len, vec_capacity};
 ghost use Rattle.std.specs.BTreeSet.{insert_key};
 ghost use Rattle.std.specs.Ordering.{nat_cmp};
-ghost use Rattle.key_slicer.specs.Calls.{changes_by_mark, changes_by_move, changes_by_put, kept_at};
-ghost use Rattle.key_slicer.specs.Calls.Call.{Move};
+ghost use Rattle.key_windows.specs.Calls.{IsWater, changes_by_mark, changes_by_move, changes_by_put, kept_at};
+ghost use Rattle.key_windows.specs.Calls.Call.{Move};
 ghost use Rattle.stream_base.specs.declared.kept.Kept.{Kept};
-ghost use Rattle.stream_base.specs.declared.limits.TheConstants.{FINAL, JOURNAL_MAX, TIME_MAX};
+ghost use Rattle.stream_base.specs.declared.limits.TheConstants.{JOURNAL_MAX, TIME_MAX};
 ghost use Rattle.stream_base.specs.Model.Journal.{put_in_order};
-ghost use Rattle.shard_core.specs.Engines.{CanMove, IsQuiet, IsSameSlot, SlotFits};
+ghost use Rattle.shard_core.specs.Engines.{CanMove, HasLists, IsQuiet, IsSameSlot, SlotFits};
 
 use agg_laws::Steps;
-use key_slicer::KeyWindows;
+use key_windows::KeyWindows;
 use std::alloc::Global;
 use stream_base::{Change, Defs, KeyText, NoMemory};
 
@@ -40,8 +40,9 @@ impl<K: KeyWindows> Slot<K> {
         out: &mut Vec<Change>,
         steps: &mut Steps<L>,
     ) -> Result<(), NoMemory>
+        requires stands { HasLists K.fits defs.now self.old }
         requires rises { (self.old).water < water }
-        requires water { water ≤ FINAL }
+        requires water { IsWater water }
         ensures key { K.key_of (self.new).state ≡ K.key_of (self.old).state }
         ensures next { K.next_position (self.new).state ≡ K.next_position (self.old).state }
         ensures fits { (kept : List Kept) (marks : List ℕ)
@@ -72,10 +73,11 @@ impl<K: KeyWindows> Slot<K> {
         out: &mut Vec<Change>,
         steps: &mut Steps<L>,
     ) -> Result<(), NoMemory>
+        requires stands { HasLists K.fits defs.now self.old }
         requires time { time ≤ TIME_MAX }
         requires position { K.next_position (self.old).state ≤ position }
         requires few { position < JOURNAL_MAX }
-        requires water { (self.old).water ≤ FINAL }
+        requires water { IsWater (self.old).water }
         requires accepted { (self.old).water ≤ time + (defs.now).lateness }
         ensures refused { OnErr result
             (IsSameSlot K.key_of K.fits K.next_position defs.now self.old self.new) }
@@ -108,8 +110,9 @@ impl<K: KeyWindows> Slot<K> {
         out: &mut Vec<Change>,
         steps: &mut Steps<L>,
     ) -> Result<(), NoMemory>
+        requires stands { HasLists K.fits defs.now self.old }
         requires time { time ≤ TIME_MAX }
-        requires water { (self.old).water ≤ FINAL }
+        requires water { IsWater (self.old).water }
         requires accepted { (self.old).water ≤ time + (defs.now).lateness }
         ensures refused { OnErr result
             (IsSameSlot K.key_of K.fits K.next_position defs.now self.old self.new) }
@@ -136,8 +139,9 @@ impl<K: KeyWindows> Slot<K> {
 
     // Makes room for a move to a watermark, and answers for how many changes there is to be room.
     pub fn reserve_move(&mut self, defs: &Defs, new: u64) -> Result<u64, NoMemory>
+        requires stands { HasLists K.fits defs.now self.old }
         requires rises { (self.old).water ≤ new }
-        requires water { new ≤ FINAL }
+        requires water { IsWater new }
         ensures same { IsSameSlot K.key_of K.fits K.next_position defs.now self.old self.new }
         ensures ready { OnOk result (CanMove (K.is_ready defs.now) new self.new) }
         ensures promised { IfOk result (λ n. K.promised (self.new).state ≡ n) }
@@ -147,8 +151,9 @@ impl<K: KeyWindows> Slot<K> {
 
     // Moves on to a watermark.
     pub fn move_to<L>(&mut self, defs: &Defs, new: u64, out: &mut Vec<Change>, steps: &mut Steps<L>)
+        requires stands { HasLists K.fits defs.now self.old }
         requires rises { (self.old).water ≤ new }
-        requires water { new ≤ FINAL }
+        requires water { IsWater new }
         requires ready { CanMove (K.is_ready defs.now) new self.old }
         requires spare { K.promised (self.old).state ≤ vec_capacity out.old - vec_len out.old }
         ensures key { K.key_of (self.new).state ≡ K.key_of (self.old).state }
@@ -171,7 +176,8 @@ impl<K: KeyWindows> Slot<K> {
 
     // Up to which watermark, without it, nothing is due.
     pub fn due(&self, defs: &Defs) -> u64
-        requires { (self.now).water ≤ FINAL }
+        requires stands { HasLists K.fits defs.now self.now }
+        requires water { IsWater (self.now).water }
         ensures { (kept : List Kept) (marks : List ℕ) → SlotFits K.fits defs.now kept marks self.now
             → IsQuiet defs.now (K.key_of (self.now).state) kept marks (self.now).water result }
     {

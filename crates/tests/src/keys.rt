@@ -1,9 +1,12 @@
 //! The plain engine, by its trait.
-ghost use Rattle.std.specs.Prelude.{◌≡◌, ◌≤◌, ◌<◌, ◌+◌, IfOk, OnOk};
-ghost use Rattle.stream_base.specs.declared.limits.TheConstants.{FINAL, JOURNAL_MAX, TIME_MAX};
+ghost use Rattle.std.specs.Prelude.{◌≡◌, ◌≤◌, ◌<◌, ◌+◌, ℕ, List, IfOk, OnOk};
+ghost use Rattle.key_windows.specs.Calls.{IsWater};
+ghost use Rattle.stream_base.specs.declared.kept.Kept.{Kept};
+ghost use Rattle.stream_base.specs.declared.limits.TheConstants.{JOURNAL_MAX, TIME_MAX};
 
 use agg_laws::Steps;
-use key_slicer::{KeyState, KeyWindows};
+use key_windows::KeyWindows;
+use plain_keys::PlainKey;
 use std::alloc::Global;
 use std::test::Fail;
 use stream_base::{
@@ -38,6 +41,15 @@ fn four_windows(alloc: Global) -> Result<Defs, Fail>
     Ok(Defs::new(windows, 10, 0, 0)?)
 }
 
+// A state without a tuple or mark, under a watermark.
+fn fresh<K: KeyWindows>(alloc: Global, defs: &Defs, key: KeyText, water: u64) -> Result<K, NoMemory>
+    ensures first { IfOk result (λ state. K.next_position state ≡ 0) }
+    ensures stands { IfOk result (λ state. (kept : List Kept) × (marks : List ℕ)
+        × K.fits defs.now kept marks water state) }
+{
+    K::fresh(alloc, defs, key)
+}
+
 // Room is made for a tuple, and it is put.
 fn put<K: KeyWindows>(
     alloc: Global,
@@ -47,12 +59,16 @@ fn put<K: KeyWindows>(
     water: u64,
     steps: &mut Steps<Work>,
 ) -> Result<Vec<Change>, NoMemory>
+    requires stands { (kept : List Kept) × (marks : List ℕ)
+        × K.fits defs.now kept marks water state.old }
     requires time { x.time ≤ TIME_MAX }
     requires position { K.next_position state.old ≤ x.position }
     requires few { x.position < JOURNAL_MAX }
-    requires water { water ≤ FINAL }
+    requires water { water ≤ TIME_MAX }
     requires accepted { water ≤ x.time + (defs.now).lateness }
-    ensures { OnOk result (K.next_position state.new ≡ x.position + 1) }
+    ensures next { OnOk result (K.next_position state.new ≡ x.position + 1) }
+    ensures stands { OnOk result ((kept : List Kept) × (marks : List ℕ)
+        × K.fits defs.now kept marks water state.new) }
 {
     let room = state.reserve_put(defs, x.time, water)?;
     let mut out = Vec::with_capacity(alloc, room as usize)?;
@@ -69,10 +85,14 @@ fn mark<K: KeyWindows>(
     water: u64,
     steps: &mut Steps<Work>,
 ) -> Result<Vec<Change>, NoMemory>
+    requires stands { (kept : List Kept) × (marks : List ℕ)
+        × K.fits defs.now kept marks water state.old }
     requires time { time ≤ TIME_MAX }
-    requires water { water ≤ FINAL }
+    requires water { water ≤ TIME_MAX }
     requires accepted { water ≤ time + (defs.now).lateness }
-    ensures { OnOk result (K.next_position state.new ≡ K.next_position state.old) }
+    ensures next { OnOk result (K.next_position state.new ≡ K.next_position state.old) }
+    ensures stands { OnOk result ((kept : List Kept) × (marks : List ℕ)
+        × K.fits defs.now kept marks water state.new) }
 {
     let room = state.reserve_mark(defs, time, water)?;
     let mut out = Vec::with_capacity(alloc, room as usize)?;
@@ -89,14 +109,36 @@ fn advance<K: KeyWindows>(
     new: u64,
     steps: &mut Steps<Work>,
 ) -> Result<Vec<Change>, NoMemory>
+    requires stands { (kept : List Kept) × (marks : List ℕ)
+        × K.fits defs.now kept marks old state.old }
     requires rises { old ≤ new }
-    requires water { new ≤ FINAL }
-    ensures { OnOk result (K.next_position state.new ≡ K.next_position state.old) }
+    requires water { new ≤ TIME_MAX }
+    ensures next { OnOk result (K.next_position state.new ≡ K.next_position state.old) }
+    ensures stands { OnOk result ((kept : List Kept) × (marks : List ℕ)
+        × K.fits defs.now kept marks new state.new) }
 {
     let room = state.reserve_water(defs, old, new)?;
     let mut out = Vec::with_capacity(alloc, room as usize)?;
     state.water(defs, old, new, &mut out, steps);
     Ok(out)
+}
+
+fn due<K: KeyWindows>(state: &K, defs: &Defs, water: u64) -> u64
+    requires stands { (kept : List Kept) × (marks : List ℕ)
+        × K.fits defs.now kept marks water state.now }
+    requires water { water ≤ TIME_MAX }
+{
+    state.next_due(defs, water)
+}
+
+// The slices under a watermark of a state that stands under this one or an earlier one.
+fn slices<K: KeyWindows>(state: &K, defs: &Defs, old: u64, water: u64) -> u64
+    requires stands { (kept : List Kept) × (marks : List ℕ)
+        × K.fits defs.now kept marks old state.now }
+    requires rises { old ≤ water }
+    requires water { water ≤ TIME_MAX }
+{
+    state.slice_count(defs, water)
 }
 
 fn kept(position: u64, time: u64, value: i64) -> Kept
@@ -134,13 +176,13 @@ fn a_late_tuple_updates_and_a_late_mark_parts(rt: HostRuntime) -> Result<(), Fai
     let mut steps: Steps<Work> = Steps::start(&rt);
     let key = KeyText::from_bytes(b"a")?;
     let defs = four_windows(alloc)?;
-    let mut state = KeyState::fresh(alloc, &defs, key)?;
+    let mut state = fresh::<PlainKey>(alloc, &defs, key, 0)?;
 
     let none = put(alloc, &mut state, &defs, kept(0, 1, 5), 0, &mut steps)?;
     assert!(rt; none.is_empty());
     let none = put(alloc, &mut state, &defs, kept(1, 4, 7), 0, &mut steps)?;
     assert!(rt; none.is_empty());
-    assert_eq!(rt; state.next_due(&defs, 0), 4);
+    assert_eq!(rt; due(&state, &defs, 0), 4);
 
     let moved = advance(alloc, &mut state, &defs, 0, 10, &mut steps)?;
     let wanted = [
@@ -181,7 +223,7 @@ fn a_late_tuple_updates_and_a_late_mark_parts(rt: HostRuntime) -> Result<(), Fai
     assert_eq!(rt; parted.as_slice(), wanted.as_slice());
     let again = mark(alloc, &mut state, &defs, 2, 10, &mut steps)?;
     assert!(rt; again.is_empty());
-    assert_eq!(rt; state.next_due(&defs, 10), FINAL);
+    assert_eq!(rt; due(&state, &defs, 10), FINAL);
 
     let mut rows = Vec::new(alloc);
     state.append_rows(&defs, 10, &mut rows, &mut steps)?;
@@ -220,30 +262,31 @@ fn slices_are_cut_at_gaps_starts_and_marks_and_counted_until_they_settle(
     let alloc = rt.alloc();
     let mut steps: Steps<Work> = Steps::start(&rt);
     let defs = two_windows(alloc)?;
-    let mut state = KeyState::fresh(alloc, &defs, KeyText::from_bytes(b"a")?)?;
-    assert_eq!(rt; state.slice_count(&defs, 0), 0);
+    let key = KeyText::from_bytes(b"a")?;
+    let mut state = fresh::<PlainKey>(alloc, &defs, key, 0)?;
+    assert_eq!(rt; slices(&state, &defs, 0, 0), 0);
 
     // The tuple at 5 joins two slices. A mark parts them between 2 and 5, and so would one at 5.
     put(alloc, &mut state, &defs, kept(0, 1, 0), 0, &mut steps)?;
     put(alloc, &mut state, &defs, kept(1, 2, 0), 0, &mut steps)?;
     put(alloc, &mut state, &defs, kept(2, 8, 0), 0, &mut steps)?;
-    assert_eq!(rt; state.slice_count(&defs, 0), 2);
+    assert_eq!(rt; slices(&state, &defs, 0, 0), 2);
     put(alloc, &mut state, &defs, kept(3, 5, 0), 0, &mut steps)?;
-    assert_eq!(rt; state.slice_count(&defs, 0), 1);
+    assert_eq!(rt; slices(&state, &defs, 0, 0), 1);
     mark(alloc, &mut state, &defs, 4, 0, &mut steps)?;
-    assert_eq!(rt; state.slice_count(&defs, 0), 2);
+    assert_eq!(rt; slices(&state, &defs, 0, 0), 2);
     mark(alloc, &mut state, &defs, 5, 0, &mut steps)?;
-    assert_eq!(rt; state.slice_count(&defs, 0), 2);
+    assert_eq!(rt; slices(&state, &defs, 0, 0), 2);
 
     // An interval begins at 10, and the session ends at 15.
     put(alloc, &mut state, &defs, kept(4, 11, 0), 0, &mut steps)?;
-    assert_eq!(rt; state.slice_count(&defs, 0), 3);
+    assert_eq!(rt; slices(&state, &defs, 0, 0), 3);
     put(alloc, &mut state, &defs, kept(5, 30, 0), 0, &mut steps)?;
-    assert_eq!(rt; state.slice_count(&defs, 17), 4);
-    assert_eq!(rt; state.slice_count(&defs, 18), 2);
-    assert_eq!(rt; state.slice_count(&defs, 22), 2);
-    assert_eq!(rt; state.slice_count(&defs, 23), 1);
-    assert_eq!(rt; state.slice_count(&defs, 42), 1);
-    assert_eq!(rt; state.slice_count(&defs, 43), 0);
+    assert_eq!(rt; slices(&state, &defs, 0, 17), 4);
+    assert_eq!(rt; slices(&state, &defs, 0, 18), 2);
+    assert_eq!(rt; slices(&state, &defs, 0, 22), 2);
+    assert_eq!(rt; slices(&state, &defs, 0, 23), 1);
+    assert_eq!(rt; slices(&state, &defs, 0, 42), 1);
+    assert_eq!(rt; slices(&state, &defs, 0, 43), 0);
     Ok(())
 }

@@ -3,6 +3,7 @@ use Rattle.std.proofs.Common.{◌≡◌, ◌∙◌, ◌++◌, ◌∷◌, [], Lis
 use Rattle.std.specs.BTreeMap.{is_at}
 use Rattle.std.specs.Cmp.Lexicographic.{slice_cmp}
 use Rattle.std.specs.Ordering.{nat_cmp}
+use Rattle.key_windows.specs.Calls.{IsWater}
 use Rattle.shard_core.specs.Engines.{IsQuiet, place_of}
 use Rattle.shard_core.proofs.Places.{added, unchanged}
 use Rattle.shard_core.proofs.Placing.{at_itself}
@@ -39,5 +40,8 @@ returns-clause-current g c sources journal w h =
     c.add.ensures.by_key c.in_ok-place.ensures.len
     (c.push_reserved.ensures.items ∙ ap (λ l. l ++ slot ∷ []) c.reserve.ensures.items)
     (c.push_reserved-2.ensures.items ∙ ap (λ l. l ++ c.due-due.result ∷ []) c.reserve-2.ensures.items)
-    c.in_ok-slot.ensures.key c.in_ok-slot.ensures.first stands (c.in_ok-slot.ensures.water ∙ w)
+    c.in_ok-slot.ensures.key c.in_ok-slot.ensures.first stands (c.in_ok-slot.ensures.water ∙ w) (subst IsWater (sym c.in_ok-slot.ensures.water) c.requires.water)
     (subst (λ (k : List ℕ). IsQuiet c.args.defs.now k [] [] slot.water c.due-due.result) c.in_ok-slot.ensures.key (c.due-due.ensures [] [] stands))
+
+pub due-due-requires-clause-stands : goal.due-due-requires-clause-stands
+due-due-requires-clause-stands g c = ([], [], subst (λ (n : ℕ). g.K.KeyWindows.fits c.args.defs.now [] [] n c.in_ok-slot.slot.state) (sym c.in_ok-slot.ensures.water) c.in_ok-slot.ensures.empty)

@@ -22,7 +22,7 @@ pub reserve_moves-requires-clause-movable : goal.reserve_moves-requires-clause-m
 reserve_moves-requires-clause-movable g c =
     let past = c.args.past.now in
     let further : water_of past.sources past.journal ≤ c.args.new = rw c.requires.new (water_rises past.sources past.journal c.args.entry.now) in
-    rw (c.as_slice-places.ensures.value, c.in_ok-due.ensures) (due_movable g.K.KeyWindows.key_of g.K.KeyWindows.fits g.K.KeyWindows.next_position past.defs past.sources past.journal c.args.self.now c.requires.current c.args.new further)
+    rw (c.as_slice-places.ensures.value, c.in_ok-due.ensures, c.defs-defs.ensures.value) (due_movable g.K.KeyWindows.key_of g.K.KeyWindows.fits g.K.KeyWindows.next_position past.defs past.sources past.journal c.args.self.now c.requires.current c.args.new further)
 
 pub returns-in_err-room-clause-refused : goal.returns-in_err-room-clause-refused
 returns-in_err-room-clause-refused g c =
@@ -76,7 +76,7 @@ returns-clause-taken g c =
     let moved = c.move_all.ensures in
     let same : c.look_again.new.self.items ≡ c.move_all.new.self.dues.items = c.look_again.ensures in
     rw (← c.defs-defs.ensures.value)
-    (moved_table key_of fits next d past.sources past.journal ready _ c.args.entry.now new (rw c.defs-defs.ensures.value c.defs-defs.ensures.limits) c.requires.progress c.requires.new current
+    (moved_table key_of fits next d past.sources past.journal ready _ c.args.entry.now new (rw c.defs-defs.ensures.value c.defs-defs.ensures.limits) c.requires.progress c.requires.new c.requires.water current
     moved.index moved.len (ap length same ∙ moved.aligned) (rw (← places) moved.others) (rw (← places, same) moved.other_dues) (λ x. rw (← places, same) (moved.moved x)))
 
 pub returns-clause-changes : goal.returns-clause-changes

@@ -1,11 +1,11 @@
 -- One state more is moved.
-use Rattle.std.proofs.Common.{◌≡◌, ◌∙◌, ◌<◌, ◌-◌, ◌++◌, ap, arith, get_or, length, take}
+use Rattle.std.proofs.Common.{◌≡◌, ◌∙◌, ◌<◌, ◌-◌, ◌++◌, ap, arith, get_or, length, subst, sym, take}
 use Rattle.std.specs.Prelude.{vec_capacity, vec_len}
 use Rattle.std.specs.List.{flat_map}
 use Rattle.std.proofs.lemmas.List.{take_all}
 use Rattle.std.proofs.lemmas.List.Sums.{sum_by-drop_more}
 use Rattle.shard_core.specs.declared.slot.Slot.{Slot}
-use Rattle.shard_core.specs.Engines.{moves_of}
+use Rattle.shard_core.specs.Engines.{HasLists, moves_of}
 use Rattle.shard_core.proofs.Loops.{one_moved}
 use Rattle.shard_core.proofs.keys.KeyTable.move_all.Goals as goal
 
@@ -19,6 +19,15 @@ move_at-requires-clause-spare g c x =
     let same : promised (get_or c.loop-place.self.slots.items (get_or places i 0) x).state ≡ promised (get_or c.args.self.now.slots.items (get_or places i 0) x).state =
     ap (λ (s : Slot g.row.K.Denot). promised s.state) (m.outside (get_or places i 0) x (λ j jl. c.requires.movable.apart j i jl within)) in
     omega (arith, same, m.room x, sum_by-drop_more (λ p. promised (get_or c.args.self.now.slots.items p x).state) places i 0 within)
+
+pub move_at-requires-clause-stands : goal.move_at-requires-clause-stands
+move_at-requires-clause-stands g c x =
+    let i = c.loop-place.place-index in
+    let places = c.args.places.now in
+    let within : i < length places = omega arith in
+    let untouched : get_or c.loop-place.self.slots.items (get_or places i 0) x ≡ get_or c.args.self.now.slots.items (get_or places i 0) x =
+    c.loop-place.invariant.1.outside (get_or places i 0) x (λ j jl. c.requires.movable.apart j i jl within) in
+    subst (λ (s : Slot g.row.K.Denot). HasLists g.K.KeyWindows.fits c.args.defs.now s) (sym untouched) (c.requires.movable.stand i within x)
 
 pub loop-place-preserved : goal.loop-place-preserved
 loop-place-preserved g c =

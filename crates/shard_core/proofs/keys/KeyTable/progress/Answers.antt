@@ -1,12 +1,12 @@
 -- Where the watermark stays, nothing changes.
-use Rattle.std.proofs.Common.{◌≡◌, ◌∙◌, ◌≤◌, ◌++◌, ◌∷◌, [], ap, subst, sym}
+use Rattle.std.proofs.Common.{◌≡◌, ◌∙◌, ◌++◌, ◌∷◌, [], ap, subst, sym}
 use Rattle.std.proofs.lemmas.List.{append-nil}
-use Rattle.stream_base.specs.declared.limits.TheConstants.{FINAL}
+use Rattle.key_windows.specs.Calls.{IsWater}
 use Rattle.stream_base.specs.Model.Watermark.{water_of}
 use Rattle.stream_base.proofs.ChangesAfter.{no_news_no_changes}
-use Rattle.watermark_table.proofs.Bounds.{water_at_most_final}
 use Rattle.shard_core.proofs.Advance.{progress_stays, still_table}
 use Rattle.shard_core.proofs.Journals.{within_push}
+use Rattle.shard_core.proofs.Waters.{water_is_water}
 use Rattle.shard_core.proofs.keys.KeyTable.progress.Goals as goal
 
 pub returns-then-new-water-clause-taken : goal.returns-then-new-water-clause-taken
@@ -26,5 +26,5 @@ returns-then-new-water-clause-changes g c =
 pub advance-requires-clause-water : goal.advance-requires-clause-water
 advance-requires-clause-water g c =
     let past = c.args.past.now in
-    subst (λ w. w ≤ FINAL) (sym c.water_after-new.ensures)
-    (water_at_most_final past.sources (past.journal ++ c.args.entry.now ∷ []) (within_push past.sources past.journal c.args.entry.now c.journal-journal.ensures.journal.known c.requires.source c.requires.within).within)
+    subst IsWater (sym c.water_after-new.ensures)
+    (water_is_water past.sources (past.journal ++ c.args.entry.now ∷ []) (within_push past.sources past.journal c.args.entry.now c.journal-journal.ensures.journal.known c.requires.source c.requires.within).within)

@@ -6,17 +6,49 @@ use Rattle.stream_base.specs.Model.Journal.{kept_of, marks_of, put_in_order}
 use Rattle.stream_base.specs.Model.Watermark.{water_of}
 use Rattle.stream_base.specs.Model.What.{key_in}
 use Rattle.stream_base.specs.Model.Changes.{changes_after}
-use Rattle.key_slicer.specs.Calls.{changes_by_put, kept_at}
+use Rattle.key_windows.specs.Calls.{IsWater, changes_by_put, kept_at}
 use Rattle.shard_core.specs.declared.slot.Slot.{Slot}
-use Rattle.shard_core.specs.Engines.{AreCurrent, IsCurrent, IsQuiet}
+use Rattle.shard_core.specs.Engines.{AreCurrent, HasLists, IsCurrent, IsQuiet}
 use Rattle.shard_core.proofs.Entries.{changes_of_tuple, kept_with_tuple, marks_with_tuple, keyed_table}
-use Rattle.shard_core.proofs.Places.{alike, current_at, on_err, replaced, same_for}
+use Rattle.shard_core.proofs.Places.{alike, current_at, has_lists, on_err, replaced, same_for}
 use Rattle.shard_core.proofs.keys.KeyTable.put.Goals as goal
 
 pub put-requires-clause-position : goal.put-requires-clause-position
 put-requires-clause-position g c =
     let was = current_at g.K.KeyWindows.key_of g.K.KeyWindows.fits g.K.KeyWindows.next_position c.args.past.now.defs c.args.past.now.sources c.args.past.now.journal c.prepare.new.self c.args.key.now c.in_ok-place.place c.index_mut.result.now c.prepare.ensures.current c.in_ok-place.ensures.place c.index_mut.ensures.value in
     subst (λ l. g.K.KeyWindows.next_position c.index_mut.result.now.state ≤ length l) (sym c.journal.ensures.value) was.position
+
+pub put-requires-clause-stands : goal.put-requires-clause-stands
+put-requires-clause-stands g c =
+    let past = c.args.past.now in
+    rw c.defs-defs.ensures.value
+    (has_lists g.K.KeyWindows.key_of g.K.KeyWindows.fits g.K.KeyWindows.next_position past.defs past.sources past.journal c.prepare.new.self c.args.key.now c.in_ok-place.place c.index_mut.result.now c.prepare.ensures.current c.in_ok-place.ensures.place c.index_mut.ensures.value)
+
+pub put-requires-clause-water : goal.put-requires-clause-water
+put-requires-clause-water g c =
+    let past = c.args.past.now in
+    (current_at g.K.KeyWindows.key_of g.K.KeyWindows.fits g.K.KeyWindows.next_position past.defs past.sources past.journal c.prepare.new.self c.args.key.now c.in_ok-place.place c.index_mut.result.now c.prepare.ensures.current c.in_ok-place.ensures.place c.index_mut.ensures.value).is_water
+
+pub due-requires-clause-stands : goal.due-requires-clause-stands
+due-requires-clause-stands g c =
+    let fits = g.K.KeyWindows.fits in
+    let past = c.args.past.now in
+    let d = c.defs-defs.result.now in
+    let table = c.prepare.new.self in
+    let new = c.put.new.self in
+    let there : c.index.result.now ≡ new = c.index.ensures ∙ get_or-set_same table.slots.items c.in_ok-place.place new c.index.result.now (c.prepare.ensures.current.placed c.args.key.now c.in_ok-place.place c.in_ok-place.ensures.place) in
+    let old : HasLists fits d c.index_mut.result.now = rw c.defs-defs.ensures.value
+    (has_lists g.K.KeyWindows.key_of fits g.K.KeyWindows.next_position past.defs past.sources past.journal c.prepare.new.self c.args.key.now c.in_ok-place.place c.index_mut.result.now c.prepare.ensures.current c.in_ok-place.ensures.place c.index_mut.ensures.value) in
+    subst (λ (s : Slot g.row.K.Denot). HasLists fits d s) (sym there) (_, old.1, c.in_ok-put.ensures.fits old.0 old.1 old.2)
+
+pub due-requires-clause-water : goal.due-requires-clause-water
+due-requires-clause-water g c =
+    let past = c.args.past.now in
+    let table = c.prepare.new.self in
+    let new = c.put.new.self in
+    let there : c.index.result.now ≡ new = c.index.ensures ∙ get_or-set_same table.slots.items c.in_ok-place.place new c.index.result.now (c.prepare.ensures.current.placed c.args.key.now c.in_ok-place.place c.in_ok-place.ensures.place) in
+    let was = current_at g.K.KeyWindows.key_of g.K.KeyWindows.fits g.K.KeyWindows.next_position past.defs past.sources past.journal c.prepare.new.self c.args.key.now c.in_ok-place.place c.index_mut.result.now c.prepare.ensures.current c.in_ok-place.ensures.place c.index_mut.ensures.value in
+    subst (λ (s : Slot g.row.K.Denot). IsWater s.water) (sym there) (subst IsWater (sym c.in_ok-put.ensures.water) was.is_water)
 
 pub returns-in_err-put-clause-refused : goal.returns-in_err-put-clause-refused
 returns-in_err-put-clause-refused g c =

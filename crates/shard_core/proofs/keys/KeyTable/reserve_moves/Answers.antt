@@ -2,8 +2,17 @@
 use Rattle.std.proofs.Common.{◌≡◌, ◌∙◌, ◌<◌, ap, arith, sym, get_or, length, take}
 use Rattle.std.specs.Prelude.{sum_by}
 use Rattle.std.proofs.lemmas.List.{take_all}
-use Rattle.shard_core.proofs.Loops.{one_reserved, one_same}
+use Rattle.shard_core.proofs.Loops.{one_reserved, one_same, same_lists}
 use Rattle.shard_core.proofs.keys.KeyTable.reserve_moves.Goals as goal
+
+pub reserve_at-requires-clause-stands : goal.reserve_at-requires-clause-stands
+reserve_at-requires-clause-stands g c x =
+    let i = c.loop-place.place-index in
+    let places = c.args.places.now in
+    let within : i < length places = omega arith in
+    let place = get_or places i 0 in
+    same_lists g.K.KeyWindows.key_of g.K.KeyWindows.fits g.K.KeyWindows.next_position c.args.defs.now (get_or c.args.self.now.slots.items place x) (get_or c.loop-place.self.slots.items place x)
+    (c.loop-place.invariant.2.each_same place x) (c.requires.movable.stand i within x)
 
 pub loop-place-preserved : goal.loop-place-preserved
 loop-place-preserved g c =

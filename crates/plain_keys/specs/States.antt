@@ -1,0 +1,105 @@
+-- What a `PlainKey` keeps, and for which call it has room.
+use Rattle.std.specs.Prelude.{◌≡◌, ◌≤◌, ◌<◌, ◌+◌, ◌-◌, ◌^◌, ℕ, pos, List, length, All}
+use Rattle.std.specs.BTreeSet.{insert_key}
+use Rattle.std.specs.Ordering.{nat_cmp}
+use Rattle.stream_base.specs.declared.change.Change.{Change}
+use Rattle.stream_base.specs.declared.def.Def.{Def}
+use Rattle.stream_base.specs.declared.kept.Kept.{Kept}
+use Rattle.stream_base.specs.declared.limits.TheConstants.{JOURNAL_MAX}
+use Rattle.stream_base.specs.Limits.{Definitions}
+use Rattle.stream_base.specs.Model.Changes.{changes_between}
+use Rattle.stream_base.specs.Model.Journal.{put_in_order}
+use Rattle.window_laws.specs.Positions.{HaveDistinctPositions}
+use Rattle.plain_windows.specs.Changing.{IsAhead}
+use Rattle.plain_windows.specs.Extents.{AreKeyLists}
+use Rattle.key_windows.specs.Calls.{Call, changes_by_mark, changes_by_move, changes_by_put, kept_at, moment}
+use Rattle.key_windows.specs.Calls.Call.{Put, Mark, Move}
+
+-- what contracts see: the key and its lists, the position that the next tuple has at least, up to which watermark, without it, nothing becomes complete, what was promised to the call to come, and the drafts of its lists and room for one more in each
+pub record State : Type 0 where
+  pub key : List ℕ
+  pub kept : List Kept
+  pub marks : List ℕ
+  pub next : ℕ
+  pub due : ℕ
+  pub promise : ℕ
+  pub next_kept : List Kept
+  pub next_marks : List ℕ
+  pub kept_spare : ℕ
+  pub marks_spare : ℕ
+
+-- the lists are a key's, of so few tuples, each at a position of its own below the next one
+pub record IsState (kept : List Kept) (marks : List ℕ) (next : ℕ) : Type 0 where
+  pub lists : AreKeyLists kept marks
+  pub distinct : HaveDistinctPositions kept
+  pub below : All (λ x. x.position < next) kept
+  pub few : length kept ≤ next
+  pub most : next ≤ JOURNAL_MAX
+
+-- a tuple in the place of one to come at a time: no kept tuple has its position
+abbrev pub stand_in : ℕ → Kept
+stand_in time = kept_at (2 ^ 64 - 1) time (pos 0)
+
+-- its kept tuples and marks are these, and no bound lies between the watermark and its due number
+abbrev pub Fits : Definitions → List Kept → List ℕ → ℕ → State → Type 0
+Fits d kept marks water s = (s.kept ≡ kept) × (s.marks ≡ marks) × IsAhead d.windows kept marks water s.due
+
+-- a tuple to come after the watermark has a place left; for an earlier one the list is drawn, with a stand-in, and as many changes promised as that causes
+pub record IsReadyToPut (d : Definitions) (time water : ℕ) (s : State) : Type 0 where
+  pub ahead : water < time → 1 ≤ s.kept_spare
+  pub drawn : time ≤ water → s.next < JOURNAL_MAX → s.next_kept ≡ put_in_order s.kept (stand_in time)
+  pub promised : time ≤ water → s.next < JOURNAL_MAX → (key : List ℕ) → s.promise ≡ length (changes_by_put d key s.kept s.marks water (stand_in time))
+
+-- and so for a mark
+pub record IsReadyToMark (d : Definitions) (time water : ℕ) (s : State) : Type 0 where
+  pub ahead : water < time → 1 ≤ s.marks_spare
+  pub drawn : time ≤ water → s.next_marks ≡ insert_key nat_cmp s.marks time
+  pub promised : time ≤ water → (key : List ℕ) → s.promise ≡ length (changes_by_mark d key s.kept s.marks water time)
+
+-- as many changes are promised as a move that reaches the due number causes
+pub record IsReadyToMove (d : Definitions) (old new : ℕ) (s : State) : Type 0 where
+  pub promised : s.due ≤ new → (key : List ℕ) → s.promise ≡ length (changes_by_move d key s.kept s.marks old new)
+
+abbrev pub IsReady : Definitions → Call → State → Type 0
+IsReady d (Put time water) s = IsReadyToPut d time water s
+IsReady d (Mark time water) s = IsReadyToMark d time water s
+IsReady d (Move old new) s = IsReadyToMove d old new s
+
+-- what one tuple more changes of a state under a watermark
+abbrev pub by_tuple : List Def → List ℕ → State → ℕ → Kept → List Change
+by_tuple windows key s water x = changes_between windows key (moment s.kept s.marks water) (moment (put_in_order s.kept x) s.marks water)
+
+-- and one mark more
+abbrev pub by_one_mark : List Def → List ℕ → State → ℕ → ℕ → List Change
+by_one_mark windows key s water m = changes_between windows key (moment s.kept s.marks water) (moment s.kept (insert_key nat_cmp s.marks m) water)
+
+-- the key, its lists and the next position stay
+pub record IsOfSame (old new : State) : Type 0 where
+  pub key : new.key ≡ old.key
+  pub kept : new.kept ≡ old.kept
+  pub marks : new.marks ≡ old.marks
+  pub next : new.next ≡ old.next
+
+-- and the due number
+pub record Stays (old new : State) : Type 0 where
+  pub key : new.key ≡ old.key
+  pub kept : new.kept ≡ old.kept
+  pub marks : new.marks ≡ old.marks
+  pub next : new.next ≡ old.next
+  pub due : new.due ≡ old.due
+
+-- one tuple more is kept
+pub record IsPut (old : State) (x : Kept) (new : State) : Type 0 where
+  pub key : new.key ≡ old.key
+  pub kept : new.kept ≡ put_in_order old.kept x
+  pub marks : new.marks ≡ old.marks
+  pub next : new.next ≡ x.position + 1
+  pub due : new.due ≡ old.due
+
+-- one mark more is known
+pub record IsMarked (old : State) (mark : ℕ) (new : State) : Type 0 where
+  pub key : new.key ≡ old.key
+  pub kept : new.kept ≡ old.kept
+  pub marks : new.marks ≡ insert_key nat_cmp old.marks mark
+  pub next : new.next ≡ old.next
+  pub due : new.due ≡ old.due

@@ -1,0 +1,471 @@
+//! The plain engine: a key's lists, and each change from them anew.
+ghost use Rattle.std.specs.Prelude.{◌≡◌, ◌≤◌, ◌<◌, ◌-◌, ◌++◌, ℕ, List, length, IfOk, OnOk, vec_len, vec_capacity};
+ghost use Rattle.std.specs.BTreeSet.{insert_key};
+ghost use Rattle.std.specs.List.{enumerate_from, flat_map};
+ghost use Rattle.std.specs.Ordering.{nat_cmp};
+ghost use Rattle.stream_base.specs.declared.limits.TheConstants.{JOURNAL_MAX, TIME_MAX};
+ghost use Rattle.stream_base.specs.Laws.{completions};
+ghost use Rattle.stream_base.specs.Model.Changes.{changes_between, rows_at};
+ghost use Rattle.stream_base.specs.Model.Journal.{put_in_order};
+ghost use Rattle.plain_windows.specs.Changing.{IsAhead, room};
+ghost use Rattle.plain_windows.specs.Views.{AreWindows};
+ghost use Rattle.key_windows.specs.Calls.{kept_at, moment};
+ghost use Rattle.plain_keys.specs.States.{Fits, IsMarked, IsOfSame, IsPut, IsReady, IsState, Stays, by_one_mark, by_tuple, stand_in};
+
+use crate::drafts::{add_mark, draw_mark, draw_put, fill_in, put_in};
+use agg_laws::Steps;
+use key_windows::KeyWindows;
+use plain_windows::{
+    View, append_changes, append_completions, append_rows, bound_from, count_changes,
+    count_completions, next_bound, slice_count,
+};
+use std::alloc::Global;
+use std::marker::Model;
+use std::mem::swap;
+use stream_base::{Change, Def, Defs, JOURNAL_MAX, Kept, KeyText, NoMemory, Row};
+
+/// The windows of one key by its plain lists. A tuple or mark strictly after the watermark changes
+/// nothing and is only put at its place; for an earlier one the list with it is drawn beside the
+/// old one when room is made, and both are compared.
+#[derive(Drop)]
+pub struct PlainKey {
+    /// No bound lies between the watermark and this number.
+    due: u64,
+    /// The next tuple has at least this position.
+    next: u64,
+    promise: u64,
+    kept: Vec<Kept>,
+    marks: Vec<u64>,
+    /// The kept tuples after the coming call, with a stand-in for its tuple.
+    next_kept: Vec<Kept>,
+    /// The marks after the coming call.
+    next_marks: Vec<u64>,
+    key: KeyText,
+}
+
+impl Model for PlainKey {
+    ghost use Rattle.std.specs.Prelude.{◌-◌, vec_len, vec_capacity};
+    ghost use Rattle.plain_keys.specs.States.{State, IsState};
+
+    ghost Value = { State };
+
+    ghost view = { λ s. record {
+      key = s.key;
+      kept = s.kept.items;
+      marks = s.marks.items;
+      next = s.next;
+      due = s.due;
+      promise = s.promise;
+      next_kept = s.next_kept.items;
+      next_marks = s.next_marks.items;
+      kept_spare = vec_capacity s.kept - vec_len s.kept;
+      marks_spare = vec_capacity s.marks - vec_len s.marks;
+    } };
+
+    ghost invariant = { λ s. IsState s.kept.items s.marks.items s.next };
+}
+
+// A tuple in the place of one to come.
+fn stand_in(time: u64) -> Kept
+    ensures { result ≡ stand_in time }
+{
+    Kept {
+        position: u64::MAX,
+        time,
+        value: 0,
+    }
+}
+
+impl PlainKey {
+    /// Appends the rows that stand under a watermark, by window, start and end.
+    pub fn append_rows<L>(
+        &self,
+        defs: &Defs,
+        water: u64,
+        out: &mut Vec<Row>,
+        steps: &mut Steps<L>,
+    ) -> Result<(), NoMemory>
+        ensures { (kept : List Kept) (marks : List ℕ) → Fits defs.now kept marks water self.now
+            → OnOk result (out.new.items ≡ out.old.items
+            ++ rows_at (defs.now).windows self.now.key (moment kept marks water)) }
+    {
+        let view = View {
+            kept: &self.kept,
+            marks: &self.marks,
+            water,
+        };
+        append_rows(defs.windows(), &self.key, &view, out, steps)
+    }
+
+    // Changes nothing, and tells a proof what every state keeps.
+    fn vouch(&self)
+        ensures { IsState self.now.kept self.now.marks self.now.next }
+    {
+        let _next = self.next;
+    }
+
+    // The least bound above a watermark.
+    fn bound_ahead(&self, defs: &Defs, water: u64) -> u64
+        ensures { IsAhead (defs.now).windows self.now.kept self.now.marks water result }
+    {
+        let view = View {
+            kept: &self.kept,
+            marks: &self.marks,
+            water,
+        };
+        next_bound(defs.windows(), &view)
+    }
+
+    // Waits for a watermark.
+    fn wait_for(&mut self, due: u64)
+        ensures same { IsOfSame self.old self.new }
+        ensures due { self.new.due ≡ due }
+    {
+        self.due = due;
+    }
+
+    // Waits for the least bound above a watermark.
+    fn look_ahead(&mut self, defs: &Defs, water: u64)
+        ensures same { IsOfSame self.old self.new }
+        ensures ahead { IsAhead (defs.now).windows self.new.kept self.new.marks water self.new.due }
+    {
+        let due = self.bound_ahead(defs, water);
+        self.wait_for(due);
+    }
+
+    // Waits for no later watermark than the bounds that a tuple at a time brought, where the time
+    // alone tells them, and else looks for the least.
+    fn look_behind(&mut self, defs: &Defs, time: u64, water: u64)
+        requires { time ≤ TIME_MAX }
+        ensures same { IsOfSame self.old self.new }
+        ensures ahead { (kept : List Kept) (x : Kept) → x.time ≡ time
+            → self.old.kept ≡ put_in_order kept x
+            → IsAhead (defs.now).windows kept self.old.marks water self.old.due
+            → IsAhead (defs.now).windows self.new.kept self.new.marks water self.new.due }
+    {
+        match bound_from(defs.windows(), time) {
+            Some(bound) => self.wait_for(self.due.min(bound)),
+            None => self.look_ahead(defs, water),
+        }
+    }
+
+    // Promises no change.
+    fn promise_nothing(&mut self) -> Result<u64, NoMemory>
+        ensures stays { Stays self.old self.new }
+        ensures promised { IfOk result (λ n. self.new.promise ≡ n) }
+    {
+        self.promise = 0;
+        Ok(0)
+    }
+
+    // Makes a place for one tuple more.
+    fn make_place(&mut self) -> Result<u64, NoMemory>
+        ensures stays { Stays self.old self.new }
+        ensures room { OnOk result (1 ≤ self.new.kept_spare) }
+        ensures promised { IfOk result (λ n. self.new.promise ≡ n) }
+    {
+        self.kept.reserve(1)?;
+        self.promise = 0;
+        Ok(0)
+    }
+
+    // Makes a place for one mark more.
+    fn make_mark_place(&mut self) -> Result<u64, NoMemory>
+        ensures stays { Stays self.old self.new }
+        ensures room { OnOk result (1 ≤ self.new.marks_spare) }
+        ensures promised { IfOk result (λ n. self.new.promise ≡ n) }
+    {
+        self.marks.reserve(1)?;
+        self.promise = 0;
+        Ok(0)
+    }
+
+    // Draws the kept tuples with a stand-in, and counts what that changes.
+    fn draw_tuple(&mut self, windows: &[Def], time: u64, water: u64) -> Result<u64, NoMemory>
+        requires windows { AreWindows windows.now }
+        requires time { time ≤ TIME_MAX }
+        requires few { self.old.next < JOURNAL_MAX }
+        ensures stays { Stays self.old self.new }
+        ensures drawn { OnOk result (self.new.next_kept
+            ≡ put_in_order self.old.kept (stand_in time)) }
+        ensures promised { IfOk result (λ n. self.new.promise ≡ n) }
+        ensures counted { OnOk result ((key : List ℕ) → self.new.promise
+            ≡ length (by_tuple windows.now key self.old water (stand_in time))) }
+    {
+        draw_put(&self.kept, stand_in(time), &mut self.next_kept)?;
+        let old = View {
+            kept: &self.kept,
+            marks: &self.marks,
+            water,
+        };
+        let new = View {
+            kept: &self.next_kept,
+            ..old
+        };
+        let count = count_changes(windows, &old, &new);
+        self.promise = count;
+        Ok(count)
+    }
+
+    // Draws the marks with one more, and counts what that changes.
+    fn draw_one_mark(&mut self, windows: &[Def], time: u64, water: u64) -> Result<u64, NoMemory>
+        requires windows { AreWindows windows.now }
+        requires time { time ≤ TIME_MAX }
+        ensures stays { Stays self.old self.new }
+        ensures drawn { OnOk result (self.new.next_marks ≡ insert_key nat_cmp self.old.marks time) }
+        ensures promised { IfOk result (λ n. self.new.promise ≡ n) }
+        ensures counted { OnOk result ((key : List ℕ) → self.new.promise
+            ≡ length (by_one_mark windows.now key self.old water time)) }
+    {
+        draw_mark(&self.marks, time, &mut self.next_marks)?;
+        let old = View {
+            kept: &self.kept,
+            marks: &self.marks,
+            water,
+        };
+        let new = View {
+            marks: &self.next_marks,
+            ..old
+        };
+        let count = count_changes(windows, &old, &new);
+        self.promise = count;
+        Ok(count)
+    }
+
+    // Puts a tuple in the place that was made for it.
+    fn put_ahead(&mut self, x: Kept)
+        requires time { x.time ≤ TIME_MAX }
+        requires position { self.old.next ≤ x.position }
+        requires few { x.position < JOURNAL_MAX }
+        requires room { 1 ≤ self.old.kept_spare }
+        ensures { IsPut self.old x self.new }
+    {
+        put_in(&mut self.kept, x);
+        self.next = x.position + 1;
+    }
+
+    // Puts a tuple where its stand-in is drawn, and appends what that changes.
+    fn put_late<L>(
+        &mut self,
+        windows: &[Def],
+        x: Kept,
+        water: u64,
+        out: &mut Vec<Change>,
+        steps: &mut Steps<L>,
+    )
+        requires windows { AreWindows windows.now }
+        requires time { x.time ≤ TIME_MAX }
+        requires position { self.old.next ≤ x.position }
+        requires few { x.position < JOURNAL_MAX }
+        requires drawn { self.old.next_kept ≡ put_in_order self.old.kept (stand_in x.time) }
+        requires spare { length (by_tuple windows.now self.old.key self.old water x)
+            ≤ room out.old }
+        ensures put { IsPut self.old x self.new }
+        ensures changes { out.new.items
+            ≡ out.old.items ++ by_tuple windows.now self.old.key self.old water x }
+        ensures capacity { vec_capacity out.new ≡ vec_capacity out.old }
+    {
+        fill_in(&self.kept, x, &mut self.next_kept);
+        let old = View {
+            kept: &self.kept,
+            marks: &self.marks,
+            water,
+        };
+        let new = View {
+            kept: &self.next_kept,
+            ..old
+        };
+        append_changes(windows, &self.key, &old, &new, out, steps);
+        swap(&mut self.kept, &mut self.next_kept);
+        self.next = x.position + 1;
+    }
+
+    // Adds a mark in the place that was made for it.
+    fn mark_ahead(&mut self, time: u64)
+        requires time { time ≤ TIME_MAX }
+        requires room { 1 ≤ self.old.marks_spare }
+        ensures { IsMarked self.old time self.new }
+    {
+        add_mark(&mut self.marks, time);
+    }
+
+    // Takes the marks that are drawn, and appends what that changes.
+    fn mark_late<L>(
+        &mut self,
+        windows: &[Def],
+        time: u64,
+        water: u64,
+        out: &mut Vec<Change>,
+        steps: &mut Steps<L>,
+    )
+        requires windows { AreWindows windows.now }
+        requires time { time ≤ TIME_MAX }
+        requires drawn { self.old.next_marks ≡ insert_key nat_cmp self.old.marks time }
+        requires spare { length (by_one_mark windows.now self.old.key self.old water time)
+            ≤ room out.old }
+        ensures marked { IsMarked self.old time self.new }
+        ensures changes { out.new.items
+            ≡ out.old.items ++ by_one_mark windows.now self.old.key self.old water time }
+        ensures capacity { vec_capacity out.new ≡ vec_capacity out.old }
+    {
+        let old = View {
+            kept: &self.kept,
+            marks: &self.marks,
+            water,
+        };
+        let new = View {
+            marks: &self.next_marks,
+            ..old
+        };
+        append_changes(windows, &self.key, &old, &new, out, steps);
+        swap(&mut self.marks, &mut self.next_marks);
+    }
+}
+
+// A tuple at a position.
+fn kept_at(position: u64, time: u64, value: i64) -> Kept
+    ensures { result ≡ kept_at position time value }
+{
+    Kept {
+        position,
+        time,
+        value,
+    }
+}
+
+impl KeyWindows for PlainKey {
+    ghost key_of = { λ s. s.key };
+
+    ghost fits = { Fits };
+
+    ghost is_ready = { IsReady };
+
+    ghost promised = { λ s. s.promise };
+
+    ghost next_position = { λ s. s.next };
+
+    fn fresh(alloc: Global, defs: &Defs, key: KeyText) -> Result<PlainKey, NoMemory> {
+        let _ = defs;
+        Ok(PlainKey {
+            due: u64::MAX,
+            next: 0,
+            promise: 0,
+            kept: Vec::new(alloc),
+            marks: Vec::new(alloc),
+            next_kept: Vec::new(alloc),
+            next_marks: Vec::new(alloc),
+            key,
+        })
+    }
+
+    fn reserve_put(&mut self, defs: &Defs, time: u64, water: u64) -> Result<u64, NoMemory> {
+        if water < time {
+            self.make_place()
+        } else if self.next < JOURNAL_MAX {
+            self.draw_tuple(defs.windows(), time, water)
+        } else {
+            self.promise_nothing()
+        }
+    }
+
+    fn put<L>(
+        &mut self,
+        defs: &Defs,
+        pos: u64,
+        time: u64,
+        value: i64,
+        water: u64,
+        out: &mut Vec<Change>,
+        steps: &mut Steps<L>,
+    ) {
+        let windows = defs.windows();
+        let x = kept_at(pos, time, value);
+        self.vouch();
+        if water < time {
+            self.put_ahead(x);
+            self.look_behind(defs, time, water);
+        } else {
+            self.put_late(windows, x, water, out, steps);
+            self.look_ahead(defs, water);
+        }
+    }
+
+    fn reserve_mark(&mut self, defs: &Defs, time: u64, water: u64) -> Result<u64, NoMemory> {
+        if water < time {
+            self.make_mark_place()
+        } else {
+            self.draw_one_mark(defs.windows(), time, water)
+        }
+    }
+
+    fn mark<L>(
+        &mut self,
+        defs: &Defs,
+        time: u64,
+        water: u64,
+        out: &mut Vec<Change>,
+        steps: &mut Steps<L>,
+    ) {
+        let windows = defs.windows();
+        self.vouch();
+        if water < time {
+            self.mark_ahead(time);
+            self.look_ahead(defs, water);
+        } else {
+            self.mark_late(windows, time, water, out, steps);
+            self.look_ahead(defs, water);
+        }
+    }
+
+    fn reserve_water(&mut self, defs: &Defs, old: u64, new: u64) -> Result<u64, NoMemory> {
+        if new < self.due {
+            return self.promise_nothing();
+        }
+        let view = View {
+            kept: &self.kept,
+            marks: &self.marks,
+            water: old,
+        };
+        let count = count_completions(defs.windows(), &view, new);
+        self.promise = count;
+        Ok(count)
+    }
+
+    fn water<L>(
+        &mut self,
+        defs: &Defs,
+        old: u64,
+        new: u64,
+        out: &mut Vec<Change>,
+        steps: &mut Steps<L>,
+    ) {
+        let _windows = defs.windows();
+        self.vouch();
+        if new < self.due {
+            return;
+        }
+        let view = View {
+            kept: &self.kept,
+            marks: &self.marks,
+            water: old,
+        };
+        append_completions(defs.windows(), &self.key, &view, new, out, steps);
+        self.look_ahead(defs, new);
+    }
+
+    fn next_due(&self, defs: &Defs, water: u64) -> u64 {
+        let _windows = defs.windows();
+        let _ = water;
+        self.vouch();
+        self.due
+    }
+
+    fn slice_count(&self, defs: &Defs, water: u64) -> u64 {
+        let view = View {
+            kept: &self.kept,
+            marks: &self.marks,
+            water,
+        };
+        slice_count(defs.windows(), defs.lateness(), &view)
+    }
+}

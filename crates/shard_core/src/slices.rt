@@ -1,0 +1,34 @@
+ghost use Rattle.std.specs.Prelude.{◌≡◌, Some, length};
+ghost use Rattle.shard_core.specs.Engines.{IsTableOf, place_of};
+ghost use Rattle.shard_core.specs.Shard.{slices_after};
+
+use crate::keys::KeyTable;
+use crate::past::Past;
+use key_windows::KeyWindows;
+use stream_base::KeyText;
+
+impl<K: KeyWindows> KeyTable<K> {
+    // How many slices what isn't settled of a key has: none where the key has no place.
+    pub fn slice_count(&self, past: &Past, key: &KeyText) -> u64
+        requires { IsTableOf K.key_of K.fits K.next_position past.now self.now }
+        ensures { result
+            ≡ length (slices_after past.now.defs past.now.sources past.now.journal key.now) }
+    {
+        match self.index.get(key) {
+            Some(place) => self.count_slices(past, key, place),
+            None => 0,
+        }
+    }
+
+    // The same of a key at this place, whose state may stand under an earlier watermark.
+    fn count_slices(&self, past: &Past, key: &KeyText, place: usize) -> u64
+        requires current { IsTableOf K.key_of K.fits K.next_position past.now self.now }
+        requires place { place_of self.now key.now ≡ Some place }
+        ensures { result
+            ≡ length (slices_after past.now.defs past.now.sources past.now.journal key.now) }
+    {
+        let _ = key;
+        let slot = &self.slots[place];
+        slot.state.slice_count(past.defs(), past.water())
+    }
+}
