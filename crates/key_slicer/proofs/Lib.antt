@@ -1,0 +1,4 @@
+pub mod Loops
+pub mod SortFacts
+pub mod StateFacts
+pub mod Steps

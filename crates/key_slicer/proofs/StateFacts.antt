@@ -1,0 +1,325 @@
+-- What the state of a key stands for.
+use Rattle.std.proofs.Common.{false, ◌≡◌, ◌∙◌, ◌≤◌, ◌<◌, ◌+◌, ◌-◌, ℕ, List, [], ◌∷◌, get_or, length, map, ap, sym, refl, subst, arith, rules, inl, inr, ⊎_elim}
+use Rattle.std.specs.Prelude.{◌≢◌, All, filter}
+use Rattle.std.specs.BTreeSet.{insert_key}
+use Rattle.std.specs.List.{Contains, enumerate_from, flat_map, list_all}
+use Rattle.std.specs.Ordering.{nat_cmp}
+use Rattle.std.specs.List.Sorted.{IsStrictlyIncreasing}
+use Rattle.std.proofs.lemmas.List.Elements.{All-contains, All-nil, All-weaker}
+use Rattle.stream_base.specs.Limits.{AreWithinLimits, Definitions}
+use Rattle.stream_base.specs.declared.change.Change.{Change}
+use Rattle.stream_base.specs.declared.change.Change.TheVariants.{New}
+use Rattle.stream_base.specs.Laws.{becomes_complete, completions}
+use Rattle.stream_base.specs.declared.kept.Kept.{Kept}
+use Rattle.stream_base.specs.declared.limits.TheConstants.{JOURNAL_MAX, TIME_MAX}
+use Rattle.stream_base.specs.Model.Changes.{Moment, row_of}
+use Rattle.stream_base.specs.declared.def.Def.{Def}
+use Rattle.stream_base.specs.Model.Slices.{is_events, runs_of, unsettled}
+use Rattle.stream_base.specs.Model.Windows.{instances_of}
+use Rattle.stream_base.proofs.Absent.{no_instances}
+use Rattle.stream_base.proofs.ChangeFacts.{changes_at_water, flat_map_none}
+use Rattle.stream_base.specs.Model.Journal.{put_in_order}
+use Rattle.stream_base.proofs.Distinct.{All_from_members}
+use Rattle.stream_base.proofs.Members.{Contains-insert_cases}
+use Rattle.stream_base.proofs.Rising.{Contains-insert_key_cases}
+use Rattle.window_laws.specs.After.{at_water, with_mark, with_tuple}
+use Rattle.window_laws.specs.Runs.{IsAligned, parted_at}
+use Rattle.window_laws.specs.Settled.{without_first}
+use Rattle.window_laws.proofs.SettledFacts.{not_all}
+use Rattle.window_laws.proofs.KeptFacts.{put_is_kept}
+use Rattle.slice_store.specs.Entered.{slices_from}
+use Rattle.slice_store.specs.Stored.{IsAsBefore, IsSliced, IsStore, Stored, tuples_of}
+use Rattle.slice_store.proofs.MarkFacts.{rising_more}
+use Rattle.slice_store.proofs.SliceEdits.{put_length}
+use Rattle.key_windows.specs.Calls.{IsWater, changes_by_move, moment}
+use Rattle.key_parts.specs.Calls.{Standing, window_at}
+use Rattle.key_parts.specs.Held.{IsHeld}
+use Rattle.key_parts.specs.Moves.{AreLists, Comes, IsMarkStep, IsPurge, IsPutStep, SettlesUpTo, all_count_events}
+use Rattle.held_laws.specs.Settling.{IsSettledUpTo}
+use Rattle.held_laws.specs.Dropped.{IsDropped}
+use Rattle.held_laws.proofs.CountFacts.{unsettled_slices}
+use Rattle.held_laws.proofs.PurgeFacts.{parts_where_settled, purged}
+use Rattle.held_laws.proofs.SettleFacts.{settled_up_to_least}
+use Rattle.held_laws.proofs.HoldFacts.{fresh_held, held_after_mark, held_after_move, held_after_tuple}
+use Rattle.key_slicer.specs.Parts.{AllStandAt, AllTakeTuple, AreStanding, EachPart, IsLeastOf, rooms}
+use Rattle.key_slicer.specs.States.{Fits, IsBlank, IsReadyToTake, StandsFor}
+
+-- ---- a store with more room
+as_before : (s t : Stored) → IsAsBefore s t → record { slices = s.slices; marks = s.marks; dropped = s.dropped; spare = t.spare; reach = t.reach } ≡ t
+as_before s t e = λ i. record { slices = sym e.slices i; marks = sym e.marks i; dropped = sym e.dropped i; spare = t.spare; reach = t.reach }
+
+pub held_with_room : (d : Definitions) (m : Moment) (n : ℕ) (s t : Stored) → IsAsBefore s t → IsHeld d m n s → IsHeld d m n t
+held_with_room d m n s t e h = subst (IsHeld d m n) (as_before s t e) (record {
+  may_leave = h.may_leave;
+  tuples = h.tuples;
+  sliced = h.sliced;
+  behind = h.behind;
+  bounded = h.bounded;
+  marks = h.marks;
+})
+
+pub no_more_room : (s : Stored) → IsAsBefore s s
+no_more_room s = record { slices = refl; marks = refl; dropped = refl; reach = refl }
+
+module _ {P : Type 0} (stands : Standing P) (d : Definitions) where
+  -- all parts of a key that its state stands for stand at its watermark
+  pub all_stand : (m : Moment) (water next : ℕ) (s : Stored) (parts : List P) → m.water ≡ water → IsStore s → (f : StandsFor stands d m next s parts) → AllStandAt stands d water s parts m f.without
+  all_stand m water next s parts is store f = record { water_is = is; lists = (next, f.lists); store = store; held = f.held; stood = f.stood }
+
+  -- what the parts and the store stand for they go on to stand for
+  pub stands_reserved : ((window : ℕ) (m : Moment) (n : ℕ) (s more : Stored) (part : P) → IsAsBefore s more → stands d window m n s part → stands d window m n more part)
+      → (m : Moment) (next : ℕ) (s t : Stored) (parts later : List P)
+      → ((m : Moment) (n : ℕ) (s : Stored) → AreStanding stands d m n s parts → AreStanding stands d m n s later)
+      → IsAsBefore s t → StandsFor stands d m next s parts → StandsFor stands d m next t later
+  stands_reserved law m next s t parts later stays e f =
+      let a : AreStanding stands d m f.without s later = stays m f.without s f.stood in
+      record {
+        without = f.without;
+        lists = f.lists;
+        held = held_with_room d m f.without s t e f.held;
+        stood = record { as_many = a.as_many; each = λ i x l. law i m f.without s t _ e (a.each i x l) };
+        bare = λ all. e.slices ∙ f.bare all;
+      }
+
+  pub fits_reserved : ((window : ℕ) (m : Moment) (n : ℕ) (s more : Stored) (part : P) → IsAsBefore s more → stands d window m n s part → stands d window m n more part)
+      → (kept : List Kept) (marks : List ℕ) (water next : ℕ) (s t : Stored) (parts later : List P)
+      → ((m : Moment) (n : ℕ) (s : Stored) → AreStanding stands d m n s parts → AreStanding stands d m n s later)
+      → IsAsBefore s t → Fits stands d kept marks water next s parts → Fits stands d kept marks water next t later
+  fits_reserved law kept marks water next s t parts later stays e f = record {
+    known = stands_reserved law (moment kept marks water) next s t parts later stays e f.known;
+    clock = ⊎_elim (λ w. inl w) (λ (b : IsBlank stands d kept marks next s parts). inr (record { no_tuple = b.no_tuple; no_mark = b.no_mark; anywhere = λ w. stands_reserved law (moment [] [] w) next s t parts later stays e (b.anywhere w) })) f.clock;
+  }
+
+-- ---- lists
+-- lists of fewer tuples than a next position are so of fewer than a later one
+pub lists_later : (m : Moment) (next later : ℕ) → next ≤ later → later ≤ JOURNAL_MAX → AreLists m next → AreLists m later
+lists_later m next later l most a = record {
+  kept = a.kept;
+  times = a.times;
+  below = All-weaker (λ (x : Kept). x.position < next) (λ x. x.position < later) (λ x h. omega (arith, h)) m.kept a.below;
+  few = omega (arith, a.few);
+  most = most;
+  rising = a.rising;
+  mark_times = a.mark_times;
+}
+
+pub lists_with_tuple : (m : Moment) (x : Kept) → x.position < JOURNAL_MAX → x.time ≤ TIME_MAX → AreLists m x.position → AreLists (with_tuple m x) (x.position + 1)
+lists_with_tuple m x most early a = record {
+  kept = put_is_kept m.kept x a.kept (omega (arith, early)) (All-weaker (λ (y : Kept). y.position < x.position) (λ y. x.position ≢ y.position) (λ y l e. omega (arith, l, e)) m.kept a.below);
+  times = each (λ (y : Kept). y.time ≤ TIME_MAX) early (λ y c. All-contains (λ (y : Kept). y.time ≤ TIME_MAX) m.kept y a.times c);
+  below = each (λ (y : Kept). y.position < x.position + 1) (omega arith) (λ y c. omega (arith, All-contains (λ (y : Kept). y.position < x.position) m.kept y a.below c));
+  few = omega (arith, put_length m.kept x, a.few);
+  most = omega (arith, most);
+  rising = a.rising;
+  mark_times = a.mark_times;
+}
+  where
+    each : (holds : Kept → Type 0) → holds x → ((y : Kept) → Contains m.kept y → holds y) → All holds (put_in_order m.kept x)
+    each holds own old = All_from_members holds (put_in_order m.kept x) (λ y b. elim (Contains-insert_cases m.kept _ x y b) [ inl e ↦ subst holds e own | inr c ↦ old y c ])
+
+pub lists_with_mark : (m : Moment) (next time : ℕ) → time ≤ TIME_MAX → AreLists m next → AreLists (with_mark m time) next
+lists_with_mark m next time early a = record {
+  kept = a.kept;
+  times = a.times;
+  below = a.below;
+  few = a.few;
+  most = a.most;
+  rising = rising_more m.marks time a.rising;
+  mark_times = All_from_members (λ mark. mark ≤ TIME_MAX) (insert_key nat_cmp m.marks time)
+      (λ mark c. elim (Contains-insert_key_cases nat_cmp time m.marks mark c) [ inl e ↦ subst (λ n. n ≤ TIME_MAX) e early | inr b ↦ All-contains (λ mark. mark ≤ TIME_MAX) m.marks mark a.mark_times b ]);
+}
+
+pub lists_at_water : (m : Moment) (next water : ℕ) → AreLists m next → AreLists (at_water m water) next
+lists_at_water m next water a = record { kept = a.kept; times = a.times; below = a.below; few = a.few; most = a.most; rising = a.rising; mark_times = a.mark_times }
+
+none_rise : IsStrictlyIncreasing []
+none_rise = search rules
+
+-- ---- the calls
+module _ {P : Type 0} (stands : Standing P) (d : Definitions) where
+  -- a fresh key
+  pub fresh_fits : (water : ℕ) (s : Stored) (parts : List P) → AreWithinLimits d → s.slices ≡ [] → s.marks ≡ [] → s.dropped ≡ 0 → IsSliced d.windows s
+      → ((water : ℕ) (s : Stored) → s.slices ≡ [] → AreStanding stands d (moment [] [] water) 0 s parts) → Fits stands d [] [] water 0 s parts
+  fresh_fits water s parts limits slices marks dropped sliced stood = record {
+    known = at water;
+    clock = inr (record { no_tuple = refl; no_mark = refl; anywhere = at });
+  }
+    where
+      at : (water : ℕ) → StandsFor stands d (moment [] [] water) 0 s parts
+      at water =
+          let held : IsHeld d (moment [] [] water) 0 s = fresh_held d water s limits.kinds slices marks dropped sliced in
+          record {
+            without = 0;
+            lists = record {
+              kept = (held.may_leave).kept;
+              times = All-nil (λ (x : Kept). x.time ≤ TIME_MAX);
+              below = All-nil (λ (x : Kept). x.position < 0);
+              few = omega arith;
+              most = omega arith;
+              rising = none_rise;
+              mark_times = All-nil (λ mark. mark ≤ TIME_MAX);
+            };
+            held = held;
+            stood = stood water s slices;
+            bare = λ all. slices;
+          }
+
+  -- a tuple comes
+  pub put_step : (m : Moment) (next : ℕ) (s : Stored) (parts : List P) (x : Kept) (more : ℕ) (after : Stored) (f : StandsFor stands d m next s parts) → IsStore s
+      → next ≤ x.position → x.position < JOURNAL_MAX → x.time ≤ TIME_MAX → m.water ≤ x.time + d.lateness → Comes d f.without s x more after → IsPutStep d m f.without s x more after
+  put_step m next s parts x more after f store l few early in_time comes = record {
+    lists = lists_later m next x.position l (omega arith) f.lists;
+    next = few;
+    time = early;
+    in_time = in_time;
+    store = store;
+    held = f.held;
+    comes = comes;
+  }
+
+  pub fits_put : (kept : List Kept) (marks : List ℕ) (water n : ℕ) (s : Stored) (x : Kept) (more : ℕ) (after : Stored) (later : List P) → IsWater water
+      → IsPutStep d (moment kept marks water) n s x more after → AreStanding stands d (with_tuple (moment kept marks water) x) more after later → (all_count_events d → after.slices ≡ [])
+      → Fits stands d (put_in_order kept x) marks water (x.position + 1) after later
+  fits_put kept marks water n s x more after later is p stood bare = record {
+    known = record {
+      without = more;
+      lists = lists_with_tuple (moment kept marks water) x p.next p.time p.lists;
+      held = held_after_tuple d (moment kept marks water) n s x more after p;
+      stood = stood;
+      bare = bare;
+    };
+    clock = inl is;
+  }
+
+  pub all_take : (is_asked : Definitions → ℕ → Moment → ℕ → P → Type 0) (m : Moment) (water next : ℕ) (s : Stored) (parts later : List P) (x : Kept) (after : Stored) → m.water ≡ water → IsStore s
+      → (f : StandsFor stands d m next s parts) → next ≤ x.position → x.position < JOURNAL_MAX → x.time ≤ TIME_MAX → m.water ≤ x.time + d.lateness
+      → (comes : (n : ℕ) → (more : ℕ) × Comes d n s x more after)
+      → ((m : Moment) (n : ℕ) (s : Stored) → AreStanding stands d m n s parts → AreStanding stands d m n s later)
+      → ((m : Moment) (n : ℕ) → AllStandAt stands d water s parts m n → EachPart (λ i part. is_asked d i m x.time part) later)
+      → AllTakeTuple stands d is_asked water x after later m f.without s (comes f.without).0
+  all_take is_asked m water next s parts later x after is store f l few early in_time comes stays asked = record {
+    water_is = is;
+    step = put_step m next s parts x (comes f.without).0 after f store l few early in_time (comes f.without).1;
+    stood = stays m f.without s f.stood;
+    asked = asked m f.without (all_stand stands d m water next s parts is store f);
+  }
+
+  -- a mark comes
+  pub mark_step : (m : Moment) (next : ℕ) (s : Stored) (parts : List P) (time : ℕ) (after : Stored) (f : StandsFor stands d m next s parts) → IsStore s → time ≤ TIME_MAX → m.water ≤ time + d.lateness
+      → tuples_of after ≡ tuples_of s → after.slices ≡ flat_map (parted_at time) s.slices → IsSliced d.windows after → after.marks ≡ insert_key nat_cmp s.marks time → after.dropped ≡ s.dropped
+      → IsMarkStep d m f.without s time after
+  mark_step m next s parts time after f store early in_time tuples slices sliced marks dropped = record {
+    lists = (next, f.lists);
+    early = early;
+    in_time = in_time;
+    store = store;
+    held = f.held;
+    tuples = tuples;
+    slices = slices;
+    sliced = sliced;
+    marks = marks;
+    dropped = dropped;
+  }
+
+  pub fits_marked : (kept : List Kept) (marks : List ℕ) (water next n : ℕ) (s : Stored) (time : ℕ) (after : Stored) (later : List P) → IsWater water → AreLists (moment kept marks water) next
+      → IsMarkStep d (moment kept marks water) n s time after → AreStanding stands d (with_mark (moment kept marks water) time) n after later → (all_count_events d → s.slices ≡ [])
+      → Fits stands d kept (insert_key nat_cmp marks time) water next after later
+  fits_marked kept marks water next n s time after later is lists p stood bare = record {
+    known = record {
+      without = n;
+      lists = lists_with_mark (moment kept marks water) next time p.early lists;
+      held = held_after_mark d (moment kept marks water) n s time after p;
+      stood = stood;
+      bare = λ all. p.slices ∙ ap (flat_map (parted_at time)) (bare all);
+    };
+    clock = inl is;
+  }
+
+  -- the watermark moves
+  pub fits_moved : (kept : List Kept) (marks : List ℕ) (old new next : ℕ) (s : Stored) (parts later : List P) → old ≤ new → IsWater new → (f : StandsFor stands d (moment kept marks old) next s parts)
+      → AreStanding stands d (moment kept marks new) f.without s later → Fits stands d kept marks new next s later
+  fits_moved kept marks old new next s parts later l is f stood = record {
+    known = record {
+      without = f.without;
+      lists = lists_at_water (moment kept marks old) next new f.lists;
+      held = held_after_move d (moment kept marks old) f.without s new f.held l;
+      stood = stood;
+      bare = f.bare;
+    };
+    clock = inl is;
+  }
+
+  -- the same state, told in other words
+  pub fits_same : (kept : List Kept) (marks : List ℕ) (water next next' : ℕ) (s s' : Stored) (parts parts' : List P) → next' ≡ next → s' ≡ s → parts' ≡ parts
+      → Fits stands d kept marks water next s parts → Fits stands d kept marks water next' s' parts'
+  fits_same kept marks water next next' s s' parts parts' en es ep f =
+      subst (λ n. Fits stands d kept marks water n s' parts') (sym en) (subst (λ t. Fits stands d kept marks water next t parts') (sym es) (subst (λ ps. Fits stands d kept marks water next s ps) (sym ep) f))
+
+pub ready_to_take : {P : Type 0} (is_ready : ℕ → P → Type 0) (room : ℕ → P → ℕ) (water : ℕ) (s s' : Stored) (parts parts' : List P) (total promise : ℕ) (scratch : List Change) (spare : ℕ)
+    → IsWater water → EachPart is_ready parts → 1 ≤ s.spare → total ≡ rooms room parts → s' ≡ s → parts' ≡ parts → promise ≡ total → scratch ≡ [] → total ≤ spare
+    → IsReadyToTake is_ready room water s' parts' promise scratch spare
+ready_to_take is_ready room water s s' parts parts' total promise scratch spare is each one sum es ep said none fits = record {
+  water_is = is;
+  each = subst (EachPart is_ready) (sym ep) each;
+  store = subst (λ (t : Stored). 1 ≤ t.spare) (sym es) one;
+  promised = said ∙ sum ∙ ap (rooms room) (sym ep);
+  empty = none;
+  fits_in = omega (arith, said, fits);
+}
+
+-- ---- how many slices have unsettled tuples
+module _ {P : Type 0} (stands : Standing P) (d : Definitions) (settles_at : ℕ → P → ℕ) (some : list_all (λ w. is_events w.kind) d.windows ≡ false) where
+  -- what is left of a key is settled up to the least of the times of its parts
+  pub up_to_time : (m : Moment) (water next : ℕ) (s : Stored) (parts : List P) (time : ℕ) → (f : StandsFor stands d m next s parts) → IsLeastOf settles_at (water - d.lateness) parts time
+      → EachPart (λ i part. SettlesUpTo d.lateness (at_water (without_first f.without m) water) (window_at d i) (settles_at i part)) parts
+      → IsSettledUpTo d (at_water (without_first f.without m) water) time
+  up_to_time m water next s [] time f least each = let w = not_all (λ (w : Def). is_events w.kind) d.windows some in absurd (omega (arith, (f.stood).as_many, (w.1).1))
+  up_to_time m water next s (p ∷ parts) time f least each =
+      settled_up_to_least d m f.without water (λ i. settles_at i (get_or (p ∷ parts) i p)) time (f.held).may_leave some (λ i l. each i p (omega (arith, (f.stood).as_many)))
+      (record {
+        by_water = least.by_most;
+        by_each = λ i l. least.by_each i p (omega (arith, (f.stood).as_many));
+        is_one = ⊎_elim (λ e. inl e) (λ (o : (i : ℕ) × (i < length (p ∷ parts)) × ((x : P) → time ≡ settles_at i (get_or (p ∷ parts) i x))). inr (o.0, omega (arith, o.1, (f.stood).as_many), o.2 p)) least.is_one;
+      })
+
+  -- as many slices begin there or later as the unsettled tuples have
+  pub slices_counted : (kept : List Kept) (marks : List ℕ) (w water next : ℕ) (s : Stored) (parts : List P) (time : ℕ) → IsStore s → w ≤ water → (f : StandsFor stands d (moment kept marks w) next s parts)
+      → IsLeastOf settles_at (water - d.lateness) parts time
+      → EachPart (λ i part. SettlesUpTo d.lateness (at_water (without_first f.without (moment kept marks w)) water) (window_at d i) (settles_at i part)) parts
+      → length (slices_from time s.slices) ≡ length (runs_of d.windows marks (unsettled d (moment kept marks water)))
+  slices_counted kept marks w water next s parts time store le f least each =
+      ap length (sym (unsettled_slices d (moment kept marks w) f.without water time s f.held store le (up_to_time (moment kept marks w) water next s parts time f least each)))
+
+  -- where the slices before it have left, and the parts have forgotten what ended, the state goes on to stand for the key
+  pub purge_step : (m : Moment) (next : ℕ) (s after : Stored) (parts : List P) (time : ℕ) → IsStore s → (f : StandsFor stands d m next s parts) → IsLeastOf settles_at (m.water - d.lateness) parts time
+      → EachPart (λ i part. SettlesUpTo d.lateness (without_first f.without m) (window_at d i) (settles_at i part)) parts
+      → IsDropped time s after → (IsSliced d.windows s → IsSliced d.windows after)
+      → (more : ℕ) × IsPurge d m f.without s time more after
+  purge_step m next s after parts time store f least each dropped sliced =
+      let up = up_to_time m m.water next s parts time f least each in
+      purged d m f.without next time s after f.held f.lists store least.by_most (λ x c l. up.before x c l) dropped (sliced (f.held).sliced)
+
+  pub aligned : (m : Moment) (next : ℕ) (s : Stored) (parts : List P) (time : ℕ) → IsStore s → (f : StandsFor stands d m next s parts) → IsLeastOf settles_at (m.water - d.lateness) parts time
+      → EachPart (λ i part. SettlesUpTo d.lateness (without_first f.without m) (window_at d i) (settles_at i part)) parts
+      → IsAligned s.slices time
+  aligned m next s parts time store f least each = parts_where_settled d m f.without time s f.held store (up_to_time m m.water next s parts time f least each)
+
+  pub fits_purged : (kept : List Kept) (marks : List ℕ) (water next n time more : ℕ) (s after : Stored) (later : List P) → IsWater water → AreLists (moment kept marks water) next → IsPurge d (moment kept marks water) n s time more after
+      → AreStanding stands d (moment kept marks water) more after later → (all_count_events d → s.slices ≡ []) → Fits stands d kept marks water next after later
+  fits_purged kept marks water next n time more s after later is lists p stood bare = record {
+    known = record { without = more; lists = lists; held = p.still_held; stood = stood; bare = λ all. p.slices ∙ ap (slices_from time) (bare all) };
+    clock = inl is;
+  }
+
+-- ---- what a move changes
+pub move_is : (d : Definitions) (key : List ℕ) (kept : List Kept) (marks : List ℕ) (old new next : ℕ) → AreWithinLimits d → AreLists (moment kept marks old) next → old ≤ new
+    → changes_by_move d key kept marks old new ≡ flat_map (completions key (moment kept marks old) new) (enumerate_from 0 d.windows)
+move_is d key kept marks old new next limits a l = changes_at_water d.windows key kept marks old new limits.kinds (a.kept).in_order l
+
+-- nothing, where there is no tuple
+pub nothing_moves : (d : Definitions) (key : List ℕ) (kept : List Kept) (marks : List ℕ) (old new next : ℕ) → AreWithinLimits d → AreLists (moment kept marks old) next → old ≤ new → kept ≡ []
+    → changes_by_move d key kept marks old new ≡ []
+nothing_moves d key kept marks old new next limits a l none =
+    move_is d key kept marks old new next limits a l
+    ∙ flat_map_none (completions key (moment kept marks old) new) (enumerate_from 0 d.windows)
+    (λ w c. ap (λ is. map (λ i. New (row_of w.0 key (w.1).func i)) (filter (becomes_complete old new) is)) (ap (λ ks. instances_of (w.1).kind ks marks) none ∙ no_instances (w.1).kind marks))

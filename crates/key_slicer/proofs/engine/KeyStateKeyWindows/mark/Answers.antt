@@ -1,0 +1,71 @@
+-- The store and the parts took the mark in, and go on to stand for the key where settled slices leave.
+use Rattle.std.proofs.Common.{refl, nat_cmp}
+use Rattle.std.specs.BTreeSet.{insert_key}
+use Rattle.window_laws.specs.After.{with_mark}
+use Rattle.key_windows.specs.Calls.{moment}
+use Rattle.key_slicer.specs.States.{Fits}
+use Rattle.key_slicer.proofs.StateFacts.{fits_marked, mark_step}
+use Rattle.key_slicer.proofs.SortFacts.{appended_sorted}
+use Rattle.key_slicer.proofs.engine.KeyStateKeyWindows.mark.Goals as goal
+
+pub purge-requires-clause-stands : goal.purge-requires-clause-stands
+purge-requires-clause-stands g c =
+    let r = c.requires.stands in
+    let s = c.args.self.now in
+    let d = c.args.defs.now in
+    let m = moment r.0 r.1 c.args.water in
+    let f = r.2.known in
+    let step = mark_step g.P.KeyPart.stands d m s.next s.store s.parts.list.items c.args.time c.mark.new.self f c.vouch.ensures c.requires.time c.requires.accepted
+    c.mark.ensures.tuples c.mark.ensures.slices c.mark.ensures.sliced c.mark.ensures.marks c.mark.ensures.dropped in
+    let marked : Fits g.P.KeyPart.stands d r.0 (insert_key nat_cmp r.1 c.args.time) c.args.water s.next c.mark.new.self c.mark-2.new.self.list.items =
+    fits_marked g.P.KeyPart.stands d r.0 r.1 c.args.water s.next f.without s.store c.args.time c.mark.new.self c.mark-2.new.self.list.items c.requires.ready.water_is f.lists step
+    (c.mark-2.ensures.stands m f.without s.store (record { water_is = refl; step = step; stood = f.stood })) f.bare in
+    (r.0, insert_key nat_cmp r.1 c.args.time, marked)
+
+pub returns-then-time-lateness-clause-fits : goal.returns-then-time-lateness-clause-fits
+returns-then-time-lateness-clause-fits g c = λ kept marks fits.
+    let s = c.args.self.now in
+    let d = c.args.defs.now in
+    let m = moment kept marks c.args.water in
+    let f = fits.known in
+    let step = mark_step g.P.KeyPart.stands d m s.next s.store s.parts.list.items c.args.time c.mark.new.self f c.vouch.ensures c.requires.time c.requires.accepted
+    c.mark.ensures.tuples c.mark.ensures.slices c.mark.ensures.sliced c.mark.ensures.marks c.mark.ensures.dropped in
+    let marked : Fits g.P.KeyPart.stands d kept (insert_key nat_cmp marks c.args.time) c.args.water s.next c.mark.new.self c.mark-2.new.self.list.items =
+    fits_marked g.P.KeyPart.stands d kept marks c.args.water s.next f.without s.store c.args.time c.mark.new.self c.mark-2.new.self.list.items c.requires.ready.water_is f.lists step
+    (c.mark-2.ensures.stands m f.without s.store (record { water_is = refl; step = step; stood = f.stood })) f.bare in
+    c.purge.ensures.fits kept (insert_key nat_cmp marks c.args.time) marked
+
+pub returns-then-time-lateness-clause-changes : goal.returns-then-time-lateness-clause-changes
+returns-then-time-lateness-clause-changes g c = λ kept marks fits.
+    let s = c.args.self.now in
+    let d = c.args.defs.now in
+    let m = moment kept marks c.args.water in
+    let f = fits.known in
+    let step = mark_step g.P.KeyPart.stands d m s.next s.store s.parts.list.items c.args.time c.mark.new.self f c.vouch.ensures c.requires.time c.requires.accepted
+    c.mark.ensures.tuples c.mark.ensures.slices c.mark.ensures.sliced c.mark.ensures.marks c.mark.ensures.dropped in
+    appended_sorted s.key m (with_mark m c.args.time) d.windows s.scratch.items c.mark-2.new.out.items c.as_slice.result.now c.args.out.now.items c.append_sorted.new.out.items c.requires.ready.empty
+    (c.mark-2.ensures.changes m f.without s.store (record { water_is = refl; step = step; stood = f.stood })) c.as_slice.ensures.value c.append_sorted.ensures.items
+
+pub returns-else-time-lateness-clause-fits : goal.returns-else-time-lateness-clause-fits
+returns-else-time-lateness-clause-fits g c = λ kept marks fits.
+    let s = c.args.self.now in
+    let d = c.args.defs.now in
+    let m = moment kept marks c.args.water in
+    let f = fits.known in
+    let step = mark_step g.P.KeyPart.stands d m s.next s.store s.parts.list.items c.args.time c.mark.new.self f c.vouch.ensures c.requires.time c.requires.accepted
+    c.mark.ensures.tuples c.mark.ensures.slices c.mark.ensures.sliced c.mark.ensures.marks c.mark.ensures.dropped in
+    let marked : Fits g.P.KeyPart.stands d kept (insert_key nat_cmp marks c.args.time) c.args.water s.next c.mark.new.self c.mark-2.new.self.list.items =
+    fits_marked g.P.KeyPart.stands d kept marks c.args.water s.next f.without s.store c.args.time c.mark.new.self c.mark-2.new.self.list.items c.requires.ready.water_is f.lists step
+    (c.mark-2.ensures.stands m f.without s.store (record { water_is = refl; step = step; stood = f.stood })) f.bare in
+    marked
+
+pub returns-else-time-lateness-clause-changes : goal.returns-else-time-lateness-clause-changes
+returns-else-time-lateness-clause-changes g c = λ kept marks fits.
+    let s = c.args.self.now in
+    let d = c.args.defs.now in
+    let m = moment kept marks c.args.water in
+    let f = fits.known in
+    let step = mark_step g.P.KeyPart.stands d m s.next s.store s.parts.list.items c.args.time c.mark.new.self f c.vouch.ensures c.requires.time c.requires.accepted
+    c.mark.ensures.tuples c.mark.ensures.slices c.mark.ensures.sliced c.mark.ensures.marks c.mark.ensures.dropped in
+    appended_sorted s.key m (with_mark m c.args.time) d.windows s.scratch.items c.mark-2.new.out.items c.as_slice.result.now c.args.out.now.items c.append_sorted.new.out.items c.requires.ready.empty
+    (c.mark-2.ensures.changes m f.without s.store (record { water_is = refl; step = step; stood = f.stood })) c.as_slice.ensures.value c.append_sorted.ensures.items

@@ -1,0 +1,54 @@
+-- The store and the parts took the tuple in.
+use Rattle.std.proofs.Common.{◌≡◌, ◌+◌, ◌++◌, refl, subst, to_z, of_z, w64}
+use Rattle.std.proofs.lemmas.Int.{to_z-of_z}
+use Rattle.stream_base.specs.Model.Journal.{put_in_order}
+use Rattle.window_laws.specs.After.{with_tuple}
+use Rattle.key_windows.specs.Calls.{changes_by_put, kept_at, moment}
+use Rattle.key_slicer.specs.Parts.{AllTakeTuple}
+use Rattle.key_slicer.specs.States.{Fits}
+use Rattle.key_slicer.proofs.StateFacts.{all_take, fits_put}
+use Rattle.key_slicer.proofs.SortFacts.{appended_sorted}
+use Rattle.key_slicer.proofs.engine.KeyStateKeyWindows.put.Goals as goal
+
+pub put-requires-clause-takes : goal.put-requires-clause-takes
+put-requires-clause-takes g c =
+    let r = c.requires.stands in
+    let x = kept_at c.args.pos c.args.time (to_z w64 (of_z w64 c.args.value)) in
+    let s = c.args.self.now in
+    let d = c.args.defs.now in
+    let m = moment r.0 r.1 c.args.water in
+    let f = r.2.known in
+    let more = (c.put_in.ensures.comes f.without).0 in
+    let all : AllTakeTuple g.P.KeyPart.stands d g.P.KeyPart.is_asked c.args.water x c.put_in.new.store c.before-2.new.self.list.items m f.without s.store more =
+    all_take g.P.KeyPart.stands d g.P.KeyPart.is_asked m c.args.water s.next s.store s.parts.list.items c.before-2.new.self.list.items x c.put_in.new.store refl c.vouch.ensures f
+    c.requires.position c.requires.few c.requires.time c.requires.accepted c.put_in.ensures.comes c.before-2.ensures.stays c.before-2.ensures.asked in
+    (m, f.without, s.store, more, all)
+
+pub returns-clause-fits : goal.returns-clause-fits
+returns-clause-fits g c = λ kept marks fits.
+    let x = kept_at c.args.pos c.args.time (to_z w64 (of_z w64 c.args.value)) in
+    let s = c.args.self.now in
+    let d = c.args.defs.now in
+    let m = moment kept marks c.args.water in
+    let f = fits.known in
+    let more = (c.put_in.ensures.comes f.without).0 in
+    let all : AllTakeTuple g.P.KeyPart.stands d g.P.KeyPart.is_asked c.args.water x c.put_in.new.store c.before-2.new.self.list.items m f.without s.store more =
+    all_take g.P.KeyPart.stands d g.P.KeyPart.is_asked m c.args.water s.next s.store s.parts.list.items c.before-2.new.self.list.items x c.put_in.new.store refl c.vouch.ensures f
+    c.requires.position c.requires.few c.requires.time c.requires.accepted c.put_in.ensures.comes c.before-2.ensures.stays c.before-2.ensures.asked in
+    subst (λ v. Fits g.P.KeyPart.stands d (put_in_order kept (kept_at c.args.pos c.args.time v)) marks c.args.water (c.args.pos + 1) c.put_in.new.store c.put.new.self.list.items) (to_z-of_z w64 c.args.value c.ranges.value)
+    (fits_put g.P.KeyPart.stands d kept marks c.args.water f.without s.store x more c.put_in.new.store c.put.new.self.list.items c.requires.ready.water_is all.step (c.put.ensures.stands m f.without s.store more all) c.put_in.ensures.bare)
+
+pub returns-clause-changes : goal.returns-clause-changes
+returns-clause-changes g c = λ kept marks fits.
+    let x = kept_at c.args.pos c.args.time (to_z w64 (of_z w64 c.args.value)) in
+    let s = c.args.self.now in
+    let d = c.args.defs.now in
+    let m = moment kept marks c.args.water in
+    let f = fits.known in
+    let more = (c.put_in.ensures.comes f.without).0 in
+    let all : AllTakeTuple g.P.KeyPart.stands d g.P.KeyPart.is_asked c.args.water x c.put_in.new.store c.before-2.new.self.list.items m f.without s.store more =
+    all_take g.P.KeyPart.stands d g.P.KeyPart.is_asked m c.args.water s.next s.store s.parts.list.items c.before-2.new.self.list.items x c.put_in.new.store refl c.vouch.ensures f
+    c.requires.position c.requires.few c.requires.time c.requires.accepted c.put_in.ensures.comes c.before-2.ensures.stays c.before-2.ensures.asked in
+    subst (λ v. c.append_sorted.new.out.items ≡ c.args.out.now.items ++ changes_by_put d s.key kept marks c.args.water (kept_at c.args.pos c.args.time v)) (to_z-of_z w64 c.args.value c.ranges.value)
+    (appended_sorted s.key m (with_tuple m x) d.windows s.scratch.items c.put.new.out.items c.as_slice.result.now c.args.out.now.items c.append_sorted.new.out.items c.requires.ready.empty
+    (c.put.ensures.changes m f.without s.store more all) c.as_slice.ensures.value c.append_sorted.ensures.items)

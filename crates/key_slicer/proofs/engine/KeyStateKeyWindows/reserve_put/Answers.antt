@@ -1,0 +1,38 @@
+-- The parts and the store go on to stand for what they did.
+use Rattle.std.proofs.Common.{◌-◌, ap}
+use Rattle.std.specs.Prelude.{vec_capacity, vec_len}
+use Rattle.key_slicer.specs.declared.parts.Parts.{Parts}
+use Rattle.key_slicer.proofs.StateFacts.{fits_reserved, fits_same, no_more_room, ready_to_take}
+use Rattle.key_slicer.proofs.engine.KeyStateKeyWindows.reserve_put.Goals as goal
+
+pub returns-in_err-room-clause-stays : goal.returns-in_err-room-clause-stays
+returns-in_err-room-clause-stays g c = λ kept marks w fits.
+    let s = c.args.self.now in
+    fits_reserved g.P.KeyPart.stands c.args.defs.now (g.met.P.KeyPart.stands_with_room c.args.defs.now) kept marks w s.next s.store s.store s.parts.list.items c.reserve_put.new.self.list.items c.reserve_put.ensures.stays (no_more_room s.store) fits
+
+pub returns-in_err-reserve-clause-stays : goal.returns-in_err-reserve-clause-stays
+returns-in_err-reserve-clause-stays g c = λ kept marks w fits.
+    let s = c.args.self.now in
+    fits_reserved g.P.KeyPart.stands c.args.defs.now (g.met.P.KeyPart.stands_with_room c.args.defs.now) kept marks w s.next s.store c.reserve.new.self s.parts.list.items c.reserve_put.new.self.list.items c.reserve_put.ensures.stays c.reserve.ensures.kept fits
+
+pub returns-in_err-make_room-clause-stays : goal.returns-in_err-make_room-clause-stays
+returns-in_err-make_room-clause-stays g c = λ kept marks w fits.
+    let s = c.args.self.now in
+    let t = c.make_room.new.self in
+    fits_same g.P.KeyPart.stands c.args.defs.now kept marks w s.next t.next c.reserve.new.self t.store c.reserve_put.new.self.list.items t.parts.list.items c.make_room.ensures.next c.make_room.ensures.store (ap (λ (p : Parts g.row.P.Denot). p.list.items) c.make_room.ensures.parts)
+    (fits_reserved g.P.KeyPart.stands c.args.defs.now (g.met.P.KeyPart.stands_with_room c.args.defs.now) kept marks w s.next s.store c.reserve.new.self s.parts.list.items c.reserve_put.new.self.list.items c.reserve_put.ensures.stays c.reserve.ensures.kept fits)
+
+pub returns-clause-stays : goal.returns-clause-stays
+returns-clause-stays g c = λ kept marks w fits.
+    let s = c.args.self.now in
+    let t = c.make_room.new.self in
+    fits_same g.P.KeyPart.stands c.args.defs.now kept marks w s.next t.next c.reserve.new.self t.store c.reserve_put.new.self.list.items t.parts.list.items c.make_room.ensures.next c.make_room.ensures.store (ap (λ (p : Parts g.row.P.Denot). p.list.items) c.make_room.ensures.parts)
+    (fits_reserved g.P.KeyPart.stands c.args.defs.now (g.met.P.KeyPart.stands_with_room c.args.defs.now) kept marks w s.next s.store c.reserve.new.self s.parts.list.items c.reserve_put.new.self.list.items c.reserve_put.ensures.stays c.reserve.ensures.kept fits)
+
+pub returns-clause-ready : goal.returns-clause-ready
+returns-clause-ready g c =
+    let d = c.args.defs.now in
+    let t = c.make_room.new.self in
+    ready_to_take (λ i part. g.P.KeyPart.is_ready d i c.args.time c.args.water part) (λ i part. g.P.KeyPart.put_room d i c.args.time c.args.water part) c.args.water c.reserve.new.self t.store c.reserve_put.new.self.list.items t.parts.list.items
+    c.in_ok-room.room t.promise t.scratch.items (vec_capacity t.scratch - vec_len t.scratch) c.requires.water c.in_ok-room.ensures.ready c.in_ok-reserve.ensures.room c.in_ok-room.ensures.room c.make_room.ensures.store (ap (λ (p : Parts g.row.P.Denot). p.list.items) c.make_room.ensures.parts)
+    c.in_ok-make_room.ensures.promised c.in_ok-make_room.ensures.empty c.in_ok-make_room.ensures.fits_in

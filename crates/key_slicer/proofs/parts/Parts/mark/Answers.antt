@@ -1,0 +1,35 @@
+-- One part more took the mark in.
+use Rattle.std.proofs.Common.{◌≡◌, ◌∙◌, ◌+◌, ◌<◌, ℕ, ap, arith, drop, get_or, length}
+use Rattle.stream_base.specs.declared.kind.Kind.TheVariants.{Marks}
+use Rattle.stream_base.specs.declared.func.Func.TheVariants.{Count}
+use Rattle.window_laws.specs.After.{with_mark}
+use Rattle.key_slicer.specs.Parts.{turns}
+use Rattle.key_slicer.proofs.Loops.{appended_all, appended_more, is_untouched, mark_for_one, one_stepped, room_first, rooms_from}
+use Rattle.key_slicer.proofs.Steps.{IsMarkedIn}
+use Rattle.key_slicer.proofs.parts.Parts.mark.Goals as goal
+
+pub loop-window-preserved : goal.loop-window-preserved
+loop-window-preserved g c =
+    let d = c.args.defs.now in
+    let i = c.loop-window.window in
+    let now = c.loop-window.self.list.items in
+    let start = c.args.self.now.list.items in
+    let step = IsMarkedIn g.P.KeyPart.stands d c.args.water c.args.time c.args.store.now in
+    let within : i < length start = omega arith in
+    let untouched = is_untouched step i start now c.index_mut.result.now within c.loop-window.invariant.stepped c.index_mut.ensures.value in
+    let room = λ (j : ℕ) (part : g.row.P.Denot). g.P.KeyPart.mark_room d j c.args.time c.args.water part in
+    let first : rooms_from room i (drop i start) ≡ room i (get_or start i c.index_mut.result.now) + rooms_from room (i + 1) (drop (i + 1) start) = room_first room i start c.index_mut.result.now within in
+    let same : room i c.index_mut.result.now ≡ room i (get_or start i c.index_mut.result.now) = ap (room i) (untouched c.index_mut.result.now) in
+    record {
+      stepped = one_stepped step i start now c.index_mut.result.now c.mark.new.self within c.loop-window.invariant.stepped c.index_mut.ensures.value (record { stands_on = c.mark.ensures.stands });
+      changes = λ m n before all.
+          appended_more (turns c.args.key.now m (with_mark m c.args.time)) d.windows i (record { kind = Marks; func = Count }) c.args.out.now.items c.loop-window.out.items c.mark.new.out.items (omega (arith, all.stood.as_many)) (c.loop-window.invariant.changes m n before all)
+          (c.mark.ensures.changes m n before (mark_for_one g.P.KeyPart.stands d c.args.water c.args.time c.args.store.now start m n before i c.index_mut.result.now within untouched all));
+      spare = omega (arith, first, same, c.mark.ensures.room, c.mark.ensures.capacity, c.loop-window.invariant.spare);
+      room = omega (arith, first, same, c.mark.ensures.room, c.loop-window.invariant.room);
+      capacity = c.mark.ensures.capacity ∙ c.loop-window.invariant.capacity;
+    }
+
+pub returns-clause-changes : goal.returns-clause-changes
+returns-clause-changes g c = λ m n before all.
+    appended_all (turns c.args.key.now m (with_mark m c.args.time)) c.args.defs.now.windows c.loop-window.window c.args.out.now.items c.loop-window.out.items (omega arith) (c.loop-window.invariant.changes m n before all)

@@ -1,0 +1,20 @@
+-- One part more has room.
+use Rattle.std.proofs.Common.{◌∙◌, ◌+◌, ◌<◌, arith, length, sym}
+use Rattle.key_slicer.proofs.Loops.{one_stepped, room_more}
+use Rattle.key_slicer.proofs.Steps.{IsReserved}
+use Rattle.key_slicer.proofs.parts.Parts.reserve_water.Goals as goal
+
+pub loop-window-preserved : goal.loop-window-preserved
+loop-window-preserved g c =
+    let d = c.args.defs.now in
+    let i = c.loop-window.window in
+    let now = c.loop-window.self.list.items in
+    let start = c.args.self.now.list.items in
+    let within : i < length start = omega arith in
+    let here : i < length now = omega (arith, c.loop-window.invariant.stepped.as_many) in
+    record {
+      stepped = one_stepped (IsReserved g.P.KeyPart.stands d (λ j part. g.P.KeyPart.can_move d j c.args.store.now c.args.old c.args.new part)) i start now c.index_mut.result.now c.reserve_water.new.self within c.loop-window.invariant.stepped c.index_mut.ensures.value
+          (record { stays = c.in_ok-more.ensures.stays; ready = c.in_ok-more.ensures.ready });
+      room = c.in_ok-room.ensures ∙ (λ k. c.loop-window.invariant.room k + c.in_ok-more.ensures.room k)
+          ∙ sym (room_more (λ j part. g.P.KeyPart.move_room d j c.args.store.now c.args.old c.args.new part) i now c.reserve_water.new.self here);
+    }

@@ -1,0 +1,58 @@
+-- For which lists the state of a key stands, and for which call it has room.
+use Rattle.std.specs.Prelude.{◌≡◌, ◌≤◌, ◌⊎◌, ℕ, List, []}
+use Rattle.stream_base.specs.Limits.{Definitions}
+use Rattle.stream_base.specs.declared.change.Change.{Change}
+use Rattle.stream_base.specs.declared.kept.Kept.{Kept}
+use Rattle.stream_base.specs.Model.Changes.{Moment}
+use Rattle.slice_store.specs.Stored.{Stored}
+use Rattle.key_windows.specs.Calls.{Call, IsWater, moment}
+use Rattle.key_windows.specs.Calls.Call.{Put, Mark, Move}
+use Rattle.key_parts.specs.Calls.{Standing}
+use Rattle.key_parts.specs.Held.{IsHeld}
+use Rattle.key_parts.specs.Moves.{AreLists, all_count_events}
+use Rattle.key_slicer.specs.Parts.{AreStanding, EachPart, rooms}
+
+module _ {P : Type 0} (stands : Standing P) (d : Definitions) where
+  -- a key's store holds what is known of it without so many first tuples, and its parts stand for that. Where each window counts events the store has no slices
+  pub record StandsFor (m : Moment) (next : ℕ) (s : Stored) (parts : List P) : Type 0 where
+    pub without : ℕ
+    pub lists : AreLists m next
+    pub held : IsHeld d m without s
+    pub stood : AreStanding stands d m without s parts
+    pub bare : all_count_events d → s.slices ≡ []
+
+  -- a key that has no tuple and no mark yet, under whatever watermark
+  pub record IsBlank (kept : List Kept) (marks : List ℕ) (next : ℕ) (s : Stored) (parts : List P) : Type 0 where
+    pub no_tuple : kept ≡ []
+    pub no_mark : marks ≡ []
+    pub anywhere : (water : ℕ) → StandsFor (moment [] [] water) next s parts
+
+  -- a key's state stands for these tuples and marks under a watermark, or it is a blank one
+  pub record Fits (kept : List Kept) (marks : List ℕ) (water next : ℕ) (s : Stored) (parts : List P) : Type 0 where
+    pub known : StandsFor (moment kept marks water) next s parts
+    pub clock : IsWater water ⊎ IsBlank kept marks next s parts
+
+-- each part is ready and the store has room for what comes; and so much room is promised as all parts need, for changes that are put together first
+pub record IsReadyToTake {P : Type 0} (is_ready : ℕ → P → Type 0) (room : ℕ → P → ℕ) (water : ℕ) (s : Stored) (parts : List P) (promise : ℕ) (scratch : List Change) (spare : ℕ) : Type 0 where
+  pub water_is : IsWater water
+  pub each : EachPart is_ready parts
+  pub store : 1 ≤ s.spare
+  pub promised : promise ≡ rooms room parts
+  pub empty : scratch ≡ []
+  pub fits_in : promise ≤ spare
+
+-- each part can move, and so much room is promised as all need
+pub record CanMoveAll {P : Type 0} (can_move : ℕ → P → Type 0) (room : ℕ → P → ℕ) (parts : List P) (promise : ℕ) : Type 0 where
+  pub each : EachPart can_move parts
+  pub promised : promise ≡ rooms room parts
+
+-- room was made for the call to come
+abbrev pub IsReady : {P : Type 0} → (Definitions → ℕ → ℕ → ℕ → P → Type 0) → (Definitions → ℕ → ℕ → ℕ → P → ℕ) → (Definitions → ℕ → ℕ → ℕ → P → ℕ)
+    → (Definitions → ℕ → Stored → ℕ → ℕ → P → Type 0) → (Definitions → ℕ → Stored → ℕ → ℕ → P → ℕ)
+    → Definitions → Call → Stored → List P → ℕ → List Change → ℕ → Type 0
+IsReady is_ready put_room mark_room can_move move_room d (Put time water) s parts promise scratch spare =
+    IsReadyToTake (λ i part. is_ready d i time water part) (λ i part. put_room d i time water part) water s parts promise scratch spare
+IsReady is_ready put_room mark_room can_move move_room d (Mark time water) s parts promise scratch spare =
+    IsReadyToTake (λ i part. is_ready d i time water part) (λ i part. mark_room d i time water part) water s parts promise scratch spare
+IsReady is_ready put_room mark_room can_move move_room d (Move old new) s parts promise scratch spare =
+    IsWater old → CanMoveAll (λ i part. can_move d i s old new part) (λ i part. move_room d i s old new part) parts promise

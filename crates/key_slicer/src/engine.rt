@@ -1,0 +1,154 @@
+//! The state of a key as an engine.
+ghost use Rattle.std.specs.Prelude.{vec_capacity, vec_len, ◌-◌};
+ghost use Rattle.key_windows.specs.Calls.{IsWater};
+ghost use Rattle.key_slicer.specs.States.{Fits, IsReady};
+
+use crate::key_state::{KeyState, all_count_events, is_water, put_in, vouch};
+use crate::parts::Parts;
+use crate::sorted::append_sorted;
+use agg_laws::{AggTree, Bundle, Steps};
+use key_parts::AnyPart;
+use key_windows::KeyWindows;
+use slice_store::SliceStore;
+use std::alloc::Global;
+use stream_base::{Change, Defs, KeyText, NoMemory};
+
+impl<T: AggTree<Bundle> + Drop, P: AnyPart> KeyWindows for KeyState<T, P> {
+    ghost key_of = { λ k. k.key };
+
+    ghost fits = { λ d kept marks water k. Fits P.stands d kept marks water
+        k.next k.store k.parts.list.items };
+
+    ghost is_ready = { λ d call k. IsReady P.is_ready P.put_room P.mark_room P.can_move
+        P.move_room d call k.store k.parts.list.items k.promise k.scratch.items
+        (vec_capacity k.scratch - vec_len k.scratch) };
+
+    ghost promised = { λ k. k.promise };
+
+    ghost next_position = { λ k. k.next };
+
+    fn fresh(alloc: Global, defs: &Defs, key: KeyText) -> Result<KeyState<T, P>, NoMemory> {
+        let _windows = defs.windows();
+        Ok(KeyState {
+            key,
+            store: SliceStore::new(alloc),
+            parts: Parts::fresh(alloc, defs)?,
+            next: 0,
+            promise: 0,
+            scratch: Vec::new(alloc),
+        })
+    }
+
+    fn reserve_put(&mut self, defs: &Defs, time: u64, water: u64) -> Result<u64, NoMemory> {
+        vouch(&self.store);
+        let room = self.parts.reserve_put(defs, time, water)?;
+        self.store.reserve()?;
+        self.make_room(room)?;
+        Ok(room)
+    }
+
+    fn put<L>(
+        &mut self,
+        defs: &Defs,
+        pos: u64,
+        time: u64,
+        value: i64,
+        water: u64,
+        out: &mut Vec<Change>,
+        steps: &mut Steps<L>,
+    ) {
+        vouch(&self.store);
+        self.parts.before(defs, &self.store, time, water, steps);
+        put_in(&mut self.store, defs, pos, time, value, steps);
+        self.parts.put(
+            defs,
+            &self.store,
+            &self.key,
+            pos,
+            time,
+            value,
+            water,
+            &mut self.scratch,
+            steps,
+        );
+        append_sorted(self.scratch.as_slice(), out);
+        self.next = pos + 1;
+    }
+
+    fn reserve_mark(&mut self, defs: &Defs, time: u64, water: u64) -> Result<u64, NoMemory> {
+        vouch(&self.store);
+        let room = self.parts.reserve_mark(defs, time, water)?;
+        self.store.reserve()?;
+        self.make_room(room)?;
+        Ok(room)
+    }
+
+    fn mark<L>(
+        &mut self,
+        defs: &Defs,
+        time: u64,
+        water: u64,
+        out: &mut Vec<Change>,
+        steps: &mut Steps<L>,
+    ) {
+        vouch(&self.store);
+        self.store.mark(defs, time, steps);
+        self.parts.mark(
+            defs,
+            &self.store,
+            &self.key,
+            time,
+            water,
+            &mut self.scratch,
+            steps,
+        );
+        append_sorted(self.scratch.as_slice(), out);
+        if time + defs.lateness() == water {
+            self.purge(defs, water, steps);
+        }
+    }
+
+    fn reserve_water(&mut self, defs: &Defs, old: u64, new: u64) -> Result<u64, NoMemory> {
+        self.promise = 0;
+        // Under what is no watermark only a key stands that has nothing yet.
+        if !is_water(old) {
+            return Ok(0);
+        }
+        vouch(&self.store);
+        let room = self.parts.reserve_water(defs, &self.store, old, new)?;
+        self.promise = room;
+        Ok(room)
+    }
+
+    fn water<L>(
+        &mut self,
+        defs: &Defs,
+        old: u64,
+        new: u64,
+        out: &mut Vec<Change>,
+        steps: &mut Steps<L>,
+    ) {
+        let _windows = defs.windows();
+        if is_water(old) {
+            vouch(&self.store);
+            self.parts
+                .water(defs, &self.store, &self.key, old, new, out, steps);
+            self.purge(defs, new, steps);
+        }
+    }
+
+    fn next_due(&self, defs: &Defs, water: u64) -> u64 {
+        let _windows = defs.windows();
+        vouch(&self.store);
+        self.parts.next_due(defs, &self.store, water)
+    }
+
+    fn slice_count(&self, defs: &Defs, water: u64) -> u64 {
+        if all_count_events(defs) {
+            return 0;
+        }
+        vouch(&self.store);
+        let time = self.parts.first_unsettled(defs, water);
+        self.store.count_from(time)
+    }
+}

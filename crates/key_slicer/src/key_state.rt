@@ -1,0 +1,93 @@
+//! The state of a key.
+ghost use Rattle.std.specs.Prelude.{◌≡◌, ◌≤◌, ◌-◌, [], ℕ, true, false, OnOk, vec_capacity, vec_len};
+ghost use Rattle.std.specs.List.{list_all};
+ghost use Rattle.stream_base.specs.Model.Slices.{is_events};
+ghost use Rattle.stream_base.specs.declared.limits.TheConstants.{TIME_MAX};
+ghost use Rattle.slice_store.specs.Stored.{IsSliced, IsStore, Stored};
+ghost use Rattle.key_windows.specs.Calls.{IsWater, kept_at};
+ghost use Rattle.key_parts.specs.Moves.{Comes, all_count_events};
+
+use crate::parts::Parts;
+use agg_laws::{AggTree, Bundle, Steps};
+use key_parts::KeyPart;
+use slice_store::SliceStore;
+use stream_base::{Change, Defs, FINAL, KeyText, Kind, NoMemory, TIME_MAX};
+
+/// The windows of one key. Its tuples lie in slices that all windows share, and each window has a
+/// part of its own. Settled slices leave.
+#[derive(Drop)]
+pub struct KeyState<T: AggTree<Bundle>, P: KeyPart> {
+    pub(crate) key: KeyText,
+    pub(crate) store: SliceStore<T>,
+    pub(crate) parts: Parts<P>,
+    /// The next tuple has at least this position.
+    pub(crate) next: u64,
+    pub(crate) promise: u64,
+    /// The changes of the coming call, window by window.
+    pub(crate) scratch: Vec<Change>,
+}
+
+impl<T: AggTree<Bundle>, P: KeyPart> KeyState<T, P> {
+    // Makes room for so many changes to be put together, and promises them.
+    pub fn make_room(&mut self, room: u64) -> Result<(), NoMemory>
+        ensures key { self.new.key ≡ self.old.key }
+        ensures next { self.new.next ≡ self.old.next }
+        ensures store { self.new.store ≡ self.old.store }
+        ensures parts { self.new.parts ≡ self.old.parts }
+        ensures promised { OnOk result (self.new.promise ≡ room) }
+        ensures empty { OnOk result (self.new.scratch.items ≡ []) }
+        ensures fits_in { OnOk result
+            (room ≤ vec_capacity self.new.scratch - vec_len self.new.scratch) }
+    {
+        self.scratch.clear();
+        self.scratch.reserve(room as usize)?;
+        self.promise = room;
+        Ok(())
+    }
+}
+
+// Changes nothing, and tells a proof what every store keeps.
+pub fn vouch<T: AggTree<Bundle>>(store: &SliceStore<T>)
+    ensures { IsStore store.now }
+{
+    let _count = store.slice_count();
+}
+
+// Whether a number is a watermark: a time, or the final one.
+pub fn is_water(number: u64) -> bool
+    ensures yes { result ≡ true → IsWater number }
+    ensures no { IsWater number → result ≡ true }
+{
+    number <= TIME_MAX || number == FINAL
+}
+
+// Whether each window counts events.
+pub fn all_count_events(defs: &Defs) -> bool
+    ensures { result ≡ list_all (λ w. is_events w.kind) (defs.now).windows }
+{
+    defs.windows()
+        .iter()
+        .all(|def| matches!(def.kind, Kind::Events { .. }))
+}
+
+// Puts a tuple into the store, unless each window counts events: then it is settled at once.
+pub fn put_in<T: AggTree<Bundle>, L>(
+    store: &mut SliceStore<T>,
+    defs: &Defs,
+    pos: u64,
+    time: u64,
+    value: i64,
+    steps: &mut Steps<L>,
+)
+    requires room { 1 ≤ store.old.spare }
+    requires time { time ≤ TIME_MAX }
+    requires sliced { IsSliced (defs.now).windows store.old }
+    requires bare { all_count_events defs.now → store.old.slices ≡ [] }
+    ensures comes { (n : ℕ) → (more : ℕ)
+        × Comes defs.now n store.old (kept_at pos time value) more store.new }
+    ensures bare { all_count_events defs.now → store.new.slices ≡ [] }
+{
+    if !all_count_events(defs) {
+        store.put(defs, pos, time, value, steps);
+    }
+}

@@ -1,0 +1,44 @@
+//! Settled slices that leave the state of a key.
+ghost use Rattle.std.specs.Prelude.{◌≡◌, ℕ, List};
+ghost use Rattle.stream_base.specs.declared.kept.Kept.{Kept};
+ghost use Rattle.key_windows.specs.Calls.{IsWater};
+ghost use Rattle.key_slicer.specs.States.{Fits};
+
+use crate::key_state::{KeyState, all_count_events, vouch};
+use agg_laws::{AggTree, Bundle, Steps};
+use key_parts::KeyPart;
+use slice_store::SliceStore;
+use stream_base::Defs;
+
+impl<T: AggTree<Bundle>, P: KeyPart> KeyState<T, P> {
+    // Lets the slices leave that are settled under the watermark, and what the parts need no more.
+    pub fn purge<L>(&mut self, defs: &Defs, water: u64, steps: &mut Steps<L>)
+        requires stands { (kept : List Kept) × (marks : List ℕ) × Fits P.stands defs.now kept marks
+            water self.old.next self.old.store self.old.parts.list.items }
+        requires water { IsWater water }
+        ensures key { self.new.key ≡ self.old.key }
+        ensures next { self.new.next ≡ self.old.next }
+        ensures fits { (kept : List Kept) (marks : List ℕ) → Fits P.stands defs.now kept marks
+            water self.old.next self.old.store self.old.parts.list.items
+            → Fits P.stands defs.now kept marks
+            water self.new.next self.new.store self.new.parts.list.items }
+    {
+        if all_count_events(defs) {
+            return;
+        }
+        vouch(&self.store);
+        let time = self.parts.first_unsettled(defs, water);
+        if begins_before(&self.store, time) {
+            self.store.drop_settled(time, steps);
+            self.parts.drop_settled(defs, water);
+        }
+    }
+}
+
+// Whether the first slice of a store begins before a time.
+fn begins_before<T: AggTree<Bundle>>(store: &SliceStore<T>, time: u64) -> bool {
+    match store.slice_from(0) {
+        Some(first) => first.low < time,
+        None => false,
+    }
+}

@@ -1,0 +1,33 @@
+//! The windows of one key on slices that they share.
+//!
+//! *From* accepted tuples and marks of a key and moves of the watermark, *to* its changes. *Stands
+//! on* `key_windows`, which says what an engine for a key promises; on `slice_store`, whose slices
+//! hold the key's tuples; on `key_parts`, which says what the part of one window promises; and on
+//! the laws of `held_laws`. General over the tree of the store and over the parts. *Promise*: all
+//! of `KeyWindows`, where each part keeps what `KeyPart` says.
+//!
+//! - `parts`: the parts of all windows, each at the place of its window.
+//! - `putting`, `marking`, `moving`: a tuple, a mark and a move of the watermark go from part to
+//!   part, and what they change is appended window by window. Before the store takes a tuple in,
+//!   each part keeps what stood; room is the sum of what the parts need.
+//! - `sorted`: changes window by window are put in order, all retractions first.
+//! - `purging`, `leaving`: the least of the watermark minus the lateness and of the times of the
+//!   windows is the time up to which all tuples are settled. Slices before it leave where the first
+//!   one begins before it, and the parts forget what has ended. The slices from it on are those of
+//!   the unsettled tuples, whether or not settled ones have left.
+//! - `key_state`, `engine`: the state of a key, and its calls.
+//!
+//! Windows of event counts need no slices: where there are no others, the store takes no tuple in.
+#![tactic(auto)]
+
+mod engine;
+mod key_state;
+mod leaving;
+mod marking;
+mod moving;
+mod parts;
+mod purging;
+mod putting;
+mod sorted;
+
+pub use key_state::KeyState;

@@ -1,0 +1,105 @@
+//! The parts of a key's windows where the watermark moves.
+ghost use Rattle.std.specs.Prelude.{◌≡◌, ◌≤◌, ◌<◌, ◌+◌, ◌-◌, ◌++◌, [], ℕ, List, IfOk, OnOk, vec_len, vec_capacity};
+ghost use Rattle.std.specs.List.{enumerate_from, flat_map};
+ghost use Rattle.stream_base.specs.Laws.{completions};
+ghost use Rattle.stream_base.specs.Model.Changes.{Moment};
+ghost use Rattle.window_laws.specs.After.{at_water};
+ghost use Rattle.slice_store.specs.Stored.{Stored};
+ghost use Rattle.key_windows.specs.Calls.{IsWater};
+ghost use Rattle.key_slicer.specs.Parts.{AllStandAt, AreStanding, EachPart, rooms};
+
+use crate::parts::{Parts, sum_of, window_count};
+use agg_laws::{AggTree, Bundle, Steps};
+use key_parts::KeyPart;
+use slice_store::SliceStore;
+use stream_base::{Change, Defs, KeyText, NoMemory};
+
+impl<P: KeyPart> Parts<P> {
+    // Makes room for a move of the watermark in each part, and answers for how many changes.
+    pub fn reserve_water<T: AggTree<Bundle>>(
+        &mut self,
+        defs: &Defs,
+        store: &SliceStore<T>,
+        old: u64,
+        new: u64,
+    ) -> Result<u64, NoMemory>
+        requires stands { (m : Moment) × (n : ℕ)
+            × AllStandAt P.stands defs.now old store.now self.old.list.items m n }
+        requires rises { old ≤ new }
+        requires old { IsWater old }
+        requires new { IsWater new }
+        ensures stays { (m : Moment) (n : ℕ) (s : Stored)
+            → AreStanding P.stands defs.now m n s self.old.list.items
+            → AreStanding P.stands defs.now m n s self.new.list.items }
+        ensures ready { OnOk result (EachPart
+            (λ i part. P.can_move defs.now i store.now old new part) self.new.list.items) }
+        ensures room { IfOk result (λ k. k
+            ≡ rooms (λ i part. P.move_room defs.now i store.now old new part)
+            self.new.list.items) }
+    {
+        let mut room: u64 = 0;
+        for window in 0..window_count(defs) {
+            let more = self.list[window as usize].reserve_water(defs, window, store, old, new)?;
+            room = sum_of(room, more)?;
+        }
+        Ok(room)
+    }
+
+    // Takes in a move of the watermark, and appends what it completes, window by window.
+    pub fn water<T: AggTree<Bundle>, L>(
+        &mut self,
+        defs: &Defs,
+        store: &SliceStore<T>,
+        key: &KeyText,
+        old: u64,
+        new: u64,
+        out: &mut Vec<Change>,
+        steps: &mut Steps<L>,
+    )
+        requires stands { (m : Moment) × (n : ℕ)
+            × AllStandAt P.stands defs.now old store.now self.old.list.items m n }
+        requires rises { old ≤ new }
+        requires old { IsWater old }
+        requires new { IsWater new }
+        requires ready { EachPart
+            (λ i part. P.can_move defs.now i store.now old new part) self.old.list.items }
+        requires spare { rooms (λ i part. P.move_room defs.now i store.now old new part)
+            self.old.list.items ≤ vec_capacity out.old - vec_len out.old }
+        ensures stands { (m : Moment) (n : ℕ)
+            → AllStandAt P.stands defs.now old store.now self.old.list.items m n
+            → AreStanding P.stands defs.now (at_water m new) n store.now self.new.list.items }
+        ensures changes { (m : Moment) (n : ℕ)
+            → AllStandAt P.stands defs.now old store.now self.old.list.items m n
+            → out.new.items ≡ out.old.items
+            ++ flat_map (completions key.now m new) (enumerate_from 0 (defs.now).windows) }
+        ensures room { vec_len out.new ≤ vec_len out.old
+            + rooms (λ i part. P.move_room defs.now i store.now old new part) self.old.list.items }
+        ensures capacity { vec_capacity out.new ≡ vec_capacity out.old }
+    {
+        for window in 0..window_count(defs) {
+            self.list[window as usize].water(defs, window, store, key, old, new, out, steps);
+        }
+    }
+
+    // A watermark up to which, without it, nothing becomes complete in any window.
+    pub fn next_due<T: AggTree<Bundle>>(
+        &self,
+        defs: &Defs,
+        store: &SliceStore<T>,
+        water: u64,
+    ) -> u64
+        requires stands { (m : Moment) × (n : ℕ)
+            × AllStandAt P.stands defs.now water store.now self.now.list.items m n }
+        requires water { IsWater water }
+        ensures { (key : List ℕ) (m : Moment) (n new : ℕ)
+            → AllStandAt P.stands defs.now water store.now self.now.list.items m n
+            → water ≤ new → new < result
+            → flat_map (completions key m new) (enumerate_from 0 (defs.now).windows) ≡ [] }
+    {
+        let mut due = u64::MAX;
+        for window in 0..window_count(defs) {
+            due = due.min(self.list[window as usize].next_due(defs, window, store, water));
+        }
+        due
+    }
+}

@@ -1,0 +1,50 @@
+//! The parts of a key's windows.
+ghost use Rattle.std.specs.Prelude.{◌≡◌, ◌≤◌, ◌+◌, [], ℕ, length, IfOk, OnOk};
+ghost use Rattle.stream_base.specs.declared.limits.TheConstants.{WINDOWS_MAX};
+ghost use Rattle.slice_store.specs.Stored.{Stored};
+ghost use Rattle.key_windows.specs.Calls.{moment};
+ghost use Rattle.key_slicer.specs.Parts.{AreStanding};
+
+use key_parts::{AnyPart, KeyPart};
+use std::alloc::Global;
+use stream_base::{Defs, NoMemory};
+
+/// The parts of the windows of a key, in the order of the definitions.
+#[derive(Drop)]
+pub struct Parts<P: KeyPart> {
+    pub list: Vec<P>,
+}
+
+impl<P: AnyPart> Parts<P> {
+    // The parts of a key that has no tuple and no mark yet.
+    pub fn fresh(alloc: Global, defs: &Defs) -> Result<Parts<P>, NoMemory>
+        ensures { (water : ℕ) (s : Stored) → s.slices ≡ [] → IfOk result
+            (λ parts. AreStanding P.stands defs.now (moment [] [] water) 0 s parts.list.items) }
+    {
+        let count = window_count(defs);
+        let mut list = Vec::new(alloc);
+        list.reserve(count as usize)?;
+        for window in 0..count {
+            list.push_reserved(P::fresh(alloc, defs, window));
+        }
+        Ok(Parts { list })
+    }
+}
+
+// How many windows there are.
+pub fn window_count(defs: &Defs) -> u32
+    ensures count { result ≡ length (defs.now).windows }
+    ensures few { result ≤ WINDOWS_MAX }
+{
+    defs.windows().len() as u32
+}
+
+// The sum of two numbers of changes. No memory holds more than 2^64 of them.
+pub fn sum_of(a: u64, b: u64) -> Result<u64, NoMemory>
+    ensures { IfOk result (λ sum. sum ≡ a + b) }
+{
+    match a.checked_add(b) {
+        Some(sum) => Ok(sum),
+        None => Err(NoMemory),
+    }
+}

@@ -1,0 +1,51 @@
+//! The parts of a key's windows where settled slices leave.
+ghost use Rattle.std.specs.Prelude.{◌≡◌, ◌≤◌, ◌-◌, ℕ, length};
+ghost use Rattle.stream_base.specs.Model.Changes.{Moment};
+ghost use Rattle.window_laws.specs.After.{at_water};
+ghost use Rattle.window_laws.specs.Settled.{without_first};
+ghost use Rattle.slice_store.specs.Stored.{Stored};
+ghost use Rattle.key_windows.specs.Calls.{IsWater};
+ghost use Rattle.key_parts.specs.Calls.{window_at};
+ghost use Rattle.key_parts.specs.Moves.{SettlesUpTo};
+ghost use Rattle.key_slicer.specs.Parts.{AllLoseSettled, AllStandAt, AreStanding, EachPart, IsLeastOf};
+
+use crate::parts::{Parts, window_count};
+use key_parts::KeyPart;
+use stream_base::Defs;
+
+impl<P: KeyPart> Parts<P> {
+    // Up to which time all tuples are settled under a watermark, its own or a later one: the least
+    // of the watermark minus the lateness and of the times of the windows.
+    pub fn first_unsettled(&self, defs: &Defs, water: u64) -> u64
+        requires stands { (m : Moment) × (n : ℕ) × (s : Stored) × (w : ℕ)
+            × AllStandAt P.stands defs.now w s self.now.list.items m n × (w ≤ water) }
+        requires water { IsWater water }
+        ensures least { IsLeastOf (λ i part. P.settles_at defs.now i water part)
+            (water - (defs.now).lateness) self.now.list.items result }
+        ensures settles { (m : Moment) (n : ℕ) (s : Stored) (w : ℕ) → w ≤ water
+            → AllStandAt P.stands defs.now w s self.now.list.items m n
+            → EachPart (λ i part. SettlesUpTo (defs.now).lateness
+            (at_water (without_first n m) water) (window_at defs.now i)
+            (P.settles_at defs.now i water part)) self.now.list.items }
+    {
+        let mut time = water.saturating_sub(defs.lateness());
+        for window in 0..window_count(defs) {
+            time = time.min(self.list[window as usize].first_unsettled(defs, window, water));
+        }
+        time
+    }
+
+    // Forgets in each part what has ended by the watermark minus the lateness, where settled slices
+    // have left the store.
+    pub fn drop_settled(&mut self, defs: &Defs, water: u64)
+        requires as_many { length self.old.list.items ≡ length (defs.now).windows }
+        ensures { (m : Moment) (n time : ℕ) (before : Stored) (more : ℕ) (after : Stored)
+            → AllLoseSettled P.stands defs.now water time self.old.list.items m n before more after
+            → EachPart (λ i part. time ≤ P.settles_at defs.now i water part) self.old.list.items
+            → AreStanding P.stands defs.now m more after self.new.list.items }
+    {
+        for window in 0..window_count(defs) {
+            self.list[window as usize].drop_settled(defs, window, water);
+        }
+    }
+}
