@@ -104,7 +104,7 @@ module _ {K : Type 0} (written : K → Option (List ℕ)) (faults : K → ℕ) (
       → IsStopped written faults (called_for told run) s old new
   stopped answered s is called said = record { answered = answered; status_is = is; called_is = called; said = said }
 
-  at_defs : (f : Fault) → StopsAtDefs (told run.defs) counts f → Says written faults f old new → Answered (status_of f)
+  at_defs : (f : Fault) → StopsAtDefs (told run.defs) (run.defs ∷ run.sources) counts f → Says written faults f old new → Answered (status_of f)
   unfolding Answered
   at_defs Usage h said = absurd h
   at_defs (Defs Long) h said = stopped (Defs Long) status.BadDefs refl (refused_defs told run Long h) said
@@ -113,7 +113,7 @@ module _ {K : Type 0} (written : K → Option (List ℕ)) (faults : K → ℕ) (
   at_defs (Defs (Limit w)) h said = stopped (Defs (Limit w)) status.BadDefs refl (refused_defs told run (Limit w) h) said
   at_defs (Defs Many) h said = stopped (Defs Many) status.BadDefs refl (refused_defs told run Many h) said
   at_defs (Defs NoRoom) h said = said
-  at_defs (Unopened place) h said = record { rose = h.1; place = None; place_is = tt; said = subst (λ (p : Option ℕ). Says written faults (Unopened p) old new) h.0 said }
+  at_defs (Unopened place) h said = record { rose = h.1; place = None; place_is = tt; left = h.2; said = subst (λ (p : Option ℕ). Says written faults (Unopened p) old new) h.0 said }
   at_defs (Row s number why) h said = absurd h
   at_defs (Read place) h said = record { rose = h.1; place = None; place_is = tt; said = subst (λ (p : Option ℕ). Says written faults (Read p) old new) h.0 said }
   at_defs (FullSource s) h said = absurd h
@@ -129,7 +129,7 @@ module _ {K : Type 0} (written : K → Option (List ℕ)) (faults : K → ℕ) (
   behind d read Usage h said = absurd h
   behind d read (Defs cause) h said = absurd h
   behind d read (Unopened None) h said = absurd h
-  behind d read (Unopened (Some source)) h said = record { rose = h.1; place = Some source; place_is = (h.0, λ bytes t. (d, read bytes t)); said = said }
+  behind d read (Unopened (Some source)) h said = record { rose = h.1; place = Some source; place_is = (h.0, λ bytes t. (d, read bytes t)); left = h.2; said = said }
   behind d read (Row s number why) h said =
       stopped (Row s number why) status.BadRow refl (behind_defs told run d read (λ c. CallsForFault c (Row s number why)) tt (refused_source told run d s (bad_record number why) h)) said
   behind d read (Read None) h said = absurd h
@@ -158,13 +158,13 @@ module _ {K : Type 0} (written : K → Option (List ℕ)) (faults : K → ℕ) (
   stops f (inr h) said = behind h.d h.read f h.cause said
 
   -- a report that was written, or whose write failed, is the answer of the run of its shards
-  pub reports : (shards : List Sharded) → AreShardsOfFiles told run shards → AreJournals shards
+  pub reports : (shards : List Sharded) → AreShardsOfFiles told run shards → AreJournals shards → counts.left []
       → (s : Status) → (s ≡ status.Done) ⊎ (s ≡ status.WriteFault)
       → (s ≡ status.Done → Appends written faults (report_text (form_of run.form) shards) old new)
       → (s ≡ status.WriteFault → Fails written faults (report_text (form_of run.form) shards) old new)
       → IsAnswer written faults run told counts old new s
   unfolding Answered
-  reports shards files vouched s (inl e) done failed =
-      subst Answered (sym e) record { text = report_text (form_of run.form) shards; text_is = text_is told run shards files vouched; went_out = done e }
-  reports shards files vouched s (inr e) done failed =
-      subst Answered (sym e) record { text = report_text (form_of run.form) shards; text_is = text_is told run shards files vouched; failed = failed e }
+  reports shards files vouched opened s (inl e) done failed =
+      subst Answered (sym e) record { text = report_text (form_of run.form) shards; text_is = text_is told run shards files vouched; all_opened = opened; went_out = done e }
+  reports shards files vouched opened s (inr e) done failed =
+      subst Answered (sym e) record { text = report_text (form_of run.form) shards; text_is = text_is told run shards files vouched; all_opened = opened; failed = failed e }

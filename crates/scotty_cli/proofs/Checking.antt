@@ -1,5 +1,5 @@
 -- The answer to a check, by what became of its files.
-use Rattle.std.proofs.Common.{◌≡◌, ◌∙◌, ◌<◌, ◌≤◌, ◌⊎◌, ℕ, Bool, true, false, cond, List, [], length, Option, None, Some, Result, Ok, Err, sym, subst, refl, arith, inl, inr}
+use Rattle.std.proofs.Common.{◌≡◌, ◌∙◌, ◌<◌, ◌≤◌, ◌⊎◌, ℕ, Bool, true, false, cond, List, [], ◌∷◌, length, Option, None, Some, Result, Ok, Err, sym, subst, refl, arith, inl, inr}
 use Rattle.std.specs.Prelude.{nat_lt}
 use Rattle.std.specs.Option.{option_map_or}
 use Rattle.std.proofs.lemmas.Bool.Decides.{nat_tests}
@@ -107,7 +107,7 @@ module _ {K : Type 0} (written : K → Option (List ℕ)) (faults : K → ℕ) (
       → IsStopped written faults (called_by_check told c) s old new
   stopped answered s is called said = record { answered = answered; status_is = is; called_is = called; said = said }
 
-  at_defs : (f : Fault) → StopsAtDefs (told c.defs) counts f → Says written faults f old new → Answered (status_of f)
+  at_defs : (f : Fault) → StopsAtDefs (told c.defs) (c.defs ∷ c.report ∷ c.sources) counts f → Says written faults f old new → Answered (status_of f)
   unfolding Answered
   at_defs Usage h said = absurd h
   at_defs (Defs Long) h said = stopped (Defs Long) status.BadDefs refl (refused_defs told c Long h) said
@@ -116,7 +116,7 @@ module _ {K : Type 0} (written : K → Option (List ℕ)) (faults : K → ℕ) (
   at_defs (Defs (Limit w)) h said = stopped (Defs (Limit w)) status.BadDefs refl (refused_defs told c (Limit w) h) said
   at_defs (Defs Many) h said = stopped (Defs Many) status.BadDefs refl (refused_defs told c Many h) said
   at_defs (Defs NoRoom) h said = said
-  at_defs (Unopened place) h said = inl record { rose = h.1; place = None; place_is = tt; said = subst (λ (p : Option ℕ). Says written faults (Unopened p) old new) h.0 said }
+  at_defs (Unopened place) h said = inl record { rose = h.1; place = None; place_is = tt; left = h.2; said = subst (λ (p : Option ℕ). Says written faults (Unopened p) old new) h.0 said }
   at_defs (Row s number why) h said = absurd h
   at_defs (Read place) h said = inl record { rose = h.1; place = None; place_is = tt; said = subst (λ (p : Option ℕ). Says written faults (Read p) old new) h.0 said }
   at_defs (FullSource s) h said = absurd h
@@ -126,7 +126,7 @@ module _ {K : Type 0} (written : K → Option (List ℕ)) (faults : K → ℕ) (
   at_defs ReportFull h said = absurd h
   at_defs NoMemory h said = said
 
-  at_report : (d : Definitions) → AreDefsOf (told c.defs) d → (f : Fault) → StopsAtReport (told c.report) counts f → Says written faults f old new → Answered (status_of f)
+  at_report : (d : Definitions) → AreDefsOf (told c.defs) d → (f : Fault) → StopsAtReport (told c.report) (c.report ∷ c.sources) counts f → Says written faults f old new → Answered (status_of f)
   unfolding Answered
   at_report d read Usage h said = absurd h
   at_report d read (Defs cause) h said = absurd h
@@ -135,7 +135,7 @@ module _ {K : Type 0} (written : K → Option (List ℕ)) (faults : K → ℕ) (
   at_report d read (Read place) h said = absurd h
   at_report d read (FullSource s) h said = absurd h
   at_report d read (FullShard k) h said = absurd h
-  at_report d read ReportOpen h said = inr record { rose = h; accepted = λ bytes t. (d, read bytes t); said = said }
+  at_report d read ReportOpen h said = inr record { rose = h.0; accepted = λ bytes t. (d, read bytes t); left = h.1; said = said }
   at_report d read ReportRead h said = inr record { rose = h; accepted = λ bytes t. (d, read bytes t); said = said }
   at_report d read ReportFull h said = stopped ReportFull status.Full refl (long_report told c d read h) said
   at_report d read NoMemory h said = said
@@ -145,7 +145,7 @@ module _ {K : Type 0} (written : K → Option (List ℕ)) (faults : K → ℕ) (
   at_sources d read text t Usage h said = absurd h
   at_sources d read text t (Defs cause) h said = absurd h
   at_sources d read text t (Unopened None) h said = absurd h
-  at_sources d read text t (Unopened (Some source)) h said = inl record { rose = h.1; place = Some source; place_is = (h.0, λ bytes is. (d, read bytes is)); said = said }
+  at_sources d read text t (Unopened (Some source)) h said = inl record { rose = h.1; place = Some source; place_is = (h.0, λ bytes is. (d, read bytes is)); left = h.2; said = said }
   at_sources d read text t (Row s number why) h said =
       stopped (Row s number why) status.BadRow refl (behind_report told c d read (λ x. CallsForFault x (Row s number why)) tt text t (refused_source told (reading_run c) d s (bad_record number why) h)) said
   at_sources d read text t (Read None) h said = absurd h
@@ -176,17 +176,17 @@ module _ {K : Type 0} (written : K → Option (List ℕ)) (faults : K → ℕ) (
   check_stops f (inl h) said = at_defs f h said
   check_stops f (inr h) said = at_either h.d h.read f h.cause said
 
-  by_finding : (finding : Finding) → MayBeFound c told (called_by_check told c) finding → Appends written faults (finding_line finding) old new → Answered (finding_status finding)
+  by_finding : counts.left [] → (finding : Finding) → MayBeFound c told (called_by_check told c) finding → Appends written faults (finding_line finding) old new → Answered (finding_status finding)
   unfolding Answered
-  by_finding found.Lawful is out = record { finding = found.Lawful; finding_is = is; status_is = refl; went_out = out }
-  by_finding (found.Text line) is out = record { finding = found.Text line; finding_is = is; status_is = refl; went_out = out }
-  by_finding (found.Shards n) is out = record { finding = found.Shards n; finding_is = is; status_is = refl; went_out = out }
-  by_finding (found.Journal shard source) is out = record { finding = found.Journal shard source; finding_is = is; status_is = refl; went_out = out }
+  by_finding opened found.Lawful is out = record { finding = found.Lawful; finding_is = is; all_opened = opened; status_is = refl; went_out = out }
+  by_finding opened (found.Text line) is out = record { finding = found.Text line; finding_is = is; all_opened = opened; status_is = refl; went_out = out }
+  by_finding opened (found.Shards n) is out = record { finding = found.Shards n; finding_is = is; all_opened = opened; status_is = refl; went_out = out }
+  by_finding opened (found.Journal shard source) is out = record { finding = found.Journal shard source; finding_is = is; all_opened = opened; status_is = refl; went_out = out }
 
   -- a finding whose line was written, or whose write failed, is the answer of the check
-  pub check_finds : (finding : Finding) → IsFindingOfFiles told c finding → (s : Status)
+  pub check_finds : (finding : Finding) → IsFindingOfFiles told c finding → counts.left [] → (s : Status)
       → ((s ≡ finding_status finding) × Appends written faults (finding_line finding) old new) ⊎ ((s ≡ status.WriteFault) × Fails written faults (finding_line finding) old new)
       → IsCheckAnswer written faults c told counts old new s
   unfolding Answered
-  check_finds finding files s (inl (is, out)) = subst Answered (sym is) (by_finding finding (may_be_found told c finding files) out)
-  check_finds finding files s (inr (is, failed)) = subst Answered (sym is) record { finding = finding; finding_is = may_be_found told c finding files; failed = failed }
+  check_finds finding files opened s (inl (is, out)) = subst Answered (sym is) (by_finding opened finding (may_be_found told c finding files) out)
+  check_finds finding files opened s (inr (is, failed)) = subst Answered (sym is) record { finding = finding; finding_is = may_be_found told c finding files; all_opened = opened; failed = failed }

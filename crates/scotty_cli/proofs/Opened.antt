@@ -1,7 +1,7 @@
 -- Sources that are opened one by one, and given back.
-use Rattle.std.proofs.Common.{◌≡◌, ◌∙◌, ◌<◌, ◌≤◌, ◌+◌, ◌++◌, ℕ, zero, suc, List, [], ◌∷◌, length, get_or, Option, sym, subst, ap, refl, arith, inl, inr, ⊎_elim, length-append}
+use Rattle.std.proofs.Common.{◌≡◌, ◌∙◌, ◌<◌, ◌≤◌, ◌+◌, ◌++◌, ℕ, zero, suc, List, [], ◌∷◌, drop, length, get_or, Option, sym, subst, ap, refl, arith, inl, inr, ⊎_elim, length-append}
 use Rattle.std.proofs.lemmas.Bool.{cases_lt}
-use Rattle.std.proofs.lemmas.List.{get_or_append_left, get_or_push}
+use Rattle.std.proofs.lemmas.List.{drop_more, get_or_append_left, get_or_push}
 use Rattle.stream_base.specs.Limits.{Definitions}
 use Rattle.stream_base.specs.Outside.{Rose}
 use Rattle.source_feed.specs.FileFeedState.{FileFeedState}
@@ -18,6 +18,10 @@ rose_since a b c least (inr last) = inr last
 pub rose_still : (a b c faults : ℕ) → a ≤ b → Rose a b → (0 < faults → Rose b c) → (faults ≡ 0 → c ≡ b) → Rose a c
 rose_still a b c zero least rose failed quiet = subst (Rose a) (sym (quiet refl)) rose
 rose_still a b c (suc n) least rose failed quiet = rose_since a b c least (failed (omega arith))
+
+-- where the names from a place on may be opened, the one at that place is next
+pub name_is_next : {F : Type 0} (may_open : F → List (List ℕ) → Type 0) (files : F) (names : List (List ℕ)) (i : ℕ) (name : List ℕ) → i < length names → get_or names i [] ≡ name → may_open files (drop i names) → may_open files (name ∷ drop (i + 1) names)
+name_is_next may_open files names i name l at may = subst (λ n. may_open files (n ∷ drop (i + 1) names)) at (subst (may_open files) (drop_more names i [] l) may)
 
 module _ {S : Type 0} (rest : S → Option (List ℕ)) (faults : S → ℕ) (told : Telling) (names : List (List ℕ)) (d : Definitions) where
   -- one feed more

@@ -50,37 +50,42 @@ pub if_err : {T E : Type 0} (r : Result T E) (P Q : E → Type 0) → IfErr r P 
 if_err (Ok x) P Q h f = tt
 if_err (Err e) P Q h f = f e h
 
-stops_at_bytes : (told : Option (List ℕ)) (counts : Counts) (read : List ℕ) → ((bytes : List ℕ) → told ≡ Some bytes → read ≡ bytes) → (fault : Fault) → StopsAtBytes read fault → StopsAtDefs told counts fault
-stops_at_bytes told counts read is Usage h = h
-stops_at_bytes told counts read is (Defs Long) h = λ bytes t. subst (λ (b : List ℕ). reading_of b ≡ Err Long) (is bytes t) (h read refl)
-stops_at_bytes told counts read is (Defs Toml) h = λ bytes t. subst (λ (b : List ℕ). reading_of b ≡ Err Toml) (is bytes t) (h read refl)
-stops_at_bytes told counts read is (Defs (Shape w)) h = λ bytes t. subst (λ (b : List ℕ). reading_of b ≡ Err (Shape w)) (is bytes t) (h read refl)
-stops_at_bytes told counts read is (Defs (Limit w)) h = λ bytes t. subst (λ (b : List ℕ). reading_of b ≡ Err (Limit w)) (is bytes t) (h read refl)
-stops_at_bytes told counts read is (Defs Many) h = λ bytes t. subst (λ (b : List ℕ). reading_of b ≡ Err Many) (is bytes t) (h read refl)
-stops_at_bytes told counts read is (Defs NoRoom) h = tt
-stops_at_bytes told counts read is (Unopened place) h = absurd h
-stops_at_bytes told counts read is (Row source number why) h = h
-stops_at_bytes told counts read is (Read place) h = absurd h
-stops_at_bytes told counts read is (FullSource source) h = h
-stops_at_bytes told counts read is (FullShard shard) h = h
-stops_at_bytes told counts read is ReportOpen h = h
-stops_at_bytes told counts read is ReportRead h = h
-stops_at_bytes told counts read is ReportFull h = h
-stops_at_bytes told counts read is NoMemory h = tt
+-- a fact that holds anyway holds of a success
+pub on_ok : {T E : Type 0} (r : Result T E) (P : Type 0) → P → OnOk r P
+on_ok (Ok x) P h = h
+on_ok (Err e) P h = tt
+
+stops_at_bytes : (told : Option (List ℕ)) (names : List (List ℕ)) (counts : Counts) (read : List ℕ) → ((bytes : List ℕ) → told ≡ Some bytes → read ≡ bytes) → (fault : Fault) → StopsAtBytes read fault → StopsAtDefs told names counts fault
+stops_at_bytes told names counts read is Usage h = h
+stops_at_bytes told names counts read is (Defs Long) h = λ bytes t. subst (λ (b : List ℕ). reading_of b ≡ Err Long) (is bytes t) (h read refl)
+stops_at_bytes told names counts read is (Defs Toml) h = λ bytes t. subst (λ (b : List ℕ). reading_of b ≡ Err Toml) (is bytes t) (h read refl)
+stops_at_bytes told names counts read is (Defs (Shape w)) h = λ bytes t. subst (λ (b : List ℕ). reading_of b ≡ Err (Shape w)) (is bytes t) (h read refl)
+stops_at_bytes told names counts read is (Defs (Limit w)) h = λ bytes t. subst (λ (b : List ℕ). reading_of b ≡ Err (Limit w)) (is bytes t) (h read refl)
+stops_at_bytes told names counts read is (Defs Many) h = λ bytes t. subst (λ (b : List ℕ). reading_of b ≡ Err Many) (is bytes t) (h read refl)
+stops_at_bytes told names counts read is (Defs NoRoom) h = tt
+stops_at_bytes told names counts read is (Unopened place) h = absurd h
+stops_at_bytes told names counts read is (Row source number why) h = h
+stops_at_bytes told names counts read is (Read place) h = absurd h
+stops_at_bytes told names counts read is (FullSource source) h = h
+stops_at_bytes told names counts read is (FullShard shard) h = h
+stops_at_bytes told names counts read is ReportOpen h = h
+stops_at_bytes told names counts read is ReportRead h = h
+stops_at_bytes told names counts read is ReportFull h = h
+stops_at_bytes told names counts read is NoMemory h = tt
 
 -- why a definitions file stops a run, by what came of reading it
-pub stops_at_reading : (told left : Option (List ℕ)) (counts : Counts) (faults : ℕ) (read : Result (Vec ℕ Global) WholeFault)
+pub stops_at_reading : (told left : Option (List ℕ)) (names : List (List ℕ)) (counts : Counts) (faults : ℕ) (read : Result (Vec ℕ Global) WholeFault)
     → IfOk read (λ b. told ≡ with_front b.items left) → OnOk read (IfSome left (λ l. l ≡ []))
     → (IsErrOf read WholeTooLong → PassesLimit BYTES_MAX told left)
     → (IsErrOf read WholeRead → Rose 0 faults)
     → (0 < faults → Rose counts.reads.before counts.reads.after)
-    → (fault : Fault) → StopsAtReading read fault → StopsAtDefs told counts fault
-stops_at_reading told left counts faults (Ok b) whole ends long failed rose fault h =
-    stops_at_bytes told counts b.items (λ bytes t. read_whole_is_told told left b.items bytes whole ends t) fault h
-stops_at_reading told left counts faults (Err WholeRead) whole ends long failed rose fault h =
-    subst (StopsAtDefs told counts) (sym h) (refl, rose_from_none faults counts.reads.before counts.reads.after (failed refl) rose)
-stops_at_reading told left counts faults (Err WholeTooLong) whole ends long failed rose fault h =
+    → (fault : Fault) → StopsAtReading read fault → StopsAtDefs told names counts fault
+stops_at_reading told left names counts faults (Ok b) whole ends long failed rose fault h =
+    stops_at_bytes told names counts b.items (λ bytes t. read_whole_is_told told left b.items bytes whole ends t) fault h
+stops_at_reading told left names counts faults (Err WholeRead) whole ends long failed rose fault h =
+    subst (StopsAtDefs told names counts) (sym h) (refl, rose_from_none faults counts.reads.before counts.reads.after (failed refl) rose)
+stops_at_reading told left names counts faults (Err WholeTooLong) whole ends long failed rose fault h =
     let l = long refl in
-    subst (StopsAtDefs told counts) (sym h) (λ bytes t. long_is_refused bytes (read_too_long_is_told told left l.taken bytes BYTES_MAX l.many l.given t))
-stops_at_reading told left counts faults (Err WholeMemory) whole ends long failed rose fault h =
-    subst (StopsAtDefs told counts) (sym h) tt
+    subst (StopsAtDefs told names counts) (sym h) (λ bytes t. long_is_refused bytes (read_too_long_is_told told left l.taken bytes BYTES_MAX l.many l.given t))
+stops_at_reading told left names counts faults (Err WholeMemory) whole ends long failed rose fault h =
+    subst (StopsAtDefs told names counts) (sym h) tt

@@ -1,5 +1,5 @@
 -- The answer to a run: its status, and what was written.
-use Rattle.std.specs.Prelude.{◌≡◌, ◌<◌, ◌⊎◌, ℕ, List, [], length, Option, None, Some, Ok, Contains, slice_index_or, ⊤}
+use Rattle.std.specs.Prelude.{◌≡◌, ◌<◌, ◌⊎◌, ◌∷◌, ℕ, List, [], drop, length, Option, None, Some, Ok, Contains, slice_index_or, ⊤}
 use Rattle.stream_base.specs.Limits.{Definitions}
 use Rattle.stream_base.specs.Outside.{Rose}
 use Rattle.stream_base.specs.declared.entry.Entry.{Entry}
@@ -19,7 +19,7 @@ use Rattle.emission_text.specs.Sending.{Appends, Fails}
 use Rattle.emission_text.specs.declared.fault.Fault.{Fault}
 use Rattle.emission_text.specs.declared.fault.Fault.TheVariants as stop
 use Rattle.scotty_cli.specs.Called.{Called, called_by_check, called_for, reading_run, fault, full, report, unknown}
-use Rattle.scotty_cli.specs.Outside.{Count, Counts, Telling, WhereTold}
+use Rattle.scotty_cli.specs.Outside.{Counts, Telling, WhereTold}
 use Rattle.scotty_cli.specs.Statuses.{finding_status, status_of}
 use Rattle.scotty_cli.specs.Words.{Check, Made, Run}
 use Rattle.scotty_cli.specs.declared.status.Status.{Status}
@@ -64,6 +64,11 @@ abbrev pub MayBeUnread : Telling → Run → Option ℕ → Type 0
 MayBeUnread told run None = ⊤
 MayBeUnread told run (Some source) = (source < length run.sources) × AreAccepted told run × AreUnrefusedBelow told run source
 
+-- the names from a place on: all of these from the definitions on, and of a run's sources those from one on
+abbrev pub names_from : List (List ℕ) → Run → Option ℕ → List (List ℕ)
+names_from names run None = names
+names_from names run (Some source) = drop source run.sources
+
 -- the summary of a made run: that of the final rows of its generated sources, which knows of no shard and no schedule
 abbrev pub made_summary : Made → List ℕ
 made_summary m = summary_of m.rows (length (made_definitions).windows) (final_rows made_definitions (made_sources m.seed m.rows m.sources))
@@ -87,23 +92,26 @@ module _ {K : Type 0} (written : K → Option (List ℕ)) (faults : K → ℕ) w
     pub called_is : CallsForFault called answered
     pub said : Says answered old new
 
-  -- a report that is called for was written whole
-  pub record IsReported (run : Run) (called : Called) (old new : K) : Type 0 where
+  -- a report that is called for was written whole, and no name is left
+  pub record IsReported (run : Run) (called : Called) (counts : Counts) (old new : K) : Type 0 where
     pub text : List ℕ
     pub text_is : IsReportText run called text
+    pub all_opened : counts.left []
     pub went_out : Appends written faults text old new
 
   -- or a write of it failed
-  pub record IsCutOff (run : Run) (called : Called) (old new : K) : Type 0 where
+  pub record IsCutOff (run : Run) (called : Called) (counts : Counts) (old new : K) : Type 0 where
     pub text : List ℕ
     pub text_is : IsReportText run called text
+    pub all_opened : counts.left []
     pub failed : Fails written faults text old new
 
-  -- an open failed, by its count, and the line names a place
-  pub record IsUnopened (run : Run) (told : Telling) (counts : Counts) (old new : K) : Type 0 where
+  -- an open failed, by its count, and the line names a place: of all these names, those from it on are left
+  pub record IsUnopened (names : List (List ℕ)) (run : Run) (told : Telling) (counts : Counts) (old new : K) : Type 0 where
     pub rose : Rose counts.opens.before counts.opens.after
     pub place : Option ℕ
     pub place_is : MayBeUnopened told run place
+    pub left : counts.left (names_from names run place)
     pub said : Says (stop.Unopened place) old new
 
   -- a read failed, by its count, and the line names a place
@@ -115,12 +123,12 @@ module _ {K : Type 0} (written : K → Option (List ℕ)) (faults : K → ℕ) w
 
   -- the answer to a run: the report or the first fault that its bytes call for; with three exceptions: an open, a read or a write failed, by its count, and memory ran out
   abbrev pub IsAnswer : Run → Telling → Counts → K → K → Status → Type 0
-  IsAnswer run told counts old new Done = IsReported run (called_for told run) old new
-  IsAnswer run told counts old new WriteFault = IsCutOff run (called_for told run) old new
+  IsAnswer run told counts old new Done = IsReported run (called_for told run) counts old new
+  IsAnswer run told counts old new WriteFault = IsCutOff run (called_for told run) counts old new
   IsAnswer run told counts old new BadDefs = IsStopped (called_for told run) BadDefs old new
   IsAnswer run told counts old new BadRow = IsStopped (called_for told run) BadRow old new
   IsAnswer run told counts old new Full = IsStopped (called_for told run) Full old new
-  IsAnswer run told counts old new OpenFault = IsUnopened run told counts old new
+  IsAnswer run told counts old new OpenFault = IsUnopened (run.defs ∷ run.sources) run told counts old new
   IsAnswer run told counts old new ReadFault = IsUnread run told counts old new
   IsAnswer run told counts old new NoMemory = Says stop.NoMemory old new
   IsAnswer run told counts old new Usage = ⊥
@@ -139,34 +147,43 @@ module _ {K : Type 0} (written : K → Option (List ℕ)) (faults : K → ℕ) w
   IsMadeAnswer m old new Usage = ⊥
   IsMadeAnswer m old new Unlawful = ⊥
 
-  -- the finding of a report is that which is called for, its line was written, and the status is its own
-  pub record IsFound (c : Check) (told : Telling) (status : Status) (old new : K) : Type 0 where
+  -- the finding of a report is that which is called for, its line was written, the status is its own, and no name is left
+  pub record IsFound (c : Check) (told : Telling) (counts : Counts) (status : Status) (old new : K) : Type 0 where
     pub finding : Finding
     pub finding_is : MayBeFound c told (called_by_check told c) finding
+    pub all_opened : counts.left []
     pub status_is : finding_status finding ≡ status
     pub went_out : Appends written faults (finding_line finding) old new
 
   -- or a write of its line failed
-  pub record IsFindingCutOff (c : Check) (told : Telling) (old new : K) : Type 0 where
+  pub record IsFindingCutOff (c : Check) (told : Telling) (counts : Counts) (old new : K) : Type 0 where
     pub finding : Finding
     pub finding_is : MayBeFound c told (called_by_check told c) finding
+    pub all_opened : counts.left []
     pub failed : Fails written faults (finding_line finding) old new
 
-  -- the definitions were accepted, a count rose, and the line says that it was the report's
-  pub record IsReportLost (c : Check) (told : Telling) (count : Count) (answered : Fault) (old new : K) : Type 0 where
-    pub rose : Rose count.before count.after
+  -- the definitions were accepted, an open failed, by its count, and the line says that it was the report's: it and the sources are left
+  pub record IsReportUnopened (c : Check) (told : Telling) (counts : Counts) (old new : K) : Type 0 where
+    pub rose : Rose counts.opens.before counts.opens.after
     pub accepted : AreAccepted told (reading_run c)
-    pub said : Says answered old new
+    pub left : counts.left (c.report ∷ c.sources)
+    pub said : Says stop.ReportOpen old new
+
+  -- the definitions were accepted, a read failed, by its count, and the line says that it was the report's
+  pub record IsReportUnread (c : Check) (told : Telling) (counts : Counts) (old new : K) : Type 0 where
+    pub rose : Rose counts.reads.before counts.reads.after
+    pub accepted : AreAccepted told (reading_run c)
+    pub said : Says stop.ReportRead old new
 
   -- the answer to a check: the line of the finding that its files call for, or the first fault that they do; with three exceptions: an open, a read or a write failed, by its count, and memory ran out
   abbrev pub IsCheckAnswer : Check → Telling → Counts → K → K → Status → Type 0
-  IsCheckAnswer c told counts old new Done = IsFound c told Done old new
-  IsCheckAnswer c told counts old new Unlawful = IsFound c told Unlawful old new
-  IsCheckAnswer c told counts old new WriteFault = IsFindingCutOff c told old new
+  IsCheckAnswer c told counts old new Done = IsFound c told counts Done old new
+  IsCheckAnswer c told counts old new Unlawful = IsFound c told counts Unlawful old new
+  IsCheckAnswer c told counts old new WriteFault = IsFindingCutOff c told counts old new
   IsCheckAnswer c told counts old new BadDefs = IsStopped (called_by_check told c) BadDefs old new
   IsCheckAnswer c told counts old new BadRow = IsStopped (called_by_check told c) BadRow old new
   IsCheckAnswer c told counts old new Full = IsStopped (called_by_check told c) Full old new
-  IsCheckAnswer c told counts old new OpenFault = IsUnopened (reading_run c) told counts old new ⊎ IsReportLost c told counts.opens stop.ReportOpen old new
-  IsCheckAnswer c told counts old new ReadFault = IsUnread (reading_run c) told counts old new ⊎ IsReportLost c told counts.reads stop.ReportRead old new
+  IsCheckAnswer c told counts old new OpenFault = IsUnopened (c.defs ∷ c.report ∷ c.sources) (reading_run c) told counts old new ⊎ IsReportUnopened c told counts old new
+  IsCheckAnswer c told counts old new ReadFault = IsUnread (reading_run c) told counts old new ⊎ IsReportUnread c told counts old new
   IsCheckAnswer c told counts old new NoMemory = Says stop.NoMemory old new
   IsCheckAnswer c told counts old new Usage = ⊥

@@ -1,5 +1,5 @@
 -- Why the files of a run stop it, by what they tell, and by the counts of failed opens and reads.
-use Rattle.std.specs.Prelude.{◌≡◌, ◌≤◌, ◌<◌, ◌⊎◌, ℕ, List, [], length, map, All, Option, Some, None, Result, Ok, Err, Vec, slice_index_or, ⊤}
+use Rattle.std.specs.Prelude.{◌≡◌, ◌≤◌, ◌<◌, ◌⊎◌, ◌∷◌, ℕ, List, [], drop, length, map, All, Option, Some, None, Result, Ok, Err, Vec, slice_index_or, ⊤}
 use Rattle.std.specs.declared.alloc.Global.{Global}
 use Rattle.source_feed.specs.declared.whole_fault.WholeFault.{WholeFault}
 use Rattle.source_feed.specs.declared.whole_fault.WholeFault.TheVariants.{Read as WholeRead, TooLong as WholeTooLong, NoMemory as WholeMemory}
@@ -31,19 +31,19 @@ RefusesDefs told (Limit window) = WhereTold told (λ bytes. reading_of bytes ≡
 RefusesDefs told Many = WhereTold told (λ bytes. reading_of bytes ≡ Err Many)
 RefusesDefs told NoRoom = ⊤
 
--- why the definitions stop a run: they can't be opened or read, or they are refused
-abbrev pub StopsAtDefs : Option (List ℕ) → Counts → Fault → Type 0
-StopsAtDefs told counts Usage = ⊥
-StopsAtDefs told counts (Defs fault) = RefusesDefs told fault
-StopsAtDefs told counts (Unopened place) = (place ≡ None) × Rose counts.opens.before counts.opens.after
-StopsAtDefs told counts (Row source number why) = ⊥
-StopsAtDefs told counts (Read place) = (place ≡ None) × Rose counts.reads.before counts.reads.after
-StopsAtDefs told counts (FullSource source) = ⊥
-StopsAtDefs told counts (FullShard shard) = ⊥
-StopsAtDefs told counts ReportOpen = ⊥
-StopsAtDefs told counts ReportRead = ⊥
-StopsAtDefs told counts ReportFull = ⊥
-StopsAtDefs told counts NoMemory = ⊤
+-- why the definitions stop a run: they can't be opened, and all these names are left, or they can't be read, or they are refused
+abbrev pub StopsAtDefs : Option (List ℕ) → List (List ℕ) → Counts → Fault → Type 0
+StopsAtDefs told names counts Usage = ⊥
+StopsAtDefs told names counts (Defs fault) = RefusesDefs told fault
+StopsAtDefs told names counts (Unopened place) = (place ≡ None) × Rose counts.opens.before counts.opens.after × counts.left names
+StopsAtDefs told names counts (Row source number why) = ⊥
+StopsAtDefs told names counts (Read place) = (place ≡ None) × Rose counts.reads.before counts.reads.after
+StopsAtDefs told names counts (FullSource source) = ⊥
+StopsAtDefs told names counts (FullShard shard) = ⊥
+StopsAtDefs told names counts ReportOpen = ⊥
+StopsAtDefs told names counts ReportRead = ⊥
+StopsAtDefs told names counts ReportFull = ⊥
+StopsAtDefs told names counts NoMemory = ⊤
 
 -- the definitions of a run are those that the file's bytes spell
 abbrev pub AreDefsOf : Option (List ℕ) → Definitions → Type 0
@@ -79,12 +79,13 @@ pub record IsOverfull (told : Telling) (d : Definitions) (run : Run) (k : ℕ) :
   pub unrefused : NoneRefusedBelow told d run.sources (length run.sources)
   pub many : (all : List (List Entry)) → AreEntriesOf told d run.sources all → JOURNAL_MAX < count_routed run.shards all k
 
--- why the sources of a run stop it: one can't be opened; the first in trouble can't be read, is too long, or has a refused record; or too many entries go to a shard
+-- why the sources of a run stop it: one can't be opened, and it and those behind it are left; the first in trouble can't be read, is too long, or has a refused record; or too many entries go to a shard
 abbrev pub StopsAtSources : Telling → Run → Definitions → Counts → Fault → Type 0
 StopsAtSources told run d counts Usage = ⊥
 StopsAtSources told run d counts (Defs fault) = ⊥
 StopsAtSources told run d counts (Unopened None) = ⊥
-StopsAtSources told run d counts (Unopened (Some source)) = (source < length run.sources) × Rose counts.opens.before counts.opens.after
+StopsAtSources told run d counts (Unopened (Some source)) =
+    (source < length run.sources) × Rose counts.opens.before counts.opens.after × counts.left (drop source run.sources)
 StopsAtSources told run d counts (Row source number why) = IsFirstRefused told d run.sources source (bad_record number why)
 StopsAtSources told run d counts (Read None) = ⊥
 StopsAtSources told run d counts (Read (Some source)) =
@@ -118,7 +119,7 @@ pub record StopsBehindDefs (told : Telling) (run : Run) (counts : Counts) (fault
 
 -- why the files of a run stop it: the definitions do, or they are accepted and the sources do
 abbrev pub StopsAtFiles : Telling → Run → Counts → Fault → Type 0
-StopsAtFiles told run counts fault = StopsAtDefs (told run.defs) counts fault ⊎ StopsBehindDefs told run counts fault
+StopsAtFiles told run counts fault = StopsAtDefs (told run.defs) (run.defs ∷ run.sources) counts fault ⊎ StopsBehindDefs told run counts fault
 
 -- why bytes that were read are refused as definitions
 abbrev pub StopsAtBytes : List ℕ → Fault → Type 0

@@ -1,5 +1,5 @@
 -- What is found of a report by the files that a check names, and why these stop it.
-use Rattle.std.specs.Prelude.{◌<◌, ◌⊎◌, ℕ, List, length, Option, ⊤}
+use Rattle.std.specs.Prelude.{◌<◌, ◌⊎◌, ◌∷◌, ℕ, List, length, Option, ⊤}
 use Rattle.stream_base.specs.Limits.{Definitions}
 use Rattle.stream_base.specs.Outside.{Rose}
 use Rattle.stream_base.specs.declared.entry.Entry.{Entry}
@@ -22,19 +22,19 @@ report_fault WholeRead = ReportRead
 report_fault WholeTooLong = ReportFull
 report_fault WholeMemory = NoMemory
 
--- why the report stops a check: it can't be opened or read, or is too long
-abbrev pub StopsAtReport : Option (List ℕ) → Counts → Fault → Type 0
-StopsAtReport told counts Usage = ⊥
-StopsAtReport told counts (Defs fault) = ⊥
-StopsAtReport told counts (Unopened place) = ⊥
-StopsAtReport told counts (Row source number why) = ⊥
-StopsAtReport told counts (Read place) = ⊥
-StopsAtReport told counts (FullSource source) = ⊥
-StopsAtReport told counts (FullShard shard) = ⊥
-StopsAtReport told counts ReportOpen = Rose counts.opens.before counts.opens.after
-StopsAtReport told counts ReportRead = Rose counts.reads.before counts.reads.after
-StopsAtReport told counts ReportFull = WhereTold told (λ bytes. SOURCE_MAX < length bytes)
-StopsAtReport told counts NoMemory = ⊤
+-- why the report stops a check: it can't be opened, and all these names are left, or it can't be read, or is too long
+abbrev pub StopsAtReport : Option (List ℕ) → List (List ℕ) → Counts → Fault → Type 0
+StopsAtReport told names counts Usage = ⊥
+StopsAtReport told names counts (Defs fault) = ⊥
+StopsAtReport told names counts (Unopened place) = ⊥
+StopsAtReport told names counts (Row source number why) = ⊥
+StopsAtReport told names counts (Read place) = ⊥
+StopsAtReport told names counts (FullSource source) = ⊥
+StopsAtReport told names counts (FullShard shard) = ⊥
+StopsAtReport told names counts ReportOpen = Rose counts.opens.before counts.opens.after × counts.left names
+StopsAtReport told names counts ReportRead = Rose counts.reads.before counts.reads.after
+StopsAtReport told names counts ReportFull = WhereTold told (λ bytes. SOURCE_MAX < length bytes)
+StopsAtReport told names counts NoMemory = ⊤
 
 -- the report was read, and the sources stop the check
 pub record StopsBehindReport (told : Telling) (c : Check) (d : Definitions) (counts : Counts) (fault : Fault) : Type 0 where
@@ -44,7 +44,7 @@ pub record StopsBehindReport (told : Telling) (c : Check) (d : Definitions) (cou
 
 -- why a check stops behind definitions that are accepted: the report stops it, or it was read and the sources do
 abbrev pub StopsBehindDefs : Telling → Check → Definitions → Counts → Fault → Type 0
-StopsBehindDefs told c d counts fault = StopsAtReport (told c.report) counts fault ⊎ StopsBehindReport told c d counts fault
+StopsBehindDefs told c d counts fault = StopsAtReport (told c.report) (c.report ∷ c.sources) counts fault ⊎ StopsBehindReport told c d counts fault
 
 -- the definitions were accepted, and what comes behind them stops the check
 pub record StopsBehindAcceptance (told : Telling) (c : Check) (counts : Counts) (fault : Fault) : Type 0 where
@@ -54,7 +54,8 @@ pub record StopsBehindAcceptance (told : Telling) (c : Check) (counts : Counts) 
 
 -- why the files of a check stop it, or memory ran out
 abbrev pub StopsAtCheck : Telling → Check → Counts → Fault → Type 0
-StopsAtCheck told c counts fault = StopsAtDefs (told c.defs) counts fault ⊎ StopsBehindAcceptance told c counts fault
+StopsAtCheck told c counts fault =
+    StopsAtDefs (told c.defs) (c.defs ∷ c.report ∷ c.sources) counts fault ⊎ StopsBehindAcceptance told c counts fault
 
 -- the finding of a text, by the bytes of the sources
 pub record IsFoundIn (told : Telling) (c : Check) (d : Definitions) (text : List ℕ) (finding : Finding) : Type 0 where

@@ -1,5 +1,5 @@
 -- The feeds of sources that were opened, and not read yet.
-use Rattle.std.specs.Prelude.{◌≡◌, ◌<◌, ℕ, List, length, Option, Some, slice_index_or, ⊤}
+use Rattle.std.specs.Prelude.{◌≡◌, ◌<◌, ℕ, List, drop, length, Option, Some, slice_index_or, ⊤}
 use Rattle.stream_base.specs.Limits.{Definitions}
 use Rattle.stream_base.specs.Outside.{Rose}
 use Rattle.source_feed.specs.FeedState.{Closes}
@@ -21,16 +21,17 @@ module _ {S : Type 0} (rest : S → Option (List ℕ)) (faults : S → ℕ) wher
   AreUnread told sources d feeds =
       (i : ℕ) (f : FileFeedState S) → i < length feeds → IsUnread (told_at told sources i) i d (slice_index_or feeds i f)
 
--- why the opening of so many sources stops a run: one can't be opened, or memory ran out
-abbrev pub StopsAtOpening : ℕ → Counts → Fault → Type 0
-StopsAtOpening many counts Usage = ⊥
-StopsAtOpening many counts (Defs fault) = ⊥
-StopsAtOpening many counts (Unopened place) = (source : ℕ) × (place ≡ Some source) × (source < many) × Rose counts.opens.before counts.opens.after
-StopsAtOpening many counts (Row source number why) = ⊥
-StopsAtOpening many counts (Read place) = ⊥
-StopsAtOpening many counts (FullSource source) = ⊥
-StopsAtOpening many counts (FullShard shard) = ⊥
-StopsAtOpening many counts ReportOpen = ⊥
-StopsAtOpening many counts ReportRead = ⊥
-StopsAtOpening many counts ReportFull = ⊥
-StopsAtOpening many counts NoMemory = ⊤
+-- why the opening of the sources of these names stops a run: one can't be opened, and it and those behind it are left, or memory ran out
+abbrev pub StopsAtOpening : List (List ℕ) → Counts → Fault → Type 0
+StopsAtOpening names counts Usage = ⊥
+StopsAtOpening names counts (Defs fault) = ⊥
+StopsAtOpening names counts (Unopened place) =
+    (source : ℕ) × (place ≡ Some source) × (source < length names) × Rose counts.opens.before counts.opens.after × counts.left (drop source names)
+StopsAtOpening names counts (Row source number why) = ⊥
+StopsAtOpening names counts (Read place) = ⊥
+StopsAtOpening names counts (FullSource source) = ⊥
+StopsAtOpening names counts (FullShard shard) = ⊥
+StopsAtOpening names counts ReportOpen = ⊥
+StopsAtOpening names counts ReportRead = ⊥
+StopsAtOpening names counts ReportFull = ⊥
+StopsAtOpening names counts NoMemory = ⊤

@@ -1,5 +1,5 @@
 //! The definitions file is opened, read and refused or accepted.
-ghost use Rattle.std.specs.Prelude.{◌≡◌, ◌≤◌, ℕ, List, Ok, IfOk, IfErr, IsOkAnd};
+ghost use Rattle.std.specs.Prelude.{◌≡◌, ◌≤◌, ◌∷◌, ℕ, List, Ok, IfOk, IfErr, OnOk, IsOkAnd};
 ghost use Rattle.window_defs.specs.Reading.{reading_of};
 ghost use Rattle.scotty_cli.specs.Outside.{counts_of};
 ghost use Rattle.scotty_cli.specs.Causes.{AreDefsOf, StopsAtBytes, StopsAtDefs, StopsAtReading};
@@ -12,9 +12,13 @@ use window_defs::{BYTES_MAX, DefsFault, read_defs};
 
 /// The definitions in the file of this name, where they are accepted. The file is given back.
 pub fn read_definitions<F: Files>(alloc: Global, files: &mut F, name: &str) -> Result<Defs, Fault>
+    requires planned { (rest : List (List ℕ)) × F.may_open files.old (name.now ∷ rest) }
     ensures ok { IfOk result (AreDefsOf (F.told files.old name.now)) }
-    ensures stopped { IfErr result (StopsAtDefs (F.told files.old name.now)
-        (counts_of F.failed_opens F.failed_reads files.old files.new)) }
+    ensures opened { (rest : List (List ℕ)) → F.may_open files.old (name.now ∷ rest)
+        → OnOk result (F.may_open files.new rest) }
+    ensures stopped { (rest : List (List ℕ)) → F.may_open files.old (name.now ∷ rest)
+        → IfErr result (StopsAtDefs (F.told files.old name.now) (name.now ∷ rest)
+        (counts_of F.failed_opens F.failed_reads F.may_open files.old files.new)) }
     ensures opens { F.failed_opens files.old ≤ F.failed_opens files.new }
     ensures reads { F.failed_reads files.old ≤ F.failed_reads files.new }
     ensures out { F.out files.new ≡ F.out files.old }

@@ -1,5 +1,5 @@
 //! The sources of a run are gathered into its shards.
-ghost use Rattle.std.specs.Prelude.{◌≡◌, ◌≤◌, ◌<◌, ◌+◌, ℕ, List, length, map, string_bytes, IfOk, IfErr, slice_index_or};
+ghost use Rattle.std.specs.Prelude.{◌≡◌, ◌≤◌, ◌<◌, ◌+◌, ℕ, List, [], length, map, string_bytes, IfOk, IfErr, OnOk, slice_index_or};
 ghost use Rattle.stream_base.specs.Outside.{Rose};
 ghost use Rattle.scotty_cli.specs.Causes.{AreShardsOf, StopsAtSources};
 ghost use Rattle.scotty_cli.specs.Outside.{counts_of};
@@ -31,13 +31,15 @@ pub fn gather_sources<F: Files, G: Gate, R: Threads + Wait + Sync>(
     requires few_sources { length run.now.sources.now ≤ 16 }
     requires some_shards { 1 ≤ run.now.shards }
     requires few_shards { run.now.shards ≤ 16 }
+    requires planned { F.may_open files.old (map string_bytes run.now.sources.now) }
     ensures ok { IfOk result (λ shards. AreShardsOf (F.told files.old)
         (run_of run.now.form run.now.defs.now run.now.shards run.now.way
         (map string_bytes run.now.sources.now)) defs shards.items) }
+    ensures opened { OnOk result (F.may_open files.new []) }
     ensures stopped { IfErr result (StopsAtSources (F.told files.old)
         (run_of run.now.form run.now.defs.now run.now.shards run.now.way
         (map string_bytes run.now.sources.now)) defs
-        (counts_of F.failed_opens F.failed_reads files.old files.new)) }
+        (counts_of F.failed_opens F.failed_reads F.may_open files.old files.new)) }
     ensures opens { F.failed_opens files.old ≤ F.failed_opens files.new }
     ensures reads { F.failed_reads files.old ≤ F.failed_reads files.new }
     ensures out { F.out files.new ≡ F.out files.old }
@@ -71,6 +73,8 @@ pub fn gather_sources<F: Files, G: Gate, R: Threads + Wait + Sync>(
 fn close_ends<F: Files>(files: &mut F, mut ends: Vec<FeedEnd<FileFeed<F::Input>>>)
     requires { length ends.items ≤ F.out files.old }
     ensures out { F.out files.new + length ends.items ≡ F.out files.old }
+    ensures planned { (names : List (List ℕ)) → F.may_open files.old names
+        → F.may_open files.new names }
     ensures opens { F.failed_opens files.new ≡ F.failed_opens files.old }
     ensures reads { F.failed_reads files.old ≤ F.failed_reads files.new }
     ensures failed { (i : ℕ) (e : _) → i < length ends.items

@@ -1,5 +1,5 @@
 //! The report that a check judges, and what is found of it.
-ghost use Rattle.std.specs.Prelude.{◌≡◌, ◌≤◌, ◌<◌, ℕ, List, Ok, Err, length, map, string_bytes, IfOk, IfErr};
+ghost use Rattle.std.specs.Prelude.{◌≡◌, ◌≤◌, ◌<◌, ◌∷◌, ℕ, List, [], Ok, Err, length, map, string_bytes, IfOk, IfErr, OnOk};
 ghost use Rattle.source_feed.specs.declared.whole_fault.WholeFault.{WholeFault};
 ghost use Rattle.scotty_cli.specs.Called.{reading_run};
 ghost use Rattle.scotty_cli.specs.Causes.{StopsAtSources};
@@ -29,13 +29,16 @@ pub fn find<F: Files, R: Threads>(
 ) -> Result<Finding, Fault>
     requires few_sources { length command.now.sources.now ≤ 16 }
     requires few_shards { command.now.shards ≤ 16 }
+    requires planned { F.may_open files.old (command.now.defs.now
+        ∷ command.now.report.now ∷ map string_bytes command.now.sources.now) }
     ensures ok { IfOk result (IsFindingOfFiles (F.told files.old)
         (check_of command.now.defs.now command.now.shards command.now.report.now
         (map string_bytes command.now.sources.now))) }
+    ensures opened { OnOk result (F.may_open files.new []) }
     ensures stopped { IfErr result (StopsAtCheck (F.told files.old)
         (check_of command.now.defs.now command.now.shards command.now.report.now
         (map string_bytes command.now.sources.now))
-        (counts_of F.failed_opens F.failed_reads files.old files.new)) }
+        (counts_of F.failed_opens F.failed_reads F.may_open files.old files.new)) }
     ensures out { F.out files.new ≡ F.out files.old }
 {
     match read_definitions(alloc, files, command.defs) {
@@ -54,13 +57,16 @@ fn find_behind<F: Files, R: Threads>(
 ) -> Result<Finding, Fault>
     requires few_sources { length command.now.sources.now ≤ 16 }
     requires few_shards { command.now.shards ≤ 16 }
+    requires planned { F.may_open files.old (command.now.report.now
+        ∷ map string_bytes command.now.sources.now) }
     ensures ok { IfOk result (IsFoundBehind (F.told files.old)
         (check_of command.now.defs.now command.now.shards command.now.report.now
         (map string_bytes command.now.sources.now)) defs.now) }
+    ensures opened { OnOk result (F.may_open files.new []) }
     ensures stopped { IfErr result (StopsBehindDefs (F.told files.old)
         (check_of command.now.defs.now command.now.shards command.now.report.now
         (map string_bytes command.now.sources.now)) defs.now
-        (counts_of F.failed_opens F.failed_reads files.old files.new)) }
+        (counts_of F.failed_opens F.failed_reads F.may_open files.old files.new)) }
     ensures out { F.out files.new ≡ F.out files.old }
 {
     match read_report(alloc, files, command.report) {
@@ -80,13 +86,15 @@ fn find_in<F: Files, R: Threads>(
 ) -> Result<Finding, Fault>
     requires few_sources { length command.now.sources.now ≤ 16 }
     requires few_shards { command.now.shards ≤ 16 }
+    requires planned { F.may_open files.old (map string_bytes command.now.sources.now) }
     ensures ok { IfOk result (IsFoundIn (F.told files.old)
         (check_of command.now.defs.now command.now.shards command.now.report.now
         (map string_bytes command.now.sources.now)) defs.now text.now) }
+    ensures opened { OnOk result (F.may_open files.new []) }
     ensures stopped { IfErr result (StopsAtSources (F.told files.old)
         (reading_run (check_of command.now.defs.now command.now.shards command.now.report.now
         (map string_bytes command.now.sources.now))) defs.now
-        (counts_of F.failed_opens F.failed_reads files.old files.new)) }
+        (counts_of F.failed_opens F.failed_reads F.may_open files.old files.new)) }
     ensures out { F.out files.new ≡ F.out files.old }
 {
     match read_sources(alloc, command, files, defs) {
@@ -103,10 +111,14 @@ fn find_in<F: Files, R: Threads>(
 
 // The bytes of the report in the file of this name. The file is given back.
 fn read_report<F: Files>(alloc: Global, files: &mut F, name: &str) -> Result<Vec<u8>, Fault>
+    requires planned { (rest : List (List ℕ)) × F.may_open files.old (name.now ∷ rest) }
     ensures ok { IfOk result (λ text. WhereTold (F.told files.old name.now)
         (λ bytes. IsTextOf bytes text.items)) }
-    ensures stopped { IfErr result (StopsAtReport (F.told files.old name.now)
-        (counts_of F.failed_opens F.failed_reads files.old files.new)) }
+    ensures opened { (rest : List (List ℕ)) → F.may_open files.old (name.now ∷ rest)
+        → OnOk result (F.may_open files.new rest) }
+    ensures stopped { (rest : List (List ℕ)) → F.may_open files.old (name.now ∷ rest)
+        → IfErr result (StopsAtReport (F.told files.old name.now) (name.now ∷ rest)
+        (counts_of F.failed_opens F.failed_reads F.may_open files.old files.new)) }
     ensures opens { F.failed_opens files.old ≤ F.failed_opens files.new }
     ensures reads { F.failed_reads files.old ≤ F.failed_reads files.new }
     ensures out { F.out files.new ≡ F.out files.old }

@@ -19,11 +19,13 @@ pub fn open_sources<F: Files>(
     defs: &Defs,
 ) -> Result<Vec<FileFeed<F::Input>>, Fault>
     requires few { length names.now ≤ 16 }
+    requires planned { F.may_open files.old (map string_bytes names.now) }
     ensures many { IfOk result (λ feeds. length feeds.items ≡ length names.now) }
     ensures unread { IfOk result (λ feeds. AreUnread F.Input.rest F.Input.faults (F.told files.old)
         (map string_bytes names.now) defs.now feeds.items) }
-    ensures stopped { IfErr result (StopsAtOpening (length names.now)
-        (counts_of F.failed_opens F.failed_reads files.old files.new)) }
+    ensures opened { OnOk result (F.may_open files.new []) }
+    ensures stopped { IfErr result (StopsAtOpening (map string_bytes names.now)
+        (counts_of F.failed_opens F.failed_reads F.may_open files.old files.new)) }
     ensures out { IfOk result (λ feeds. F.out files.new ≡ F.out files.old + length feeds.items) }
     ensures none_out { OnErr result (F.out files.new ≡ F.out files.old) }
     ensures opens { F.failed_opens files.old ≤ F.failed_opens files.new }
@@ -56,8 +58,13 @@ fn open_source<F: Files>(
     number: u16,
     defs: &Defs,
 ) -> Result<FileFeed<F::Input>, Failed>
+    requires planned { (rest : List (List ℕ)) × F.may_open files.old (name.now ∷ rest) }
     ensures unread { IfOk result (IsUnread F.Input.rest F.Input.faults
         (F.told files.old name.now) number defs.now) }
+    ensures opened { (rest : List (List ℕ)) → F.may_open files.old (name.now ∷ rest)
+        → OnOk result (F.may_open files.new rest) }
+    ensures unopened { (names : List (List ℕ)) → F.may_open files.old names
+        → OnErr result (F.may_open files.new names) }
     ensures out { OnOk result (F.out files.new ≡ F.out files.old + 1) }
     ensures none_out { OnErr result (F.out files.new ≡ F.out files.old) }
     ensures failed { OnErr result (Rose (F.failed_opens files.old) (F.failed_opens files.new)) }
@@ -75,6 +82,8 @@ fn open_source<F: Files>(
 pub fn close_feeds<F: Files>(files: &mut F, mut feeds: Vec<FileFeed<F::Input>>)
     requires { length feeds.items ≤ F.out files.old }
     ensures out { F.out files.new + length feeds.items ≡ F.out files.old }
+    ensures planned { (names : List (List ℕ)) → F.may_open files.old names
+        → F.may_open files.new names }
     ensures opens { F.failed_opens files.new ≡ F.failed_opens files.old }
     ensures reads { F.failed_reads files.old ≤ F.failed_reads files.new }
     ensures failed { (i : ℕ) (f : _) → i < length feeds.items

@@ -1,5 +1,5 @@
 //! The sources of a check are read whole, one after another.
-ghost use Rattle.std.specs.Prelude.{◌≡◌, ◌≤◌, ◌<◌, ℕ, List, length, map, string_bytes, IfOk, IfErr, IfSome, IsErrOf};
+ghost use Rattle.std.specs.Prelude.{◌≡◌, ◌≤◌, ◌<◌, ℕ, List, [], length, map, string_bytes, IfOk, IfErr, IfSome, IsErrOf, OnOk};
 ghost use Rattle.stream_base.specs.Outside.{Rose};
 ghost use Rattle.report_check.specs.Findings.{lists_of};
 ghost use Rattle.scotty_cli.specs.Called.{reading_run};
@@ -25,12 +25,14 @@ pub fn read_sources<F: Files>(
     defs: &Defs,
 ) -> Result<Vec<Vec<Entry>>, Fault>
     requires few { length command.now.sources.now ≤ 16 }
+    requires planned { F.may_open files.old (map string_bytes command.now.sources.now) }
     ensures ok { IfOk result (λ all. AreReadOf (F.told files.old) defs.now
         (map string_bytes command.now.sources.now) (lists_of all.items)) }
+    ensures opened { OnOk result (F.may_open files.new []) }
     ensures stopped { IfErr result (StopsAtSources (F.told files.old)
         (reading_run (check_of command.now.defs.now command.now.shards command.now.report.now
         (map string_bytes command.now.sources.now))) defs.now
-        (counts_of F.failed_opens F.failed_reads files.old files.new)) }
+        (counts_of F.failed_opens F.failed_reads F.may_open files.old files.new)) }
     ensures out { F.out files.new ≡ F.out files.old }
 {
     match open_sources(alloc, files, command.sources, defs) {

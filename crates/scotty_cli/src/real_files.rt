@@ -34,6 +34,8 @@ impl Files for RealFiles<'_> {
 
     ghost told = { λ _ name. None };
 
+    ghost may_open = { λ _ _. Unit {0} };
+
     ghost failed_opens = { λ f. f.failed_opens };
 
     ghost failed_reads = { λ f. f.failed_reads };

@@ -1,5 +1,5 @@
 //! The top call.
-ghost use Rattle.std.specs.Prelude.{◌≡◌, ◌≢◌, ◌≤◌, ◌↔◌, ◌⊎◌, ℕ, length, map, string_bytes, IfOk, IfErr};
+ghost use Rattle.std.specs.Prelude.{◌≡◌, ◌≢◌, ◌≤◌, ◌↔◌, ◌⊎◌, ◌∷◌, ℕ, [], length, map, string_bytes, IfOk, IfErr, OnOk};
 ghost use Rattle.emission_text.specs.Findings.{finding_line};
 ghost use Rattle.emission_text.specs.Report.{form_of, report_text};
 ghost use Rattle.emission_text.specs.Sending.{Appends, Fails};
@@ -31,6 +31,10 @@ use stream_base::{Files, Gate, NoMemory, Sink};
 /// feeds. A check is answered with the line of what is found of its report, by the bytes of the
 /// definitions, the report and the sources, or with the first fault, with the same exceptions as a
 /// run. Other words are answered with a fault of their own.
+///
+/// A run opens its definitions and then its sources, a check its definitions, its report and its
+/// sources: each once, in this order, and nothing else. Behind a report or a finding none is left;
+/// where one can't be opened, it is named, and those from it on are left.
 pub fn scotty<F: Files, K: Sink, G: Gate, R: Threads + Wait + Sync>(
     alloc: Global,
     rt: &R,
@@ -39,14 +43,20 @@ pub fn scotty<F: Files, K: Sink, G: Gate, R: Threads + Wait + Sync>(
     sink: &mut K,
     gate: &G,
 ) -> Status
+    requires opens_run { (run : Run) → IsRunOf (map string_bytes words.now) run
+        → F.may_open files.old (run.defs ∷ run.sources) }
+    requires opens_check { (c : Check) → IsCheckOf (map string_bytes words.now) c
+        → F.may_open files.old (c.defs ∷ c.report ∷ c.sources) }
     ensures answer { (run : Run) → IsRunOf (map string_bytes words.now) run
         → IsAnswer K.written K.faults run (F.told files.old)
-        (counts_of F.failed_opens F.failed_reads files.old files.new) sink.old sink.new result }
+        (counts_of F.failed_opens F.failed_reads F.may_open files.old files.new)
+        sink.old sink.new result }
     ensures made { (m : Made) → IsMadeOf (map string_bytes words.now) m
         → IsMadeAnswer K.written K.faults m sink.old sink.new result }
     ensures check { (c : Check) → IsCheckOf (map string_bytes words.now) c
         → IsCheckAnswer K.written K.faults c (F.told files.old)
-        (counts_of F.failed_opens F.failed_reads files.old files.new) sink.old sink.new result }
+        (counts_of F.failed_opens F.failed_reads F.may_open files.old files.new)
+        sink.old sink.new result }
     ensures usage { (result ≡ Status.Usage) ↔ ¬ (IsCommand (map string_bytes words.now)) }
     ensures usage_said { result ≡ Status.Usage
         → Says K.written K.faults Fault.Usage sink.old sink.new }
@@ -78,10 +88,13 @@ fn run<F: Files, K: Sink, G: Gate, R: Threads + Wait + Sync>(
     requires few_sources { length command.now.sources.now ≤ 16 }
     requires some_shards { 1 ≤ command.now.shards }
     requires few_shards { command.now.shards ≤ 16 }
+    requires planned { F.may_open files.old (command.now.defs.now
+        ∷ map string_bytes command.now.sources.now) }
     ensures answer { IsAnswer K.written K.faults
         (run_of command.now.form command.now.defs.now command.now.shards command.now.way
         (map string_bytes command.now.sources.now)) (F.told files.old)
-        (counts_of F.failed_opens F.failed_reads files.old files.new) sink.old sink.new result }
+        (counts_of F.failed_opens F.failed_reads F.may_open files.old files.new)
+        sink.old sink.new result }
     ensures out { F.out files.new ≡ F.out files.old }
 {
     match fill_shards(alloc, rt, command, files, gate) {
@@ -138,10 +151,13 @@ fn check<F: Files, K: Sink, R: Threads>(
 ) -> Status
     requires few_sources { length command.now.sources.now ≤ 16 }
     requires few_shards { command.now.shards ≤ 16 }
+    requires planned { F.may_open files.old (command.now.defs.now
+        ∷ command.now.report.now ∷ map string_bytes command.now.sources.now) }
     ensures answer { IsCheckAnswer K.written K.faults
         (check_of command.now.defs.now command.now.shards command.now.report.now
         (map string_bytes command.now.sources.now)) (F.told files.old)
-        (counts_of F.failed_opens F.failed_reads files.old files.new) sink.old sink.new result }
+        (counts_of F.failed_opens F.failed_reads F.may_open files.old files.new)
+        sink.old sink.new result }
     ensures out { F.out files.new ≡ F.out files.old }
 {
     match find(alloc, rt, command, files) {
@@ -183,13 +199,16 @@ fn fill_shards<F: Files, G: Gate, R: Threads + Wait + Sync>(
     requires few_sources { length command.now.sources.now ≤ 16 }
     requires some_shards { 1 ≤ command.now.shards }
     requires few_shards { command.now.shards ≤ 16 }
+    requires planned { F.may_open files.old (command.now.defs.now
+        ∷ map string_bytes command.now.sources.now) }
     ensures ok { IfOk result (λ shards. AreShardsOfFiles (F.told files.old)
         (run_of command.now.form command.now.defs.now command.now.shards command.now.way
         (map string_bytes command.now.sources.now)) shards.items) }
+    ensures opened { OnOk result (F.may_open files.new []) }
     ensures stopped { IfErr result (StopsAtFiles (F.told files.old)
         (run_of command.now.form command.now.defs.now command.now.shards command.now.way
         (map string_bytes command.now.sources.now))
-        (counts_of F.failed_opens F.failed_reads files.old files.new)) }
+        (counts_of F.failed_opens F.failed_reads F.may_open files.old files.new)) }
     ensures out { F.out files.new ≡ F.out files.old }
 {
     match read_definitions(alloc, files, command.defs) {

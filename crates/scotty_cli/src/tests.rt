@@ -9,6 +9,7 @@ mod long;
 mod made;
 mod mail;
 mod outside;
+mod planned;
 mod shards;
 mod sources;
 mod windows;

@@ -12,7 +12,7 @@ const RUN_TWO: [&str; 6] = ["run", "d", "2", "turns", "s0", "s1"];
 const MAIL_TWO: [&str; 6] = ["run", "d", "2", "mail", "s0", "s1"];
 
 // Definitions, and two sources with the numbers of their reads that fail.
-fn two_sources(
+pub fn two_sources(
     alloc: Global,
     first: (&str, Vec<u64>),
     second: (&str, Vec<u64>),
@@ -25,7 +25,7 @@ fn two_sources(
 }
 
 // How often the line stands in the text.
-fn times(text: &str, line: &str) -> usize {
+pub fn times(text: &str, line: &str) -> usize {
     let mut many = 0usize;
     for told in text.lines() {
         if told == line {

@@ -1,5 +1,5 @@
 -- The sources are opened, gathered and given back; what became of them is the run's answer.
-use Rattle.std.proofs.Common.{◌≡◌, ◌<◌, length, map, string_bytes, All, arith, sym, subst}
+use Rattle.std.proofs.Common.{◌≡◌, ◌<◌, [], length, map, string_bytes, All, arith, sym, subst}
 use Rattle.std.proofs.lemmas.List.{length-map}
 use Rattle.fan_in.specs.declared.outcome.Outcome.TheVariants.{Done}
 use Rattle.scotty_cli.specs.Outside.{counts_of}
@@ -8,7 +8,18 @@ use Rattle.scotty_cli.specs.Words.{run_of}
 use Rattle.scotty_cli.proofs.Ends.{WereGathered, end_at, failed, gathering}
 use Rattle.scotty_cli.proofs.Gathers.{shards_of, stops_at}
 use Rattle.scotty_cli.proofs.Opened.{rose_since}
+use Rattle.scotty_cli.proofs.Judged.{opening_stops}
 use Rattle.scotty_cli.proofs.gathering.gather_sources.Goals as goal
+
+pub returns-in-Err-clause-stopped : goal.returns-in-Err-clause-stopped
+returns-in-Err-clause-stopped g c =
+    let f = g.F.Files in
+    let run = run_of c.args.run.now.form c.args.run.now.defs.now c.args.run.now.shards c.args.run.now.way (map string_bytes c.args.run.now.sources.now) in
+    let counts = counts_of f.failed_opens f.failed_reads f.may_open c.args.files.now c.open_sources.new.files in
+    opening_stops (f.told c.args.files.now) run c.args.defs counts c.in-Err.fault c.in-Err.ensures.stopped
+
+pub returns-in-Ok-gather-clause-opened : goal.returns-in-Ok-gather-clause-opened
+returns-in-Ok-gather-clause-opened g c = c.close_ends.ensures.planned [] c.in-Ok.ensures.opened
 
 pub returns-in-Some-clause-stopped : goal.returns-in-Some-clause-stopped
 returns-in-Some-clause-stopped g c =
@@ -36,7 +47,7 @@ returns-in-Some-clause-stopped g c =
     } in
     let unread = c.in-Ok.ensures.unread in
     let came = gathering rest faults told run c.args.defs feeds ends shards unread were in
-    let counts = counts_of f.failed_opens f.failed_reads c.args.files.now c.close_ends.new.files in
+    let counts = counts_of f.failed_opens f.failed_reads f.may_open c.args.files.now c.close_ends.new.files in
     let trouble = subst (λ es. IsTrouble (map (λ e. e.outcome) es) c.in-Some.fault) c.deref.ensures.value c.in-Some.ensures.some in
     stops_at told run c.args.defs (map (λ e. e.outcome) ends) shards came counts
     (λ i l is.

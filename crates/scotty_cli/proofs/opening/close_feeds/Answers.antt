@@ -18,6 +18,7 @@ loop-feed-preserved g c =
     let quiet = subst (λ s. faults s ≡ 0 → f.failed_reads c.give_back.new.self ≡ f.failed_reads c.loop-feed.files) c.into_source.ensures given.quiet in
     record {
       out = let a = inv.out in let b = given.one_less in omega (arith, a, b, size, length-append left (feed ∷ []));
+      planned = λ names may. given.planned names (inv.planned names may);
       opens = given.opens ∙ inv.opens;
       reads = let a = inv.reads in let b = given.never_falls in omega (arith, a, b);
       same = λ which. given.same which ∙ inv.same which;

@@ -6,6 +6,7 @@ use Rattle.scotty_cli.proofs.opening.close_feeds.Given as goal
 abbrev pub invariant-loop-feed : goal.invariant-loop-feed
 invariant-loop-feed g l = let f = g.F.Files in record {
   out : f.out l.files + length l.initial.feeds.items ≡ f.out l.initial.files + length l.feeds.items;
+  planned : (names : List (List ℕ)) → f.may_open l.initial.files names → f.may_open l.files names;
   opens : f.failed_opens l.files ≡ f.failed_opens l.initial.files;
   reads : f.failed_reads l.initial.files ≤ f.failed_reads l.files;
   same : (which : List ℕ) → f.told l.files which ≡ f.told l.initial.files which;

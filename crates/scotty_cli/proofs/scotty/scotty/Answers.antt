@@ -6,12 +6,24 @@ use Rattle.scotty_cli.specs.Words.{Check, Made, Run, check_of, made_of, run_of}
 use Rattle.scotty_cli.proofs.WordFacts.{one_check, one_made, one_run}
 use Rattle.scotty_cli.proofs.scotty.scotty.Goals as goal
 
+pub run-requires-clause-planned : goal.run-requires-clause-planned
+run-requires-clause-planned g c lives bounds =
+    let command = c.in-Some.command in
+    let own = run_of command.form command.defs.now command.shards command.way (map string_bytes command.sources.now) in
+    c.requires.opens_run own c.in-Some.ensures.found
+
+pub check-requires-clause-planned : goal.check-requires-clause-planned
+check-requires-clause-planned g c lives bounds =
+    let command = c.in-Some-check_of.command in
+    let own = check_of command.defs.now command.shards command.report.now (map string_bytes command.sources.now) in
+    c.requires.opens_check own c.in-Some-check_of.ensures.found
+
 pub returns-in-Some-clause-answer : goal.returns-in-Some-clause-answer
 returns-in-Some-clause-answer g c run is =
     let words = map string_bytes c.args.words.now in
     let command = c.in-Some.command in
     let own = run_of command.form command.defs.now command.shards command.way (map string_bytes command.sources.now) in
-    let counts = counts_of g.F.Files.failed_opens g.F.Files.failed_reads c.args.files.now c.run.new.files in
+    let counts = counts_of g.F.Files.failed_opens g.F.Files.failed_reads g.F.Files.may_open c.args.files.now c.run.new.files in
     subst (λ (r : Run). IsAnswer g.K.Sink.written g.K.Sink.faults r (g.F.Files.told c.args.files.now) counts c.args.sink.now c.run.new.sink c.run.result)
     (one_run words own run c.in-Some.ensures.found is) c.run.ensures.answer
 
@@ -26,6 +38,6 @@ pub returns-in-Some-check_of-clause-check : goal.returns-in-Some-check_of-clause
 returns-in-Some-check_of-clause-check g c k is =
     let command = c.in-Some-check_of.command in
     let own = check_of command.defs.now command.shards command.report.now (map string_bytes command.sources.now) in
-    let counts = counts_of g.F.Files.failed_opens g.F.Files.failed_reads c.args.files.now c.check.new.files in
+    let counts = counts_of g.F.Files.failed_opens g.F.Files.failed_reads g.F.Files.may_open c.args.files.now c.check.new.files in
     subst (λ (x : Check). IsCheckAnswer g.K.Sink.written g.K.Sink.faults x (g.F.Files.told c.args.files.now) counts c.args.sink.now c.check.new.sink c.check.result)
     (one_check (map string_bytes c.args.words.now) own k c.in-Some-check_of.ensures.found is) c.check.ensures.answer
