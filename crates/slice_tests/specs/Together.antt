@@ -17,5 +17,5 @@ pub record AreOfMarks (d : Definitions) (store : Stored) (s : Marked) : Type 0 w
   pub follows : FollowsMarks store.marks (tuples_of store) s
 
 -- the store has no more tuples than there are positions before this one
-pub record HaveCome (position : ℕ) (store : Stored) : Type 0 where
-  pub few : length (tuples_of store) ≤ position
+abbrev pub HaveCome : ℕ → Stored → Type 0
+HaveCome position store = length (tuples_of store) ≤ position

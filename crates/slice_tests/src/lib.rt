@@ -4,8 +4,14 @@
 #![tactic(auto)]
 
 #[cfg(test)]
-mod contexts;
-#[cfg(test)]
 mod counts;
 #[cfg(test)]
+mod lanes;
+#[cfg(test)]
+mod marks;
+#[cfg(test)]
+mod sessions;
+#[cfg(test)]
 mod slices;
+#[cfg(test)]
+mod told;
