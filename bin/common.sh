@@ -32,7 +32,9 @@ sum_of_sources() (
     {
         sha256sum HANDLES crates.txt
         for crate in $(crates_of_program); do
-            find "crates/$crate/src" "crates/$crate/specs" "crates/$crate/proofs" -type f -print0
+            for part in src specs proofs; do
+                [ ! -d "crates/$crate/$part" ] || find "crates/$crate/$part" -type f -print0
+            done
         done | LC_ALL=C sort -z | xargs -0 sha256sum
     } | sha256sum | cut -d ' ' -f 1
 )
