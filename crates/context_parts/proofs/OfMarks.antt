@@ -1,5 +1,5 @@
 -- The intervals between the marks of a key, where settled tuples have left the store.
-use Rattle.std.proofs.Common.{◌≡◌, ◌∙◌, ℕ, ◌-◌, ◌^◌, ◌<◌, ◌≤◌, Bool, true, false, cond, List, [], ◌∷◌, ◌++◌, drop, length, map, ap, sym, subst, arith, inl, inr}
+use Rattle.std.proofs.Common.{◌≡◌, ◌∙◌, ℕ, ◌+◌, ◌-◌, ◌*◌, ◌^◌, ◌<◌, ◌≤◌, Bool, true, false, cond, List, [], ◌∷◌, ◌++◌, drop, length, map, ap, sym, subst, arith, inl, inr}
 use Rattle.std.specs.Prelude.{nat_lt}
 use Rattle.std.specs.List.{All, Contains, filter}
 use Rattle.std.specs.List.Sorted.{IsStrictlyIncreasing, IsStrictlySortedBy}
@@ -30,6 +30,7 @@ use Rattle.context_windows.specs.Marked.{AreIntervals, FollowsMarks, HoldsStretc
 use Rattle.context_windows.specs.Spanned.{window_at}
 use Rattle.context_windows.specs.Spans.{AreApart, span_of}
 use Rattle.key_parts.specs.Moves.{SettlesUpTo}
+use Rattle.key_parts.specs.Work.{change_work}
 use Rattle.context_parts.specs.MarksStand.{DoStandBetween, IsMarksAt}
 use Rattle.context_parts.proofs.Edges.{AreEdged}
 use Rattle.context_parts.proofs.Rest.{HoldsRest, is_window, open_alike, open_few, open_selects, rest_is_kept}
@@ -44,6 +45,10 @@ marks_window_is w e = λ i. record { kind = sym e i; func = w.func }
 
 pub no_events : (kind : Kind) → kind ≡ Marks → is_events kind ≡ false
 no_events kind e = ap is_events e
+
+-- a change of it takes one fold
+pub marks_work : (kind : Kind) (reach : ℕ) → kind ≡ Marks → change_work kind reach ≡ 64 * (reach + 2)
+marks_work kind reach e = ap (λ k. change_work k reach) e
 
 -- ---- what the store holds
 pub stretches_held : (d : Definitions) (window : ℕ) (at : IsMarksAt d window) (m : Moment) (n : ℕ) (s : Stored) → HoldsRest d m n s → (time : ℕ) → m.water - d.lateness ≤ time → length m.kept < 2 ^ 64 → HoldsStretches time m.marks m.kept s

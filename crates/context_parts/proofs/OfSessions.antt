@@ -1,6 +1,6 @@
 -- The sessions of a key, where settled tuples have left the store.
-use Rattle.std.proofs.Common.{◌≡◌, ◌∙◌, ℕ, ◌-◌, ◌^◌, ◌<◌, ◌≤◌, List, [], ◌++◌, drop, length, ap, sym, subst, refl, map}
-use Rattle.std.specs.Prelude.{false, nat_lt}
+use Rattle.std.proofs.Common.{◌≡◌, ◌∙◌, ℕ, ◌+◌, ◌-◌, ◌*◌, ◌^◌, ◌<◌, ◌≤◌, Bool, true, false, cond, List, [], ◌∷◌, ◌++◌, drop, length, ap, sym, subst, refl, map, arith}
+use Rattle.std.specs.Prelude.{nat_lt}
 use Rattle.std.specs.List.{All, Contains, filter}
 use Rattle.stream_base.specs.declared.def.Def.{Def}
 use Rattle.stream_base.specs.declared.kept.Kept.{Kept}
@@ -19,8 +19,10 @@ use Rattle.slice_store.specs.Stored.{Stored, tuples_of}
 use Rattle.context_windows.specs.Aligned.{IsOfSessions}
 use Rattle.context_windows.specs.Held.{HoldsSessions}
 use Rattle.context_windows.specs.Spanned.{Follows, IsSession, IsSessionAt, Spanned, gap_at, gap_of, sessions_after, window_at}
-use Rattle.context_windows.specs.Spans.{span_of}
+use Rattle.context_windows.specs.declared.span.Span.{Span}
+use Rattle.context_windows.specs.Spans.{asked_of, goes, joined_span, near_of, put_changes, span_of, stands, told_at}
 use Rattle.context_windows.proofs.Following.{session_within}
+use Rattle.key_parts.specs.Work.{change_work}
 use Rattle.context_parts.proofs.Rest.{HoldsRest, is_window, left_over, open_alike, open_few, open_selects, rest_is_kept, rest_windows}
 
 pub sessions_are : (kind : Kind) (kept : List Kept) (marks : List ℕ) → IsSession kind → instances_of kind kept marks ≡ sessions (gap_of kind) kept
@@ -37,6 +39,23 @@ no_events (Sliding length slide) h = absurd h
 no_events (Session gap) h = refl
 no_events Marks h = absurd h
 no_events (Events count) h = absurd h
+
+-- ---- how many steps a change takes
+pub session_work : (kind : Kind) (reach : ℕ) → IsSession kind → change_work kind reach ≡ 64 * (reach + 2)
+session_work (Tumbling length) reach h = absurd h
+session_work (Sliding length slide) reach h = absurd h
+session_work (Session gap) reach h = refl
+session_work Marks reach h = absurd h
+session_work (Events count) reach h = absurd h
+
+-- the session that a tuple makes is told once, where it stands
+pub told_once : (gap time water : ℕ) (spans : List Span) → length (told_at gap time water spans) ≤ put_changes gap time water spans
+told_once gap time water spans = by (stands water (joined_span gap time (near_of gap time spans)))
+  where
+    by : (b : Bool) → length (cond b (joined_span gap time (near_of gap time spans) ∷ []) [])
+        ≤ length (filter (goes water (joined_span gap time (near_of gap time spans))) (asked_of gap time water spans)) + cond b 1 0
+    by true = omega arith
+    by false = omega arith
 
 -- ---- what the store holds and where its slices part
 module _ (d : Definitions) (window : ℕ) (at : IsSessionAt d window) where

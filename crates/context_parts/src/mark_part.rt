@@ -26,7 +26,7 @@ fn func_at(defs: &Defs, window: u32) -> Func
 }
 
 impl KeyPart for MarkPart {
-    ghost use Rattle.std.specs.Prelude.{◌≤◌, ◌-◌, length};
+    ghost use Rattle.std.proofs.Common.{◌≤◌, ◌-◌, length, zero-le};
     ghost use Rattle.context_parts.specs.MarksStand.{DoStandBetween, IsMarksAt, RemembersHolderAt};
     ghost use Rattle.context_windows.specs.Ahead.{start_after};
     ghost use Rattle.context_windows.specs.Marked.{holder_in, most_changes};
@@ -37,6 +37,8 @@ impl KeyPart for MarkPart {
     ghost stands = { λ d window m n s p. DoStandBetween d window m n p.windows };
 
     ghost is_asked = { λ d window m time p. RemembersHolderAt d window m time p.windows };
+
+    ghost owed = { λ p. length p.windows.stood };
 
     ghost is_ready = { λ d window time water p. 1 ≤ p.windows.spare };
 
@@ -50,10 +52,24 @@ impl KeyPart for MarkPart {
 
     ghost move_room = { λ d window s old new p. length (due_of old new p.windows.spans) };
 
+    ghost credit = { λ p. 0 };
+
+    ghost complete_by = { λ d window water. 0 };
+
+    ghost is_ahead = { λ d window water s p. Unit {0} };
+
+    ghost taken_up = { λ d window s old new. 0 };
+
+    ghost missed = { λ d window s water. 0 };
+
     ghost settles_at = { λ d window water p.
         start_after (water - d.lateness) p.windows.spans };
 
     ghost stands_with_room = { λ d window m n s more part same stood. stood };
+
+    ghost ahead_with_room = { λ d window water s more part same ahead. ahead };
+
+    ghost complete_in_time = { λ d window water. zero-le };
 
     fn fresh(alloc: Global, defs: &Defs, window: u32) -> Self {
         let _ = defs;

@@ -16,7 +16,7 @@ pub struct SessionPart {
 }
 
 impl KeyPart for SessionPart {
-    ghost use Rattle.std.specs.Prelude.{◌≤◌, ◌-◌, length};
+    ghost use Rattle.std.proofs.Common.{◌≤◌, ◌-◌, length, zero-le};
     ghost use Rattle.context_parts.specs.SessionsStand.{AreAsked, DoStand};
     ghost use Rattle.context_windows.specs.Ahead.{start_after};
     ghost use Rattle.context_windows.specs.Spanned.{IsSessionAt, gap_at};
@@ -27,6 +27,8 @@ impl KeyPart for SessionPart {
     ghost stands = { λ d window m n s p. DoStand d window m n p.sessions };
 
     ghost is_asked = { λ d window m time p. AreAsked d window m time p.sessions };
+
+    ghost owed = { λ p. length p.sessions.stood };
 
     ghost is_ready = { λ d window time water p. 1 ≤ p.sessions.spare };
 
@@ -39,10 +41,24 @@ impl KeyPart for SessionPart {
 
     ghost move_room = { λ d window s old new p. length (due_of old new p.sessions.spans) };
 
+    ghost credit = { λ p. 0 };
+
+    ghost complete_by = { λ d window water. 0 };
+
+    ghost is_ahead = { λ d window water s p. Unit {0} };
+
+    ghost taken_up = { λ d window s old new. 0 };
+
+    ghost missed = { λ d window s water. 0 };
+
     ghost settles_at = { λ d window water p.
         start_after (water - d.lateness) p.sessions.spans };
 
     ghost stands_with_room = { λ d window m n s more part same stood. stood };
+
+    ghost ahead_with_room = { λ d window water s more part same ahead. ahead };
+
+    ghost complete_in_time = { λ d window water. zero-le };
 
     fn fresh(alloc: Global, defs: &Defs, window: u32) -> Self {
         let _ = defs;

@@ -11,6 +11,7 @@ pub mod Filled
 pub mod Thirds
 pub mod Intervals
 pub mod Stretching
+pub mod Owed
 pub mod Marking
 pub mod Aligning
 pub mod Firsts

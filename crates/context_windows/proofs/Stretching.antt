@@ -152,19 +152,22 @@ head_is water low high kept = by (is_selecting (interval low high kept)) (nat_le
         one true = refl
         one false = refl
 
+-- what is asked is the interval that holds the time, where it has a tuple and stands
+pub asked_spans : (time water : ℕ) (marks : List ℕ) (kept : List Kept) (s : Marked) → time < FINAL → FollowsMarks marks kept s → s.forgotten ≤ time → asked_at time water s.spans ≡ map span_of (holder_standing time water marks kept)
+asked_spans time water marks kept s early f le =
+    let p = stretches_after_mark marks kept time early in
+    let t = marked_thirds marks kept time (stretches (insert_key nat_cmp marks time) kept) p in
+    let near : holder_standing time water marks kept ≡ complete_at water (if_selecting p.low p.high kept) = ap (complete_at water) (mids_are 1 time (stretches marks kept) p.front (if_selecting p.low p.high kept) p.back t) in
+    ap (λ l. option_to_list (head_standing water l)) (spans_mid 1 time (stretches marks kept) p.front (if_selecting p.low p.high kept) p.back t s.forgotten le s.spans f.spans)
+    ∙ head_is water p.low p.high kept
+    ∙ ap (map span_of) (sym near)
+
 pub marks_remembered : (func : Func) (time water : ℕ) (marks : List ℕ) (kept : List Kept) (old new : Marked) (store : Stored) → time < FINAL → FollowsMarks marks kept old → old.forgotten ≤ time → HoldsStretches time marks kept store
     → (asked : Option Span) → option_to_list asked ≡ asked_at time water old.spans → (r : Option Standing) → new.stood ≡ option_to_list r
     → ((is : List Instance) → AreHeld (option_to_list asked) store is → option_to_list r ≡ map (as_standing func) is)
     → RemembersHolder func time water marks kept new
 marks_remembered func time water marks kept old new store early f le held asked is r stood told =
-    let p = stretches_after_mark marks kept time early in
-    let t = marked_thirds marks kept time (stretches (insert_key nat_cmp marks time) kept) p in
-    let near : holder_standing time water marks kept ≡ complete_at water (if_selecting p.low p.high kept) = ap (complete_at water) (mids_are 1 time (stretches marks kept) p.front (if_selecting p.low p.high kept) p.back t) in
-    let spans : option_to_list asked ≡ map span_of (holder_standing time water marks kept) =
-    is
-    ∙ ap (λ l. option_to_list (head_standing water l)) (spans_mid 1 time (stretches marks kept) p.front (if_selecting p.low p.high kept) p.back t old.forgotten le old.spans f.spans)
-    ∙ head_is water p.low p.high kept
-    ∙ ap (map span_of) (sym near) in
+    let spans : option_to_list asked ≡ map span_of (holder_standing time water marks kept) = is ∙ asked_spans time water marks kept old early f le in
     record {
       stood = stood
           ∙ told (holder_standing time water marks kept)

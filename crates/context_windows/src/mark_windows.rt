@@ -143,6 +143,9 @@ impl MarkWindows {
             ++ changes_of key.now m (with_tuple m x) (window, marks_window func) }
         ensures number { vec_len out.new
             ≡ vec_len out.old + length (entered_at time water self.old) }
+        ensures owed { (marks : List ℕ) (kept : List Kept) → FollowsMarks marks kept self.old
+            → self.old.forgotten ≤ time → RemembersHolder func time water marks kept self.old
+            → length self.old.stood ≤ vec_len out.new - vec_len out.old }
         ensures marks { self.new.marks ≡ self.old.marks }
         ensures forgotten { self.new.forgotten ≡ self.old.forgotten }
         ensures room_left { self.old.spare ≤ self.new.spare + 1 }

@@ -152,7 +152,8 @@ impl Sessions {
             (told_at (gap_at defs.now window) time water self.old.spans) }
         requires spare { put_changes (gap_at defs.now window) time water self.old.spans
             ≤ vec_capacity out.old - vec_len out.old }
-        ensures follows { (kept : List Kept) (x : Kept) → Follows (gap_at defs.now window) kept self.old
+        ensures follows { (kept : List Kept) (x : Kept)
+            → Follows (gap_at defs.now window) kept self.old
             → self.old.forgotten ≤ time → x.time ≡ time
             → Follows (gap_at defs.now window) (put_in_order kept x) self.new }
         ensures changes { (m : Moment) (x : Kept) → Follows (gap_at defs.now window) m.kept self.old
@@ -165,6 +166,7 @@ impl Sessions {
             ≡ spans_with (gap_at defs.now window) time self.old.spans }
         ensures number { vec_len out.new ≡ vec_len out.old
             + put_changes (gap_at defs.now window) time water self.old.spans }
+        ensures owed { length self.old.stood ≤ vec_len out.new - vec_len out.old }
         ensures forgotten { self.new.forgotten ≡ self.old.forgotten }
         ensures room_left { self.old.spare ≤ self.new.spare + 1 }
         ensures capacity { vec_capacity out.new ≡ vec_capacity out.old }
@@ -196,7 +198,8 @@ impl Sessions {
     pub fn due(&self, defs: &Defs, window: u32, old: u64, new: u64) -> u64
         requires { IsSessionAt defs.now window }
         ensures number { result ≡ length (due_of old new self.now.spans) }
-        ensures rows { (key : List ℕ) (m : Moment) → Follows (gap_at defs.now window) m.kept self.now
+        ensures rows { (key : List ℕ) (m : Moment)
+            → Follows (gap_at defs.now window) m.kept self.now
             → self.now.forgotten ≤ old → m.water ≡ old
             → result ≡ length (completions key m new (window, window_at defs.now window)) }
     {

@@ -1,3 +1,4 @@
 pub mod Held
 pub mod Moves
 pub mod Calls
+pub mod Work

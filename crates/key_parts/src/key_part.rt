@@ -1,5 +1,5 @@
 //! What the part of one window in the state of a key promises.
-ghost use Rattle.std.specs.Prelude.{◌≡◌, ◌≤◌, ◌<◌, ◌+◌, ◌-◌, ◌++◌, [], ℕ, List, length, IfOk, OnOk, vec_len, vec_capacity};
+ghost use Rattle.std.specs.Prelude.{◌≡◌, ◌≤◌, ◌<◌, ◌+◌, ◌-◌, ◌*◌, ◌++◌, [], ℕ, List, length, IfOk, OnOk, vec_len, vec_capacity};
 ghost use Rattle.stream_base.specs.declared.limits.TheConstants.{TIME_MAX};
 ghost use Rattle.stream_base.specs.Laws.{completions};
 ghost use Rattle.stream_base.specs.Model.Changes.{Moment, emissions, retractions};
@@ -9,6 +9,7 @@ ghost use Rattle.slice_store.specs.Stored.{Stored};
 ghost use Rattle.key_windows.specs.Calls.{IsWater, kept_at, moment};
 ghost use Rattle.key_parts.specs.Calls.{LosesSettled, StandsAt, TakesMark, TakesTuple, window_at};
 ghost use Rattle.key_parts.specs.Moves.{SettlesUpTo};
+ghost use Rattle.key_parts.specs.Work.{change_work, row_work};
 
 use agg_laws::{AggTree, Bundle, Steps};
 use slice_store::SliceStore;
@@ -23,7 +24,7 @@ use stream_base::{Change, Defs, KeyText, NoMemory};
 /// The definitions and the window that a call is handed are those of every call before it. A clause
 /// that speaks of what is known of the key holds for all that the part stands for.
 pub trait KeyPart: Drop {
-    ghost use Rattle.std.specs.Prelude.{ℕ};
+    ghost use Rattle.std.specs.Prelude.{◌≤◌, ℕ};
     ghost use Rattle.stream_base.specs.Limits.{Definitions};
     ghost use Rattle.stream_base.specs.Model.Changes.{Moment};
     ghost use Rattle.slice_store.specs.Stored.{IsAsBefore, Stored};
@@ -37,6 +38,9 @@ pub trait KeyPart: Drop {
 
     /// It has kept what stands of the instances that a tuple at a time changes.
     ghost is_asked: { Definitions → ℕ → Moment → ℕ → Self → Type 0 };
+
+    /// Of how many instances it has kept what stands.
+    ghost owed: { Self → ℕ };
 
     /// It has room for a tuple or a mark at a time under a watermark.
     ghost is_ready: { Definitions → ℕ → ℕ → ℕ → Self → Type 0 };
@@ -53,6 +57,21 @@ pub trait KeyPart: Drop {
     /// How many changes that move appends at most.
     ghost move_room: { Definitions → ℕ → Stored → ℕ → ℕ → Self → ℕ };
 
+    /// What is left of the steps that were paid for.
+    ghost credit: { Self → ℕ };
+
+    /// Up to this time instances are complete at a watermark whose slices it takes up but once.
+    ghost complete_by: { Definitions → ℕ → ℕ → ℕ };
+
+    /// It has missed none of those slices at a watermark, with this store.
+    ghost is_ahead: { Definitions → ℕ → ℕ → Stored → Self → Type 0 };
+
+    /// How many slices lie in the instances that a move from one watermark to another completes.
+    ghost taken_up: { Definitions → ℕ → Stored → ℕ → ℕ → ℕ };
+
+    /// How many lie in the last one that is complete at a watermark.
+    ghost missed: { Definitions → ℕ → Stored → ℕ → ℕ };
+
     /// Before this time tuples are settled in the window at a watermark, and from it on they aren't.
     ghost settles_at: { Definitions → ℕ → ℕ → Self → ℕ };
 
@@ -60,8 +79,11 @@ pub trait KeyPart: Drop {
     fn fresh(alloc: Global, defs: &Defs, window: u32) -> Self
         requires within { window < length (defs.now).windows }
         requires kind { is_for defs.now window }
-        ensures { (water : ℕ) (s : Stored) → s.slices ≡ []
-            → stands defs.now window (moment [] [] water) 0 s result };
+        ensures stands { (water : ℕ) (s : Stored) → s.slices ≡ []
+            → stands defs.now window (moment [] [] water) 0 s result }
+        ensures credit { credit result ≡ 0 }
+        ensures ahead { (water : ℕ) (s : Stored) → s.slices ≡ []
+            → is_ahead defs.now window water s result };
 
     /// Makes room for a tuple at a time, and answers for how many changes.
     fn reserve_put(
@@ -78,7 +100,10 @@ pub trait KeyPart: Drop {
         ensures stays { (m : Moment) (n : ℕ) (s : Stored) → stands defs.now window m n s self.old
             → stands defs.now window m n s self.new }
         ensures ready { OnOk result (is_ready defs.now window time water self.new) }
-        ensures room { IfOk result (λ k. k ≡ put_room defs.now window time water self.new) };
+        ensures room { IfOk result (λ k. k ≡ put_room defs.now window time water self.new) }
+        ensures credit { credit self.new ≤ credit self.old }
+        ensures ahead { (w : ℕ) (s : Stored) → is_ahead defs.now window w s self.old
+            → is_ahead defs.now window w s self.new };
 
     /// Keeps what stands of the instances that a tuple at a time changes. It is called before the
     /// store takes the tuple in.
@@ -104,7 +129,11 @@ pub trait KeyPart: Drop {
             → is_asked defs.now window m time self.new }
         ensures ready { is_ready defs.now window time water self.new }
         ensures room { put_room defs.now window time water self.new
-            ≡ put_room defs.now window time water self.old };
+            ≡ put_room defs.now window time water self.old }
+        ensures work { steps.new ≤ steps.old + 64 * (store.now.reach + 2) * owed self.new }
+        ensures credit { credit self.new ≤ credit self.old }
+        ensures ahead { (w : ℕ) (s : Stored) → is_ahead defs.now window w s self.old
+            → is_ahead defs.now window w s self.new };
 
     /// Takes in a tuple that the store has taken in, or that is settled at once where each window
     /// counts events.
@@ -131,7 +160,8 @@ pub trait KeyPart: Drop {
         ensures stands { (m : Moment) (n : ℕ) (before : Stored) (more : ℕ)
             → TakesTuple stands defs.now window is_asked water (kept_at pos time value) store.now
             self.old m n before more
-            → stands defs.now window (with_tuple m (kept_at pos time value)) more store.now self.new }
+            → stands defs.now window (with_tuple m (kept_at pos time value)) more
+            store.now self.new }
         ensures changes { (m : Moment) (n : ℕ) (before : Stored) (more : ℕ)
             → TakesTuple stands defs.now window is_asked water (kept_at pos time value) store.now
             self.old m n before more → out.new.items ≡ out.old.items
@@ -141,7 +171,16 @@ pub trait KeyPart: Drop {
             (window, window_at defs.now window)) }
         ensures room { vec_len out.new
             ≤ vec_len out.old + put_room defs.now window time water self.old }
-        ensures capacity { vec_capacity out.new ≡ vec_capacity out.old };
+        ensures capacity { vec_capacity out.new ≡ vec_capacity out.old }
+        ensures owed { owed self.old ≤ vec_len out.new - vec_len out.old }
+        ensures work { steps.new ≤ steps.old + change_work (window_at defs.now window).kind
+            store.now.reach * (vec_len out.new - vec_len out.old) }
+        ensures credit { credit self.new ≤ credit self.old }
+        ensures ahead { (m : Moment) (n : ℕ) (before : Stored) (more : ℕ)
+            → TakesTuple stands defs.now window is_asked water (kept_at pos time value) store.now
+            self.old m n before more → complete_by defs.now window water ≤ time
+            → is_ahead defs.now window water before self.old
+            → is_ahead defs.now window water store.now self.new };
 
     /// Makes room for a mark at a time, and answers for how many changes.
     fn reserve_mark(
@@ -158,7 +197,10 @@ pub trait KeyPart: Drop {
         ensures stays { (m : Moment) (n : ℕ) (s : Stored) → stands defs.now window m n s self.old
             → stands defs.now window m n s self.new }
         ensures ready { OnOk result (is_ready defs.now window time water self.new) }
-        ensures room { IfOk result (λ k. k ≡ mark_room defs.now window time water self.new) };
+        ensures room { IfOk result (λ k. k ≡ mark_room defs.now window time water self.new) }
+        ensures credit { credit self.new ≤ credit self.old }
+        ensures ahead { (w : ℕ) (s : Stored) → is_ahead defs.now window w s self.old
+            → is_ahead defs.now window w s self.new };
 
     /// Takes in a mark that the store has taken in.
     fn mark<T: AggTree<Bundle>, L>(
@@ -188,7 +230,15 @@ pub trait KeyPart: Drop {
             ++ emissions key.now m (with_mark m time) (window, window_at defs.now window)) }
         ensures room { vec_len out.new
             ≤ vec_len out.old + mark_room defs.now window time water self.old }
-        ensures capacity { vec_capacity out.new ≡ vec_capacity out.old };
+        ensures capacity { vec_capacity out.new ≡ vec_capacity out.old }
+        ensures work { steps.new ≤ steps.old
+            + 64 * (store.now.reach + 2) * (vec_len out.new - vec_len out.old) }
+        ensures credit { credit self.new ≤ credit self.old }
+        ensures ahead { (m : Moment) (n : ℕ) (before : Stored)
+            → TakesMark stands defs.now window water time store.now self.old m n before
+            → complete_by defs.now window water ≤ time
+            → is_ahead defs.now window water before self.old
+            → is_ahead defs.now window water store.now self.new };
 
     /// Makes room for a move of the watermark, and answers for how many changes.
     fn reserve_water<T: AggTree<Bundle>>(
@@ -208,7 +258,10 @@ pub trait KeyPart: Drop {
             → stands defs.now window m n s self.new }
         ensures ready { OnOk result (can_move defs.now window store.now old new self.new) }
         ensures room { IfOk result
-            (λ k. k ≡ move_room defs.now window store.now old new self.new) };
+            (λ k. k ≡ move_room defs.now window store.now old new self.new) }
+        ensures credit { credit self.new ≤ credit self.old }
+        ensures ahead { (w : ℕ) (s : Stored) → is_ahead defs.now window w s self.old
+            → is_ahead defs.now window w s self.new };
 
     /// Takes in a move of the watermark, and appends the instances that it completes.
     fn water<T: AggTree<Bundle>, L>(
@@ -239,7 +292,24 @@ pub trait KeyPart: Drop {
             ++ completions key.now m new (window, window_at defs.now window) }
         ensures room { vec_len out.new
             ≤ vec_len out.old + move_room defs.now window store.now old new self.old }
-        ensures capacity { vec_capacity out.new ≡ vec_capacity out.old };
+        ensures capacity { vec_capacity out.new ≡ vec_capacity out.old }
+        ensures ahead { (m : Moment) (n : ℕ)
+            → StandsAt stands defs.now window old store.now self.old m n
+            → is_ahead defs.now window new store.now self.new }
+        ensures work_ahead { (m : Moment) (n : ℕ)
+            → StandsAt stands defs.now window old store.now self.old m n
+            → is_ahead defs.now window old store.now self.old
+            → steps.new + credit self.new ≤ steps.old + credit self.old
+            + (10 * taken_up defs.now window store.now old new
+            + row_work (window_at defs.now window).kind store.now.reach
+            * (vec_len out.new - vec_len out.old)) }
+        ensures work { (m : Moment) (n : ℕ)
+            → StandsAt stands defs.now window old store.now self.old m n
+            → steps.new + credit self.new ≤ steps.old + credit self.old
+            + (10 * (taken_up defs.now window store.now old new
+            + missed defs.now window store.now old)
+            + row_work (window_at defs.now window).kind store.now.reach
+            * (vec_len out.new - vec_len out.old)) };
 
     /// A watermark up to which, without it, nothing becomes complete: a move to below it changes
     /// nothing.
@@ -274,13 +344,26 @@ pub trait KeyPart: Drop {
     /// the store.
     fn drop_settled(&mut self, defs: &Defs, window: u32, water: u64)
         requires { window < length (defs.now).windows }
-        ensures { (m : Moment) (n time : ℕ) (before : Stored) (more : ℕ) (after : Stored)
+        ensures stands { (m : Moment) (n time : ℕ) (before : Stored) (more : ℕ) (after : Stored)
             → LosesSettled stands defs.now window water time self.old m n before more after
             → time ≤ settles_at defs.now window water self.old
-            → stands defs.now window m more after self.new };
+            → stands defs.now window m more after self.new }
+        ensures credit { credit self.new ≤ credit self.old }
+        ensures ahead { (m : Moment) (n time : ℕ) (before : Stored) (more : ℕ) (after : Stored)
+            → LosesSettled stands defs.now window water time self.old m n before more after
+            → is_ahead defs.now window water before self.old
+            → is_ahead defs.now window water after self.new };
 
     /// What it stands for has nothing to do with the room of the store.
     ghost stands_with_room: { (d : Definitions) (window : ℕ) (m : Moment) (n : ℕ)
         (s more : Stored) (part : Self) → IsAsBefore s more
         → stands d window m n s part → stands d window m n more part };
+
+    /// And neither has what it missed.
+    ghost ahead_with_room: { (d : Definitions) (window water : ℕ) (s more : Stored) (part : Self)
+        → IsAsBefore s more → is_ahead d window water s part → is_ahead d window water more part };
+
+    /// What is complete at a watermark ends by it.
+    ghost complete_in_time: { (d : Definitions) (window water : ℕ)
+        → complete_by d window water ≤ water };
 }

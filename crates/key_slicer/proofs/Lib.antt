@@ -1,4 +1,6 @@
+pub mod AheadFacts
 pub mod Loops
 pub mod SortFacts
 pub mod StateFacts
 pub mod Steps
+pub mod WorkFacts

@@ -1,11 +1,11 @@
 -- The loops over the parts of a key.
-use Rattle.std.proofs.Common.{◌≡◌, ◌∙◌, ◌≤◌, ◌<◌, ◌+◌, ℕ, zero, suc, List, [], ◌∷◌, ◌++◌, length, get_or, set, take, drop, ap, sym, refl, subst, arith, inl, inr, ⊎_elim, append_assoc}
+use Rattle.std.proofs.Common.{◌≡◌, ◌∙◌, ◌≤◌, ◌<◌, ◌+◌, ◌*◌, ◌-◌, ℕ, zero, suc, List, [], ◌∷◌, ◌++◌, length, get_or, set, take, drop, ap, sym, refl, subst, arith, inl, inr, ⊎_elim, append_assoc}
 use Rattle.std.specs.Prelude.{◌⊎◌, min, sum_by}
 use Rattle.std.specs.List.{enumerate_from, flat_map}
 use Rattle.std.proofs.lemmas.Bool.{cases_eq, cases_lt}
-use Rattle.std.proofs.lemmas.List.{append-nil, drop_more, get_or_default, get_or-set_other, get_or-set_same, length-set, take_all, take_more}
+use Rattle.std.proofs.lemmas.List.{append-nil, drop_more, get_or_default, get_or-set_other, get_or-set_same, length-append, length-set, take_all, take_more}
 use Rattle.std.proofs.lemmas.List.Concat.{flat_map-append}
-use Rattle.std.proofs.lemmas.List.Sums.{sum_by-cons}
+use Rattle.std.proofs.lemmas.List.Sums.{sum_by-cons, sum_by_push}
 use Rattle.stream_base.specs.Limits.{Definitions}
 use Rattle.stream_base.specs.declared.kept.Kept.{Kept}
 use Rattle.stream_base.specs.Model.Changes.{Moment}
@@ -88,7 +88,7 @@ module _ {P : Type 0} (time_of : ℕ → P → ℕ) (most : ℕ) (parts : List P
   }
 
 -- ---- numbered lists
-numbered_end : {X : Type 0} (n : ℕ) (xs : List X) (y : X) → enumerate_from n (xs ++ y ∷ []) ≡ enumerate_from n xs ++ (n + length xs, y) ∷ []
+pub numbered_end : {X : Type 0} (n : ℕ) (xs : List X) (y : X) → enumerate_from n (xs ++ y ∷ []) ≡ enumerate_from n xs ++ (n + length xs, y) ∷ []
 numbered_end n [] y = let e : n ≡ n + 0 = omega arith in (λ k. (e k, y) ∷ [])
 numbered_end n (x ∷ xs) y =
     let e : n + 1 + length xs ≡ n + length (x ∷ xs) = omega arith in
@@ -137,6 +137,30 @@ none_more f xs i d l so_far more = given_more f xs i d l ∙ (λ k. so_far k ++ 
 
 pub none_all : {X Y : Type 0} (f : ℕ × X → List Y) (xs : List X) (i : ℕ) → length xs ≤ i → flat_map f (enumerate_from 0 (take i xs)) ≡ [] → flat_map f (enumerate_from 0 xs) ≡ []
 none_all f xs i l so_far = ap (λ ys. flat_map f (enumerate_from 0 ys)) (sym (take_all i xs l)) ∙ so_far
+
+-- what one element more adds to a sum
+pub summed_more : {X : Type 0} (f : ℕ × X → ℕ) (xs : List X) (i : ℕ) (d : X) → i < length xs
+    → sum_by f (enumerate_from 0 (take (i + 1) xs)) ≡ sum_by f (enumerate_from 0 (take i xs)) + f (i, get_or xs i d)
+summed_more f xs i d l = ap (sum_by f) (numbered_more xs i d l) ∙ sum_by_push f (enumerate_from 0 (take i xs)) (i, get_or xs i d)
+
+pub summed_all : {X : Type 0} (f : ℕ × X → ℕ) (xs : List X) (i : ℕ) → length xs ≤ i → sum_by f (enumerate_from 0 (take i xs)) ≡ sum_by f (enumerate_from 0 xs)
+summed_all f xs i l = ap (λ ys. sum_by f (enumerate_from 0 ys)) (take_all i xs l)
+
+-- ---- work
+-- a list to which another was appended is longer by that one
+pub grown : {Y : Type 0} (old new more : List Y) → new ≡ old ++ more → length old + length more ≡ length new
+grown old new more e = sym (ap length e ∙ length-append old more)
+
+-- as much for each of a few more
+pub work_more : (w a b c s t u : ℕ) → t ≤ s + w * a → u ≤ t + w * b → c ≡ a + b → u ≤ s + w * c
+work_more w a b c s t u f g e = let h : w * c ≡ w * a + w * b = ap (λ k. w * k) e ∙ spread w a b in omega arith
+  where
+    spread : (w a b : ℕ) → w * (a + b) ≡ w * a + w * b
+    spread w a b = grind arith
+
+-- as much for each element by which a list has grown
+pub work_grown : (w a b c s t u : ℕ) → a ≤ b → b ≤ c → t ≤ s + w * (b - a) → u ≤ t + w * (c - b) → u ≤ s + w * (c - a)
+work_grown w a b c s t u l m f g = let whole : c - a ≡ (b - a) + (c - b) = omega arith in work_more w (b - a) (c - b) (c - a) s t u f g whole
 
 -- ---- room
 module _ {P : Type 0} (room : ℕ → P → ℕ) where

@@ -1,8 +1,9 @@
 -- Changes window by window, and in the order of an engine's.
-use Rattle.std.proofs.Common.{◌≡◌, ◌∙◌, ℕ, Bool, true, false, not, List, [], ◌∷◌, ◌++◌, Option, None, Some, ap, sym, refl, append-nil, cond}
+use Rattle.std.proofs.Common.{◌≡◌, ◌∙◌, ℕ, Bool, true, false, not, List, [], ◌∷◌, ◌++◌, Option, None, Some, ap, sym, refl, append-nil, cond, length, length-append}
 use Rattle.std.specs.Prelude.{filter}
 use Rattle.std.specs.List.{cons_option, enumerate_from, filter_map, find, flat_map, list_any}
 use Rattle.std.proofs.lemmas.List.Elements.{filter-append}
+use Rattle.std.proofs.lemmas.List.Filters.{length-filter_both}
 use Rattle.stream_base.specs.declared.change.Change.{Change}
 use Rattle.stream_base.specs.declared.change.Change.TheVariants.{Gone, New, Again}
 use Rattle.stream_base.specs.declared.def.Def.{Def}
@@ -79,6 +80,14 @@ module _ (key : List ℕ) (old new : Moment) where
       let gone : filter is_gone (flat_map (turns key old new) numbered) ≡ flat_map (retractions key old new) numbered = filter-flat_map is_gone (turns key old new) numbered ∙ flat_map_same (λ w. filter is_gone (turns key old new w)) (retractions key old new) numbered (λ w c. gone_of_turns w) in
       let come : filter others (flat_map (turns key old new) numbered) ≡ flat_map (emissions key old new) numbered = filter-flat_map others (turns key old new) numbered ∙ flat_map_same (λ w. filter others (turns key old new w)) (emissions key old new) numbered (λ w c. others_of_turns w) in
       λ i. gone i ++ come i
+
+  -- they are as many
+  pub as_many_turns : (windows : List Def) → length (changes_between windows key old new) ≡ length (flat_map (turns key old new) (enumerate_from 0 windows))
+  as_many_turns windows =
+      let all = flat_map (turns key old new) (enumerate_from 0 windows) in
+      ap length (sym (sorted_turns windows))
+      ∙ length-append (filter is_gone all) (filter others all)
+      ∙ length-filter_both is_gone others (λ c. refl) all
 
   -- appended so, they are the changes
   pub appended_sorted : (windows : List Def) (empty scratch shown out later : List Change) → empty ≡ [] → scratch ≡ empty ++ flat_map (turns key old new) (enumerate_from 0 windows) → shown ≡ scratch

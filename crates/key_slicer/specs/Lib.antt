@@ -1,3 +1,4 @@
 pub mod Parts
 pub mod Sorted
 pub mod States
+pub mod Work

@@ -1,7 +1,9 @@
 //! The state of a key as an engine.
 ghost use Rattle.std.specs.Prelude.{vec_capacity, vec_len, ◌-◌};
 ghost use Rattle.key_windows.specs.Calls.{IsWater};
+ghost use Rattle.key_slicer.specs.Parts.{EachPart, rooms};
 ghost use Rattle.key_slicer.specs.States.{Fits, IsReady};
+ghost use Rattle.key_slicer.specs.Work.{catch_up, mark_work, move_work, put_work};
 
 use crate::key_state::{KeyState, all_count_events, is_water, put_in, vouch};
 use crate::parts::Parts;
@@ -26,6 +28,21 @@ impl<T: AggTree<Bundle> + Drop, P: AnyPart> KeyWindows for KeyState<T, P> {
     ghost promised = { λ k. k.promise };
 
     ghost next_position = { λ k. k.next };
+
+    ghost put_work = { λ d old new time k. put_work d k.key old new time k.store };
+
+    ghost mark_work = { λ d old new time before after. mark_work d before.key old new time
+        before.store after.store };
+
+    ghost credit = { λ k. rooms (λ i part. P.credit part) k.parts.list.items };
+
+    ghost is_ahead = { λ d water k. EachPart (λ i part. P.is_ahead d i water k.store part)
+        k.parts.list.items };
+
+    ghost move_work = { λ d old new before after. move_work P.taken_up d before.key old new
+        before.store after.store };
+
+    ghost catch_up = { λ d water k. catch_up P.missed d k.store water };
 
     fn fresh(alloc: Global, defs: &Defs, key: KeyText) -> Result<KeyState<T, P>, NoMemory> {
         let _windows = defs.windows();

@@ -1,8 +1,10 @@
 //! The state of a key.
-ghost use Rattle.std.specs.Prelude.{◌≡◌, ◌≤◌, ◌-◌, [], ℕ, true, false, OnOk, vec_capacity, vec_len};
+ghost use Rattle.std.specs.Prelude.{◌≡◌, ◌≤◌, ◌+◌, ◌-◌, ◌*◌, [], ℕ, length, true, false, OnOk, vec_capacity, vec_len};
 ghost use Rattle.std.specs.List.{list_all};
 ghost use Rattle.stream_base.specs.Model.Slices.{is_events};
 ghost use Rattle.stream_base.specs.declared.limits.TheConstants.{TIME_MAX};
+ghost use Rattle.slice_store.specs.Entered.{slices_near};
+ghost use Rattle.slice_store.specs.Slices.{joined};
 ghost use Rattle.slice_store.specs.Stored.{IsSliced, IsStore, Stored};
 ghost use Rattle.key_windows.specs.Calls.{IsWater, kept_at};
 ghost use Rattle.key_parts.specs.Moves.{Comes, all_count_events};
@@ -86,6 +88,9 @@ pub fn put_in<T: AggTree<Bundle>, L>(
     ensures comes { (n : ℕ) → (more : ℕ)
         × Comes defs.now n store.old (kept_at pos time value) more store.new }
     ensures bare { all_count_events defs.now → store.new.slices ≡ [] }
+    ensures reach { store.new.reach ≤ store.old.reach + 1 }
+    ensures work { steps.new ≤ steps.old + (128 * (store.old.reach + 3)
+        + length (joined (slices_near (defs.now).windows time store.old))) }
 {
     if !all_count_events(defs) {
         store.put(defs, pos, time, value, steps);

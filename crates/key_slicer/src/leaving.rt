@@ -1,7 +1,8 @@
 //! Settled slices that leave the state of a key.
-ghost use Rattle.std.specs.Prelude.{◌≡◌, ℕ, List};
+ghost use Rattle.std.specs.Prelude.{◌≡◌, ◌≤◌, ◌+◌, ◌-◌, ◌*◌, ℕ, List, length};
 ghost use Rattle.stream_base.specs.declared.kept.Kept.{Kept};
 ghost use Rattle.key_windows.specs.Calls.{IsWater};
+ghost use Rattle.key_slicer.specs.Parts.{EachPart, rooms};
 ghost use Rattle.key_slicer.specs.States.{Fits};
 
 use crate::key_state::{KeyState, all_count_events, vouch};
@@ -22,6 +23,15 @@ impl<T: AggTree<Bundle>, P: KeyPart> KeyState<T, P> {
             water self.old.next self.old.store self.old.parts.list.items
             → Fits P.stands defs.now kept marks
             water self.new.next self.new.store self.new.parts.list.items }
+        ensures reach { self.new.store.reach ≤ self.old.store.reach }
+        ensures work { steps.new ≤ steps.old + 64 * (self.old.store.reach + 2)
+            * (length self.old.store.slices - length self.new.store.slices) }
+        ensures credit { rooms (λ i part. P.credit part) self.new.parts.list.items
+            ≤ rooms (λ i part. P.credit part) self.old.parts.list.items }
+        ensures ahead { EachPart (λ i part. P.is_ahead defs.now i water self.old.store part)
+            self.old.parts.list.items
+            → EachPart (λ i part. P.is_ahead defs.now i water self.new.store part)
+            self.new.parts.list.items }
     {
         if all_count_events(defs) {
             return;

@@ -4,7 +4,13 @@
 //! on* `key_windows`, which says what an engine for a key promises; on `slice_store`, whose slices
 //! hold the key's tuples; on `key_parts`, which says what the part of one window promises; and on
 //! the laws of `held_laws`. General over the tree of the store and over the parts. *Promise*: all
-//! of `KeyWindows`, where each part keeps what `KeyPart` says.
+//! of `KeyWindows`, where each part keeps what `KeyPart` says. A tuple or a mark takes as much as
+//! four folds and two more for each change, and a step for each tuple of the slices that it enters
+//! or splits; windows of event counts take twice their count for each change of theirs, and a mark
+//! one fold for each slice that leaves.
+//! A move of the watermark takes, on the credit of all parts, ten steps for each slice that a window
+//! takes up, for each row what one takes in a window of its kind, and one fold for each slice that
+//! leaves; and where something came before the watermark, ten for each slice that a window missed.
 //!
 //! - `parts`: the parts of all windows, each at the place of its window.
 //! - `putting`, `marking`, `moving`: a tuple, a mark and a move of the watermark go from part to

@@ -1,5 +1,5 @@
 //! The parts of a key's windows where a mark comes.
-ghost use Rattle.std.specs.Prelude.{◌≡◌, ◌≤◌, ◌+◌, ◌-◌, ◌++◌, ℕ, IfOk, OnOk, vec_len, vec_capacity};
+ghost use Rattle.std.specs.Prelude.{◌≡◌, ◌≤◌, ◌+◌, ◌-◌, ◌*◌, ◌++◌, ℕ, IfOk, OnOk, vec_len, vec_capacity};
 ghost use Rattle.std.specs.List.{enumerate_from, flat_map};
 ghost use Rattle.stream_base.specs.declared.limits.TheConstants.{TIME_MAX};
 ghost use Rattle.stream_base.specs.Model.Changes.{Moment};
@@ -28,6 +28,11 @@ impl<P: KeyPart> Parts<P> {
             (λ i part. P.is_ready defs.now i time water part) self.new.list.items) }
         ensures room { IfOk result (λ k. k
             ≡ rooms (λ i part. P.mark_room defs.now i time water part) self.new.list.items) }
+        ensures credit { rooms (λ i part. P.credit part) self.new.list.items
+            ≤ rooms (λ i part. P.credit part) self.old.list.items }
+        ensures ahead { (w : ℕ) (s : Stored)
+            → EachPart (λ i part. P.is_ahead defs.now i w s part) self.old.list.items
+            → EachPart (λ i part. P.is_ahead defs.now i w s part) self.new.list.items }
     {
         let mut room: u64 = 0;
         for window in 0..window_count(defs) {
@@ -65,6 +70,16 @@ impl<P: KeyPart> Parts<P> {
         ensures room { vec_len out.new ≤ vec_len out.old
             + rooms (λ i part. P.mark_room defs.now i time water part) self.old.list.items }
         ensures capacity { vec_capacity out.new ≡ vec_capacity out.old }
+        ensures work { steps.new ≤ steps.old
+            + 64 * (store.now.reach + 2) * (vec_len out.new - vec_len out.old) }
+        ensures credit { rooms (λ i part. P.credit part) self.new.list.items
+            ≤ rooms (λ i part. P.credit part) self.old.list.items }
+        ensures ahead { (m : Moment) (n : ℕ) (before : Stored)
+            → AllTakeMark P.stands defs.now water time store.now self.old.list.items m n before
+            → water ≤ time
+            → EachPart (λ i part. P.is_ahead defs.now i water before part) self.old.list.items
+            → EachPart (λ i part. P.is_ahead defs.now i water store.now part)
+            self.new.list.items }
     {
         for window in 0..window_count(defs) {
             self.list[window as usize].mark(defs, window, store, key, time, water, out, steps);

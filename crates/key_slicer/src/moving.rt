@@ -7,6 +7,7 @@ ghost use Rattle.window_laws.specs.After.{at_water};
 ghost use Rattle.slice_store.specs.Stored.{Stored};
 ghost use Rattle.key_windows.specs.Calls.{IsWater};
 ghost use Rattle.key_slicer.specs.Parts.{AllStandAt, AreStanding, EachPart, rooms};
+ghost use Rattle.key_slicer.specs.Work.{catch_up, moves_work};
 
 use crate::parts::{Parts, sum_of, window_count};
 use agg_laws::{AggTree, Bundle, Steps};
@@ -36,6 +37,11 @@ impl<P: KeyPart> Parts<P> {
         ensures room { IfOk result (λ k. k
             ≡ rooms (λ i part. P.move_room defs.now i store.now old new part)
             self.new.list.items) }
+        ensures credit { rooms (λ i part. P.credit part) self.new.list.items
+            ≤ rooms (λ i part. P.credit part) self.old.list.items }
+        ensures ahead { (w : ℕ) (s : Stored)
+            → EachPart (λ i part. P.is_ahead defs.now i w s part) self.old.list.items
+            → EachPart (λ i part. P.is_ahead defs.now i w s part) self.new.list.items }
     {
         let mut room: u64 = 0;
         for window in 0..window_count(defs) {
@@ -75,6 +81,21 @@ impl<P: KeyPart> Parts<P> {
         ensures room { vec_len out.new ≤ vec_len out.old
             + rooms (λ i part. P.move_room defs.now i store.now old new part) self.old.list.items }
         ensures capacity { vec_capacity out.new ≡ vec_capacity out.old }
+        ensures ahead { (m : Moment) (n : ℕ)
+            → AllStandAt P.stands defs.now old store.now self.old.list.items m n
+            → EachPart (λ i part. P.is_ahead defs.now i new store.now part) self.new.list.items }
+        ensures work_ahead { (m : Moment) (n : ℕ)
+            → AllStandAt P.stands defs.now old store.now self.old.list.items m n
+            → EachPart (λ i part. P.is_ahead defs.now i old store.now part) self.old.list.items
+            → steps.new + rooms (λ i part. P.credit part) self.new.list.items
+            ≤ steps.old + rooms (λ i part. P.credit part) self.old.list.items
+            + moves_work P.taken_up defs.now key.now m new store.now }
+        ensures work { (m : Moment) (n : ℕ)
+            → AllStandAt P.stands defs.now old store.now self.old.list.items m n
+            → steps.new + rooms (λ i part. P.credit part) self.new.list.items
+            ≤ steps.old + rooms (λ i part. P.credit part) self.old.list.items
+            + (moves_work P.taken_up defs.now key.now m new store.now
+            + catch_up P.missed defs.now store.now old) }
     {
         for window in 0..window_count(defs) {
             self.list[window as usize].water(defs, window, store, key, old, new, out, steps);

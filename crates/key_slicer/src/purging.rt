@@ -7,7 +7,7 @@ ghost use Rattle.slice_store.specs.Stored.{Stored};
 ghost use Rattle.key_windows.specs.Calls.{IsWater};
 ghost use Rattle.key_parts.specs.Calls.{window_at};
 ghost use Rattle.key_parts.specs.Moves.{SettlesUpTo};
-ghost use Rattle.key_slicer.specs.Parts.{AllLoseSettled, AllStandAt, AreStanding, EachPart, IsLeastOf};
+ghost use Rattle.key_slicer.specs.Parts.{AllLoseSettled, AllStandAt, AreStanding, EachPart, IsLeastOf, rooms};
 
 use crate::parts::{Parts, window_count};
 use key_parts::KeyPart;
@@ -39,10 +39,16 @@ impl<P: KeyPart> Parts<P> {
     // have left the store.
     pub fn drop_settled(&mut self, defs: &Defs, water: u64)
         requires as_many { length self.old.list.items ≡ length (defs.now).windows }
-        ensures { (m : Moment) (n time : ℕ) (before : Stored) (more : ℕ) (after : Stored)
+        ensures stands { (m : Moment) (n time : ℕ) (before : Stored) (more : ℕ) (after : Stored)
             → AllLoseSettled P.stands defs.now water time self.old.list.items m n before more after
             → EachPart (λ i part. time ≤ P.settles_at defs.now i water part) self.old.list.items
             → AreStanding P.stands defs.now m more after self.new.list.items }
+        ensures credit { rooms (λ i part. P.credit part) self.new.list.items
+            ≤ rooms (λ i part. P.credit part) self.old.list.items }
+        ensures ahead { (m : Moment) (n time : ℕ) (before : Stored) (more : ℕ) (after : Stored)
+            → AllLoseSettled P.stands defs.now water time self.old.list.items m n before more after
+            → EachPart (λ i part. P.is_ahead defs.now i water before part) self.old.list.items
+            → EachPart (λ i part. P.is_ahead defs.now i water after part) self.new.list.items }
     {
         for window in 0..window_count(defs) {
             self.list[window as usize].drop_settled(defs, window, water);

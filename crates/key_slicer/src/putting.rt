@@ -1,5 +1,5 @@
 //! The parts of a key's windows where a tuple comes.
-ghost use Rattle.std.specs.Prelude.{◌≡◌, ◌≤◌, ◌+◌, ◌-◌, ◌++◌, [], ℕ, List, length, IfOk, OnOk, vec_len, vec_capacity};
+ghost use Rattle.std.specs.Prelude.{◌≡◌, ◌≤◌, ◌+◌, ◌-◌, ◌*◌, ◌++◌, [], ℕ, List, length, IfOk, OnOk, vec_len, vec_capacity};
 ghost use Rattle.std.specs.List.{enumerate_from, flat_map};
 ghost use Rattle.stream_base.specs.declared.limits.TheConstants.{TIME_MAX};
 ghost use Rattle.stream_base.specs.Model.Changes.{Moment};
@@ -7,6 +7,7 @@ ghost use Rattle.window_laws.specs.After.{with_tuple};
 ghost use Rattle.slice_store.specs.Stored.{Stored};
 ghost use Rattle.key_windows.specs.Calls.{IsWater, kept_at};
 ghost use Rattle.key_slicer.specs.Parts.{AllStandAt, AllTakeTuple, AreStanding, EachPart, rooms, turns};
+ghost use Rattle.key_slicer.specs.Work.{turns_work};
 
 use crate::parts::{Parts, sum_of, window_count};
 use agg_laws::{AggTree, Bundle, Steps};
@@ -28,6 +29,11 @@ impl<P: KeyPart> Parts<P> {
             (λ i part. P.is_ready defs.now i time water part) self.new.list.items) }
         ensures room { IfOk result (λ k. k
             ≡ rooms (λ i part. P.put_room defs.now i time water part) self.new.list.items) }
+        ensures credit { rooms (λ i part. P.credit part) self.new.list.items
+            ≤ rooms (λ i part. P.credit part) self.old.list.items }
+        ensures ahead { (w : ℕ) (s : Stored)
+            → EachPart (λ i part. P.is_ahead defs.now i w s part) self.old.list.items
+            → EachPart (λ i part. P.is_ahead defs.now i w s part) self.new.list.items }
     {
         let mut room: u64 = 0;
         for window in 0..window_count(defs) {
@@ -63,6 +69,13 @@ impl<P: KeyPart> Parts<P> {
             (λ i part. P.is_ready defs.now i time water part) self.new.list.items }
         ensures room { rooms (λ i part. P.put_room defs.now i time water part) self.new.list.items
             ≡ rooms (λ i part. P.put_room defs.now i time water part) self.old.list.items }
+        ensures work { steps.new ≤ steps.old
+            + 64 * (store.now.reach + 2) * rooms (λ i part. P.owed part) self.new.list.items }
+        ensures credit { rooms (λ i part. P.credit part) self.new.list.items
+            ≤ rooms (λ i part. P.credit part) self.old.list.items }
+        ensures ahead { (w : ℕ) (s : Stored)
+            → EachPart (λ i part. P.is_ahead defs.now i w s part) self.old.list.items
+            → EachPart (λ i part. P.is_ahead defs.now i w s part) self.new.list.items }
     {
         for window in 0..window_count(defs) {
             self.list[window as usize].before(defs, window, store, time, water, steps);
@@ -103,6 +116,21 @@ impl<P: KeyPart> Parts<P> {
         ensures room { vec_len out.new ≤ vec_len out.old
             + rooms (λ i part. P.put_room defs.now i time water part) self.old.list.items }
         ensures capacity { vec_capacity out.new ≡ vec_capacity out.old }
+        ensures owed { rooms (λ i part. P.owed part) self.old.list.items
+            ≤ vec_len out.new - vec_len out.old }
+        ensures work { (m : Moment) (n : ℕ) (before : Stored) (more : ℕ)
+            → AllTakeTuple P.stands defs.now P.is_asked water (kept_at pos time value) store.now
+            self.old.list.items m n before more → steps.new ≤ steps.old
+            + turns_work defs.now key.now m (with_tuple m (kept_at pos time value))
+            store.now.reach }
+        ensures credit { rooms (λ i part. P.credit part) self.new.list.items
+            ≤ rooms (λ i part. P.credit part) self.old.list.items }
+        ensures ahead { (m : Moment) (n : ℕ) (before : Stored) (more : ℕ)
+            → AllTakeTuple P.stands defs.now P.is_asked water (kept_at pos time value) store.now
+            self.old.list.items m n before more → water ≤ time
+            → EachPart (λ i part. P.is_ahead defs.now i water before part) self.old.list.items
+            → EachPart (λ i part. P.is_ahead defs.now i water store.now part)
+            self.new.list.items }
     {
         for window in 0..window_count(defs) {
             self.list[window as usize].put(

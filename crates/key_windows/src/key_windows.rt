@@ -23,6 +23,7 @@ pub trait KeyWindows: Drop {
     ghost use Rattle.std.specs.Prelude.{ℕ, List};
     ghost use Rattle.stream_base.specs.declared.kept.Kept.{Kept};
     ghost use Rattle.stream_base.specs.Limits.{Definitions};
+    ghost use Rattle.stream_base.specs.Model.Changes.{Moment};
     ghost use Rattle.key_windows.specs.Calls.{Call};
 
     /// The key.
@@ -40,11 +41,32 @@ pub trait KeyWindows: Drop {
     /// The positions of its tuples are below this one.
     ghost next_position: { Self → ℕ };
 
+    /// At most how many steps a tuple at a time takes that leads from one moment of the key to another.
+    ghost put_work: { Definitions → Moment → Moment → ℕ → Self → ℕ };
+
+    /// At most how many steps a mark takes that does so, by the state before and after it.
+    ghost mark_work: { Definitions → Moment → Moment → ℕ → Self → Self → ℕ };
+
+    /// What is left of the steps that were paid for.
+    ghost credit: { Self → ℕ };
+
+    /// Nothing came before this watermark since the key was moved to it.
+    ghost is_ahead: { Definitions → ℕ → Self → Type 0 };
+
+    /// At most how many steps a move from one moment of the key to another takes on credit, by the
+    /// state before and after it.
+    ghost move_work: { Definitions → Moment → Moment → Self → Self → ℕ };
+
+    /// How many more it takes where something came before the watermark.
+    ghost catch_up: { Definitions → ℕ → Self → ℕ };
+
     /// No tuple and no mark yet.
     fn fresh(alloc: Global, defs: &Defs, key: KeyText) -> Result<Self, NoMemory>
         ensures key { IfOk result (λ state. key_of state ≡ key) }
         ensures first { IfOk result (λ state. next_position state ≡ 0) }
-        ensures empty { (water : ℕ) → IfOk result (λ state. fits defs.now [] [] water state) };
+        ensures empty { (water : ℕ) → IfOk result (λ state. fits defs.now [] [] water state) }
+        ensures credit { IfOk result (λ state. credit state ≡ 0) }
+        ensures ahead { (water : ℕ) → IfOk result (λ state. is_ahead defs.now water state) };
 
     /// Makes room for a tuple at a time.
     fn reserve_put(&mut self, defs: &Defs, time: u64, water: u64) -> Result<u64, NoMemory>
@@ -57,7 +79,9 @@ pub trait KeyWindows: Drop {
         ensures stays { (kept : List Kept) (marks : List ℕ) (w : ℕ)
             → fits defs.now kept marks w self.old → fits defs.now kept marks w self.new }
         ensures ready { IfOk result (λ n. is_ready defs.now (Put time water) self.new) }
-        ensures promised { IfOk result (λ n. promised self.new ≡ n) };
+        ensures promised { IfOk result (λ n. promised self.new ≡ n) }
+        ensures credit { credit self.new ≤ credit self.old }
+        ensures ahead { (w : ℕ) → is_ahead defs.now w self.old → is_ahead defs.now w self.new };
 
     /// Takes in an accepted tuple.
     fn put<L>(
@@ -86,7 +110,14 @@ pub trait KeyWindows: Drop {
             → fits defs.now kept marks water self.old → out.new.items
             ≡ out.old.items ++ changes_by_put defs.now (key_of self.old) kept marks water
             (kept_at pos time value) }
-        ensures capacity { vec_capacity out.new ≡ vec_capacity out.old };
+        ensures capacity { vec_capacity out.new ≡ vec_capacity out.old }
+        ensures work { (kept : List Kept) (marks : List ℕ)
+            → fits defs.now kept marks water self.old
+            → steps.new ≤ steps.old + put_work defs.now (moment kept marks water)
+            (moment (put_in_order kept (kept_at pos time value)) marks water) time self.old }
+        ensures credit { credit self.new ≤ credit self.old }
+        ensures ahead { water ≤ time → is_ahead defs.now water self.old
+            → is_ahead defs.now water self.new };
 
     /// Makes room for a mark at a time.
     fn reserve_mark(&mut self, defs: &Defs, time: u64, water: u64) -> Result<u64, NoMemory>
@@ -99,7 +130,9 @@ pub trait KeyWindows: Drop {
         ensures stays { (kept : List Kept) (marks : List ℕ) (w : ℕ)
             → fits defs.now kept marks w self.old → fits defs.now kept marks w self.new }
         ensures ready { IfOk result (λ n. is_ready defs.now (Mark time water) self.new) }
-        ensures promised { IfOk result (λ n. promised self.new ≡ n) };
+        ensures promised { IfOk result (λ n. promised self.new ≡ n) }
+        ensures credit { credit self.new ≤ credit self.old }
+        ensures ahead { (w : ℕ) → is_ahead defs.now w self.old → is_ahead defs.now w self.new };
 
     /// Takes in an accepted mark.
     fn mark<L>(
@@ -123,7 +156,14 @@ pub trait KeyWindows: Drop {
         ensures changes { (kept : List Kept) (marks : List ℕ)
             → fits defs.now kept marks water self.old → out.new.items
             ≡ out.old.items ++ changes_by_mark defs.now (key_of self.old) kept marks water time }
-        ensures capacity { vec_capacity out.new ≡ vec_capacity out.old };
+        ensures capacity { vec_capacity out.new ≡ vec_capacity out.old }
+        ensures work { (kept : List Kept) (marks : List ℕ)
+            → fits defs.now kept marks water self.old
+            → steps.new ≤ steps.old + mark_work defs.now (moment kept marks water)
+            (moment kept (insert_key nat_cmp marks time) water) time self.old self.new }
+        ensures credit { credit self.new ≤ credit self.old }
+        ensures ahead { water ≤ time → is_ahead defs.now water self.old
+            → is_ahead defs.now water self.new };
 
     /// Makes room for a move of the watermark.
     fn reserve_water(&mut self, defs: &Defs, old: u64, new: u64) -> Result<u64, NoMemory>
@@ -136,7 +176,9 @@ pub trait KeyWindows: Drop {
         ensures stays { (kept : List Kept) (marks : List ℕ) (w : ℕ)
             → fits defs.now kept marks w self.old → fits defs.now kept marks w self.new }
         ensures ready { IfOk result (λ n. is_ready defs.now (Move old new) self.new) }
-        ensures promised { IfOk result (λ n. promised self.new ≡ n) };
+        ensures promised { IfOk result (λ n. promised self.new ≡ n) }
+        ensures credit { credit self.new ≤ credit self.old }
+        ensures ahead { (w : ℕ) → is_ahead defs.now w self.old → is_ahead defs.now w self.new };
 
     /// Takes in a move of the watermark.
     fn water<L>(
@@ -162,7 +204,18 @@ pub trait KeyWindows: Drop {
             → out.new.items ≡ out.old.items ++ changes_by_move defs.now
             (key_of self.old) kept marks old new }
         ensures room { vec_len out.new ≤ vec_len out.old + promised self.old }
-        ensures capacity { vec_capacity out.new ≡ vec_capacity out.old };
+        ensures capacity { vec_capacity out.new ≡ vec_capacity out.old }
+        ensures ahead { IsWater old → is_ahead defs.now new self.new }
+        ensures work_ahead { (kept : List Kept) (marks : List ℕ)
+            → fits defs.now kept marks old self.old → is_ahead defs.now old self.old
+            → steps.new + credit self.new ≤ steps.old + credit self.old
+            + move_work defs.now (moment kept marks old) (moment kept marks new)
+            self.old self.new }
+        ensures work { (kept : List Kept) (marks : List ℕ)
+            → fits defs.now kept marks old self.old
+            → steps.new + credit self.new ≤ steps.old + credit self.old
+            + (move_work defs.now (moment kept marks old) (moment kept marks new)
+            self.old self.new + catch_up defs.now old self.old) };
 
     /// A watermark up to which, without it, nothing becomes complete: a move to below it changes nothing.
     fn next_due(&self, defs: &Defs, water: u64) -> u64

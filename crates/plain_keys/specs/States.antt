@@ -40,6 +40,10 @@ pub record IsState (kept : List Kept) (marks : List ℕ) (next : ℕ) : Type 0 w
 abbrev pub stand_in : ℕ → Kept
 stand_in time = kept_at (2 ^ 64 - 1) time (pos 0)
 
+-- the greatest number of steps that a counter shows
+abbrev pub most_steps : ℕ
+most_steps = 2 ^ 64 - 1
+
 -- its kept tuples and marks are these, and no bound lies between the watermark and its due number
 abbrev pub Fits : Definitions → List Kept → List ℕ → ℕ → State → Type 0
 Fits d kept marks water s = (s.kept ≡ kept) × (s.marks ≡ marks) × IsAhead d.windows kept marks water s.due

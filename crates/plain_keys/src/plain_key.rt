@@ -10,7 +10,7 @@ ghost use Rattle.stream_base.specs.Model.Journal.{put_in_order};
 ghost use Rattle.plain_windows.specs.Changing.{IsAhead, room};
 ghost use Rattle.plain_windows.specs.Views.{AreWindows};
 ghost use Rattle.key_windows.specs.Calls.{kept_at, moment};
-ghost use Rattle.plain_keys.specs.States.{Fits, IsMarked, IsOfSame, IsPut, IsReady, IsState, Stays, by_one_mark, by_tuple, stand_in};
+ghost use Rattle.plain_keys.specs.States.{Fits, IsMarked, IsOfSame, IsPut, IsReady, IsState, Stays, by_one_mark, by_tuple, most_steps, stand_in};
 
 use crate::drafts::{add_mark, draw_mark, draw_put, fill_in, put_in};
 use agg_laws::Steps;
@@ -333,6 +333,13 @@ fn kept_at(position: u64, time: u64, value: i64) -> Kept
     }
 }
 
+// Changes nothing, and tells a proof how far a counter counts.
+fn vouch_count<L>(steps: &Steps<L>)
+    ensures { steps.now ≤ most_steps }
+{
+    let _count = steps.count();
+}
+
 impl KeyWindows for PlainKey {
     ghost key_of = { λ s. s.key };
 
@@ -343,6 +350,18 @@ impl KeyWindows for PlainKey {
     ghost promised = { λ s. s.promise };
 
     ghost next_position = { λ s. s.next };
+
+    ghost put_work = { λ d old new time s. most_steps };
+
+    ghost mark_work = { λ d old new time before after. most_steps };
+
+    ghost credit = { λ s. 0 };
+
+    ghost is_ahead = { λ d water s. Unit {0} };
+
+    ghost move_work = { λ d old new before after. most_steps };
+
+    ghost catch_up = { λ d water s. 0 };
 
     fn fresh(alloc: Global, defs: &Defs, key: KeyText) -> Result<PlainKey, NoMemory> {
         let _ = defs;
@@ -384,9 +403,11 @@ impl KeyWindows for PlainKey {
         if water < time {
             self.put_ahead(x);
             self.look_behind(defs, time, water);
+            vouch_count(steps);
         } else {
             self.put_late(windows, x, water, out, steps);
             self.look_ahead(defs, water);
+            vouch_count(steps);
         }
     }
 
@@ -411,9 +432,11 @@ impl KeyWindows for PlainKey {
         if water < time {
             self.mark_ahead(time);
             self.look_ahead(defs, water);
+            vouch_count(steps);
         } else {
             self.mark_late(windows, time, water, out, steps);
             self.look_ahead(defs, water);
+            vouch_count(steps);
         }
     }
 
@@ -451,6 +474,7 @@ impl KeyWindows for PlainKey {
         };
         append_completions(defs.windows(), &self.key, &view, new, out, steps);
         self.look_ahead(defs, new);
+        vouch_count(steps);
     }
 
     fn next_due(&self, defs: &Defs, water: u64) -> u64 {

@@ -23,6 +23,7 @@ use Rattle.window_laws.proofs.NextFacts.{next_of_counts}
 use Rattle.count_shift.specs.Counting.{count_of, next_filled, upper}
 use Rattle.time_lanes.proofs.WalkFacts.{one_time_more}
 use Rattle.key_parts.specs.Calls.{window_at}
+use Rattle.key_parts.specs.Work.{change_work, row_work}
 use Rattle.time_parts.specs.Counted.{CountsAt}
 use Rattle.time_parts.specs.Lanes.{kind_at}
 use Rattle.time_parts.proofs.LaneFacts.{none_due, nothing_changes}
@@ -48,6 +49,22 @@ some_events (Sliding length slide) t k = absurd (false≢true t)
 some_events (Session gap) t k = absurd (false≢true t)
 some_events Marks t k = absurd (false≢true t)
 some_events (Events count) t k = k.0
+
+-- a change of it takes two combines for each tuple of the instance
+pub counted_work : (kind : Kind) (reach : ℕ) → is_events kind ≡ true → change_work kind reach ≡ 2 * count_of kind
+counted_work (Tumbling length) reach t = absurd (false≢true t)
+counted_work (Sliding length slide) reach t = absurd (false≢true t)
+counted_work (Session gap) reach t = absurd (false≢true t)
+counted_work Marks reach t = absurd (false≢true t)
+counted_work (Events count) reach t = refl
+
+-- and a row that a move completes one
+pub counted_row : (kind : Kind) (reach : ℕ) → is_events kind ≡ true → row_work kind reach ≡ count_of kind
+counted_row (Tumbling length) reach t = absurd (false≢true t)
+counted_row (Sliding length slide) reach t = absurd (false≢true t)
+counted_row (Session gap) reach t = absurd (false≢true t)
+counted_row Marks reach t = absurd (false≢true t)
+counted_row (Events count) reach t = refl
 
 -- ---- a mark comes
 marks_aside : (kind : Kind) (kept : List Kept) (marks others : List ℕ) (water : ℕ) → is_events kind ≡ true → standing_of kind kept marks water ≡ standing_of kind kept others water

@@ -1,5 +1,5 @@
 -- What a lane meets where a tuple or a mark comes, where the watermark moves, and where slices leave.
-use Rattle.std.proofs.Common.{◌≡◌, ◌∙◌, ℕ, ◌<◌, ◌≤◌, ◌^◌, true, false, cond, Option, Some, List, [], ◌∷◌, ◌++◌, length, take, drop, map, ap, sym, refl, subst, arith, inl, inr}
+use Rattle.std.proofs.Common.{◌≡◌, ◌∙◌, ℕ, ◌+◌, ◌*◌, ◌<◌, ◌≤◌, ◌^◌, true, false, cond, Option, Some, List, [], ◌∷◌, ◌++◌, length, take, drop, map, ap, sym, refl, subst, arith, inl, inr}
 use Rattle.std.specs.Prelude.{◌&&◌, ◌⊎◌, find, nat_le, nat_lt}
 use Rattle.std.specs.List.{filter}
 use Rattle.std.specs.List.Sorted.{IsNonDecreasingBy}
@@ -37,6 +37,7 @@ use Rattle.time_lanes.specs.Moves.{moment}
 use Rattle.key_parts.specs.Calls.{window_at}
 use Rattle.key_parts.specs.Moves.{AreLists, Comes, IsPutStep, IsStored}
 use Rattle.key_parts.specs.Moves.Comes.{Enters, Leaves}
+use Rattle.key_parts.specs.Work.{change_work, row_work}
 use Rattle.time_parts.specs.Lanes.{IsTimedAt, kind_at}
 use Rattle.time_parts.proofs.WindowFacts.{apart_at, few_without, member_at, timed_at}
 
@@ -125,11 +126,27 @@ module _ (m : Moment) (n water : ℕ) (tuples : List Kept) (is : m.water ≡ wat
       ∙ ap (λ q. old ++ (q ++ emissions key m (with_tuple m x) (window, w))) (sym (timed_none_gone window key w m x t k))
 
 -- ---- what a tuple finds
-pub told_number : (w : Def) (time water : ℕ) (m : Moment) (formers : List (Option Former)) → m.water ≡ water → formers ≡ formers_of w time m.water m.kept → length (complete_holding w.kind time water) ≤ length formers
+pub told_number : (w : Def) (time water : ℕ) (m : Moment) (formers : List (Option Former)) → m.water ≡ water → formers ≡ formers_of w time m.water m.kept → length formers ≡ length (complete_holding w.kind time water)
 told_number w time water m formers is told =
-    let l : length formers ≡ length (complete_holding w.kind time m.water) = ap length told ∙ length-map (complete_holding w.kind time m.water) (former_at w.func (length_of w.kind) m.kept) in
-    let e : length (complete_holding w.kind time m.water) ≡ length (complete_holding w.kind time water) = ap (λ k. length (complete_holding w.kind time k)) is in
-    omega (arith, l, e)
+    ap length told
+    ∙ length-map (complete_holding w.kind time m.water) (former_at w.func (length_of w.kind) m.kept)
+    ∙ ap (λ k. length (complete_holding w.kind time k)) is
+
+-- a change of it takes one fold
+pub timed_work : (kind : Kind) (reach : ℕ) → is_timed kind ≡ true → change_work kind reach ≡ 64 * (reach + 2)
+timed_work (Tumbling length) reach t = refl
+timed_work (Sliding length slide) reach t = refl
+timed_work (Session gap) reach t = absurd (false≢true t)
+timed_work Marks reach t = absurd (false≢true t)
+timed_work (Events count) reach t = absurd (false≢true t)
+
+-- and a row that a move completes one step
+pub timed_row : (kind : Kind) (reach : ℕ) → is_timed kind ≡ true → row_work kind reach ≡ 1
+timed_row (Tumbling length) reach t = refl
+timed_row (Sliding length slide) reach t = refl
+timed_row (Session gap) reach t = absurd (false≢true t)
+timed_row Marks reach t = absurd (false≢true t)
+timed_row (Events count) reach t = absurd (false≢true t)
 
 -- the store holds it in its place, and what stood is told of all tuples before
 pub is_late : (d : Definitions) (window : ℕ) (m : Moment) (n : ℕ) (before : Stored) (x : Kept) (more : ℕ) (after : Stored) (formers : List (Option Former)) (water : ℕ) → IsTimedAt d window → IsPutStep d m n before x more after → m.water ≡ water → formers ≡ formers_of (window_at d window) x.time m.water m.kept → IsLate (window_at d window) x.time water (take n m.kept) (drop n m.kept) x formers after

@@ -1,5 +1,5 @@
 -- What the part of a tumbling or sliding window is in contracts, and what it promises.
-use Rattle.std.proofs.Common.{◌≡◌, ◌≤◌, ◌-◌, ℕ, true, List, length, Option, subst, sym}
+use Rattle.std.proofs.Common.{◌≡◌, ◌∙◌, ◌≤◌, ◌-◌, ℕ, true, List, length, Option, ap, subst, sym}
 use Rattle.stream_base.specs.Limits.{Definitions}
 use Rattle.stream_base.specs.declared.former.Former.{Former}
 use Rattle.stream_base.specs.declared.kind.Kind.{Kind}
@@ -7,10 +7,11 @@ use Rattle.stream_base.specs.Model.Changes.{Moment}
 use Rattle.window_laws.specs.Runs.{runs_within}
 use Rattle.window_laws.specs.Walk.{next_start_of}
 use Rattle.slice_store.specs.Stored.{IsAsBefore, Stored, tuples_of}
-use Rattle.time_lanes.specs.Lane.{Knows, Laned, partials_of}
+use Rattle.time_lanes.specs.Lane.{Knows, KnowsAll, Laned, partials_of}
 use Rattle.time_lanes.specs.Late.{complete_holding, formers_of}
-use Rattle.time_lanes.specs.Moves.{completed_starts, slices_due}
-use Rattle.time_lanes.specs.Spans.{is_served}
+use Rattle.time_lanes.specs.Moves.{completed_starts, slices_between, slices_due, slices_in_last}
+use Rattle.time_lanes.specs.Spans.{is_served, last_end_of}
+use Rattle.time_lanes.proofs.StayFacts.{last_by}
 use Rattle.key_parts.specs.Calls.{window_at}
 
 -- the lane of a window, what it has told of what stands before a tuple comes, and for how much of that there is room
@@ -52,6 +53,22 @@ rows_due d window s old new = length (completed_starts (kind_at d window) (tuple
 abbrev pub open_from : Definitions → ℕ → ℕ → ℕ
 open_from d window water = next_start_of (kind_at d window) (water - d.lateness)
 
+-- the end of the last interval that is complete at a watermark, and 0 where there is none
+abbrev pub complete_up_to : Definitions → ℕ → ℕ → ℕ
+complete_up_to d window water = last_end_of (kind_at d window) water
+
+-- the lane misses none of the slices in the intervals that are complete at a watermark
+abbrev pub MissesNone : Definitions → ℕ → ℕ → Stored → Laned → Type 0
+MissesNone d window water s lane = KnowsAll (kind_at d window) water s lane
+
+-- how many slices lie in the intervals that a move completes
+abbrev pub slices_completed : Definitions → ℕ → Stored → ℕ → ℕ → ℕ
+slices_completed d window s old new = length (slices_between (kind_at d window) s old new)
+
+-- how many lie in the last one that is complete at a watermark
+abbrev pub slices_of_last : Definitions → ℕ → Stored → ℕ → ℕ
+slices_of_last d window s water = length (slices_in_last (kind_at d window) s water)
+
 -- the room of the store makes no difference
 pub serves_with_room : (d : Definitions) (window : ℕ) (m : Moment) (s more : Stored) (lane : Laned) → IsAsBefore s more → Serves d window m s lane → Serves d window m more lane
 serves_with_room d window m s more lane same stood = record {
@@ -62,3 +79,14 @@ serves_with_room d window m s more lane same stood = record {
     held = λ fresh. subst (λ slices. lane.partials ≡ partials_of (runs_within (next_start_of (kind_at d window) m.water) lane.to slices)) (sym same.slices) (stood.knows.held fresh);
   };
 }
+
+-- nor to what it misses
+pub misses_with_room : (d : Definitions) (window water : ℕ) (s more : Stored) (lane : Laned) → IsAsBefore s more → MissesNone d window water s lane → MissesNone d window water more lane
+misses_with_room d window water s more lane same ahead = record {
+  fresh = ahead.fresh;
+  none_missed = ap (runs_within lane.to (last_end_of (kind_at d window) water)) same.slices ∙ ahead.none_missed;
+}
+
+-- what is complete at a watermark ends by it
+pub complete_in_time : (d : Definitions) (window water : ℕ) → complete_up_to d window water ≤ water
+complete_in_time d window water = last_by (kind_at d window) water

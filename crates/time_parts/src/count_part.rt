@@ -51,7 +51,7 @@ fn count_of(kind: &Kind) -> u64
 }
 
 impl KeyPart for CountPart {
-    ghost use Rattle.std.specs.Prelude.{◌≤◌};
+    ghost use Rattle.std.proofs.Common.{◌≤◌, zero-le};
     ghost use Rattle.stream_base.specs.declared.limits.TheConstants.{FINAL};
     ghost use Rattle.time_parts.specs.Counted.{Counts, CountsAt, fill_room, shift_room};
 
@@ -60,6 +60,8 @@ impl KeyPart for CountPart {
     ghost stands = { λ d window m n s p. Counts d window m p };
 
     ghost is_asked = { λ d window m time p. Unit {0} };
+
+    ghost owed = { λ p. 0 };
 
     ghost is_ready = { λ d window time water p. 1 ≤ p.spare };
 
@@ -71,9 +73,23 @@ impl KeyPart for CountPart {
 
     ghost move_room = { λ d window s old new p. fill_room d window old new p };
 
+    ghost credit = { λ p. 0 };
+
+    ghost complete_by = { λ d window water. 0 };
+
+    ghost is_ahead = { λ d window water s p. Unit {0} };
+
+    ghost taken_up = { λ d window s old new. 0 };
+
+    ghost missed = { λ d window s water. 0 };
+
     ghost settles_at = { λ d window water p. FINAL };
 
     ghost stands_with_room = { λ d window m n s more part same stood. stood };
+
+    ghost ahead_with_room = { λ d window water s more part same ahead. ahead };
+
+    ghost complete_in_time = { λ d window water. zero-le };
 
     fn fresh(alloc: Global, defs: &Defs, window: u32) -> Self {
         CountPart {

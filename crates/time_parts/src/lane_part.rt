@@ -58,13 +58,16 @@ impl<Q: AggQueue<Bundle>> LanePart<Q> {
 }
 
 impl<Q: AggQueue<Bundle> + Drop> KeyPart for LanePart<Q> {
-    ghost use Rattle.time_parts.specs.Lanes.{CanMove, HasTold, IsTimedAt, Serves, late_room, open_from, rows_due, serves_with_room};
+    ghost use Rattle.std.specs.Prelude.{length};
+    ghost use Rattle.time_parts.specs.Lanes.{CanMove, HasTold, IsTimedAt, MissesNone, Serves, complete_in_time, complete_up_to, late_room, misses_with_room, open_from, rows_due, serves_with_room, slices_completed, slices_of_last};
 
     ghost is_for = { IsTimedAt };
 
     ghost stands = { λ d window m n s p. Serves d window m s p.lane };
 
     ghost is_asked = { HasTold };
+
+    ghost owed = { λ p. length p.formers };
 
     ghost is_ready = { λ d window time water p. late_room d window time water ≤ p.room };
 
@@ -76,10 +79,25 @@ impl<Q: AggQueue<Bundle> + Drop> KeyPart for LanePart<Q> {
 
     ghost move_room = { λ d window s old new p. rows_due d window s old new };
 
+    ghost credit = { λ p. p.lane.credit };
+
+    ghost complete_by = { complete_up_to };
+
+    ghost is_ahead = { λ d window water s p. MissesNone d window water s p.lane };
+
+    ghost taken_up = { slices_completed };
+
+    ghost missed = { slices_of_last };
+
     ghost settles_at = { λ d window water p. open_from d window water };
 
     ghost stands_with_room = { λ d window m n s more part same stood.
         serves_with_room d window m s more part.lane same stood };
+
+    ghost ahead_with_room = { λ d window water s more part same ahead.
+        misses_with_room d window water s more part.lane same ahead };
+
+    ghost complete_in_time = { complete_in_time };
 
     fn fresh(alloc: Global, defs: &Defs, window: u32) -> Self {
         LanePart {

@@ -31,3 +31,8 @@ module _ {P Q : Type 0} {S : Standing P} {R : Standing Q} {d : Definitions} {win
   changes_with {A} {B} {water} {pos} {time} {value} {other} {after} F asks same step {m} {n} {before} {more} t =
       let given = subst (λ v. TakesTuple S d window A water (kept_at pos time v) after p m n before more) (sym same) t in
       subst (λ v. F m (kept_at pos time v)) same (step m n before more (tuple_as asks given))
+
+  pub ahead_with : {A : Definitions → ℕ → Moment → ℕ → P → Type 0} {B : Definitions → ℕ → Moment → ℕ → Q → Type 0} {water pos time : ℕ} {value other : ℤ} {after : Stored} (F : Stored → Type 0) → ((m : Moment) → A d window m time p → B d window m time q) → other ≡ value → ((m : Moment) (n : ℕ) (before : Stored) (more : ℕ) → TakesTuple R d window B water (kept_at pos time other) after q m n before more → F before) → {m : Moment} {n : ℕ} {before : Stored} {more : ℕ} → TakesTuple S d window A water (kept_at pos time value) after p m n before more → F before
+  ahead_with {A} {B} {water} {pos} {time} {value} {other} {after} F asks same step {m} {n} {before} {more} t =
+      let given = subst (λ v. TakesTuple S d window A water (kept_at pos time v) after p m n before more) (sym same) t in
+      step m n before more (tuple_as asks given)

@@ -1,1 +1,2 @@
 pub mod As
+pub mod NoLane

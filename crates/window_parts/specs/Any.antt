@@ -10,7 +10,7 @@ use Rattle.context_windows.specs.Spanned.{gap_at}
 use Rattle.context_windows.specs.Spans.{due_of, put_changes}
 use Rattle.context_parts.specs.MarksStand.{DoStandBetween, RemembersHolderAt}
 use Rattle.context_parts.specs.SessionsStand.{AreAsked, DoStand}
-use Rattle.time_parts.specs.Lanes.{CanMove, HasTold, Serves, late_room, open_from, rows_due, serves_with_room}
+use Rattle.time_parts.specs.Lanes.{CanMove, HasTold, MissesNone, Serves, late_room, misses_with_room, open_from, rows_due, serves_with_room}
 use Rattle.time_parts.specs.Counted.{Counts, fill_room, shift_room}
 use Rattle.window_parts.specs.declared.window_part.WindowPart.{WindowPart}
 use Rattle.window_parts.specs.declared.window_part.WindowPart.TheVariants.{Intervals, Sessions, Marks, Events}
@@ -28,6 +28,13 @@ asked_any d window m time (Intervals p) = HasTold d window m time p
 asked_any d window m time (Sessions p) = AreAsked d window m time p.sessions
 asked_any d window m time (Marks p) = RemembersHolderAt d window m time p.windows
 asked_any d window m time (Events p) = Unit {0}
+
+-- of how many instances it has kept what stands
+abbrev pub owed_any : {Q : Type 0} → WindowPart Q → ℕ
+owed_any (Intervals p) = length p.formers
+owed_any (Sessions p) = length p.sessions.stood
+owed_any (Marks p) = length p.windows.stood
+owed_any (Events p) = 0
 
 -- its room for a tuple or a mark
 abbrev pub ready_any : {Q : Type 0} → Definitions → ℕ → ℕ → ℕ → WindowPart Q → Type 0
@@ -64,6 +71,20 @@ move_room_any d window s old new (Sessions p) = length (due_of old new p.session
 move_room_any d window s old new (Marks p) = length (due_of old new p.windows.spans)
 move_room_any d window s old new (Events p) = fill_room d window old new p
 
+-- what is left of the steps that were paid for: a lane alone is paid in advance
+abbrev pub credit_any : {Q : Type 0} → WindowPart Q → ℕ
+credit_any (Intervals p) = p.lane.credit
+credit_any (Sessions p) = 0
+credit_any (Marks p) = 0
+credit_any (Events p) = 0
+
+-- it has missed none of the slices that it takes up but once: a lane alone takes slices up
+abbrev pub ahead_any : {Q : Type 0} → Definitions → ℕ → ℕ → Stored → WindowPart Q → Type 0
+ahead_any d window water s (Intervals p) = MissesNone d window water s p.lane
+ahead_any d window water s (Sessions p) = Unit {0}
+ahead_any d window water s (Marks p) = Unit {0}
+ahead_any d window water s (Events p) = Unit {0}
+
 -- from which time on tuples are not settled
 abbrev pub settles_any : {Q : Type 0} → Definitions → ℕ → ℕ → WindowPart Q → ℕ
 settles_any d window water (Intervals p) = open_from d window water
@@ -77,3 +98,9 @@ stands_with_room_any d window m n s more (Intervals p) same stood = serves_with_
 stands_with_room_any d window m n s more (Sessions p) same stood = stood
 stands_with_room_any d window m n s more (Marks p) same stood = stood
 stands_with_room_any d window m n s more (Events p) same stood = stood
+
+pub ahead_with_room_any : {Q : Type 0} → (d : Definitions) (window water : ℕ) (s more : Stored) (part : WindowPart Q) → IsAsBefore s more → ahead_any d window water s part → ahead_any d window water more part
+ahead_with_room_any d window water s more (Intervals p) same ahead = misses_with_room d window water s more p.lane same ahead
+ahead_with_room_any d window water s more (Sessions p) same ahead = ahead
+ahead_with_room_any d window water s more (Marks p) same ahead = ahead
+ahead_with_room_any d window water s more (Events p) same ahead = ahead

@@ -6,6 +6,8 @@
 //! definitions.
 #![tactic(auto)]
 
+mod laws;
 mod window_part;
 
+pub use laws::lanes_alone_take_up_slices;
 pub use window_part::WindowPart;

@@ -26,13 +26,16 @@ impl<Q: AggQueue<Bundle> + Drop> AnyPart for WindowPart<Q> {
 
 impl<Q: AggQueue<Bundle> + Drop> KeyPart for WindowPart<Q> {
     ghost use Rattle.std.specs.Prelude.{◌<◌, length};
-    ghost use Rattle.window_parts.specs.Any.{asked_any, can_move_any, mark_room_any, move_room_any, put_room_any, ready_any, settles_any, stands_any, stands_with_room_any};
+    ghost use Rattle.time_parts.specs.Lanes.{complete_in_time, complete_up_to, slices_completed, slices_of_last};
+    ghost use Rattle.window_parts.specs.Any.{ahead_any, ahead_with_room_any, asked_any, can_move_any, credit_any, mark_room_any, move_room_any, owed_any, put_room_any, ready_any, settles_any, stands_any, stands_with_room_any};
 
     ghost is_for = { λ d window. window < length d.windows };
 
     ghost stands = { stands_any };
 
     ghost is_asked = { asked_any };
+
+    ghost owed = { owed_any };
 
     ghost is_ready = { ready_any };
 
@@ -44,9 +47,24 @@ impl<Q: AggQueue<Bundle> + Drop> KeyPart for WindowPart<Q> {
 
     ghost move_room = { move_room_any };
 
+    ghost credit = { credit_any };
+
+    ghost is_ahead = { ahead_any };
+
+    // These are 0 where the window has no lane, as `lanes_alone_take_up_slices` says.
+    ghost complete_by = { complete_up_to };
+
+    ghost taken_up = { slices_completed };
+
+    ghost missed = { slices_of_last };
+
     ghost settles_at = { settles_any };
 
     ghost stands_with_room = { stands_with_room_any };
+
+    ghost ahead_with_room = { ahead_with_room_any };
+
+    ghost complete_in_time = { complete_in_time };
 
     fn fresh(alloc: Global, defs: &Defs, window: u32) -> Self {
         let windows = defs.windows();

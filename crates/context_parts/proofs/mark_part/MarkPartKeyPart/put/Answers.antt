@@ -1,11 +1,11 @@
 -- The store holds all of the interval that the tuple enters.
-use Rattle.std.proofs.Common.{◌∙◌, ◌++◌, ◌≤◌, ◌-◌, arith, ap, refl, subst, sym, drop}
+use Rattle.std.proofs.Common.{◌∙◌, ◌++◌, ◌≤◌, ◌+◌, ◌-◌, ◌*◌, arith, ap, refl, subst, sym, drop, vec_len}
 use Rattle.window_laws.specs.After.{with_tuple}
 use Rattle.context_windows.specs.Marked.{FollowsMarks, RemembersHolder, entered_at, marks_window}
 use Rattle.context_windows.specs.Spanned.{changes_of, window_at}
 use Rattle.key_windows.specs.Calls.{kept_at}
 use Rattle.context_parts.proofs.Edges.{HasMarks, edged_aligned, entered_edged, marks_with, parts_at_edges}
-use Rattle.context_parts.proofs.OfMarks.{are_intervals, marks_window_is, no_events, stretches_held}
+use Rattle.context_parts.proofs.OfMarks.{are_intervals, marks_window_is, marks_work, no_events, stretches_held}
 use Rattle.context_parts.proofs.Rest.{few_with, is_window, left_with, rest_windows, rest_with}
 use Rattle.context_parts.proofs.mark_part.MarkPartKeyPart.put.Goals as goal
 
@@ -53,3 +53,19 @@ returns-clause-changes g c = λ m n before more t.
     c.put.ensures.changes m x t.stood.follows open_ refl t.water_is remembers
     (stretches_held d c.args.window at (with_tuple m x) n c.args.store.now rest c.args.time late (few_with m x t.step.lists))
     ∙ ap (λ def. c.args.out.now.items ++ changes_of c.args.key.now m (with_tuple m x) (c.args.window, def)) (ap marks_window c.func_at-func.ensures ∙ marks_window_is w at.kind)
+
+pub returns-clause-owed : goal.returns-clause-owed
+returns-clause-owed g c =
+    let t = c.requires.takes in
+    let d = c.args.defs.now in
+    let p = c.args.self.now.windows in
+    let m = t.0 in
+    let open_ : p.forgotten ≤ c.args.time = omega (arith, (t.4).stood.bounded, (t.4).step.in_time) in
+    c.put.ensures.owed m.marks m.kept (t.4).stood.follows open_
+    (subst (λ f. RemembersHolder f c.args.time c.args.water m.marks m.kept p) (sym c.func_at-func.ensures)
+    (subst (λ water. RemembersHolder (window_at d c.args.window).func c.args.time water m.marks m.kept p) (t.4).water_is (t.4).asked.remembers))
+
+pub returns-clause-work : goal.returns-clause-work
+returns-clause-work g c =
+    let work = marks_work (window_at c.args.defs.now c.args.window).kind c.args.store.now.reach (c.requires.takes.4).stood.marks.kind in
+    subst (λ k. c.put.new.steps ≤ c.args.steps.now + k * (vec_len c.put.new.out - vec_len c.args.out.now)) (sym work) c.put.ensures.cost

@@ -4,8 +4,8 @@ use Rattle.context_windows.specs.Spanned.{Follows, gap_at}
 use Rattle.context_parts.proofs.OfSessions.{follows_left}
 use Rattle.context_parts.proofs.session_part.SessionPartKeyPart.drop_settled.Goals as goal
 
-pub returns : goal.returns
-returns c = λ m n time before more after l le.
+pub returns-clause-stands : goal.returns-clause-stands
+returns-clause-stands c = λ m n time before more after l le.
     let d = c.args.defs.now in
     let is : c.drop_settled.new.self.forgotten ≡ max c.args.self.now.sessions.forgotten (c.args.water - d.lateness) = search rules in
     let late : m.water - d.lateness ≤ c.drop_settled.new.self.forgotten = omega (arith, is, l.water_is) in

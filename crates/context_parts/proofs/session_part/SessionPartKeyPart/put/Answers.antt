@@ -1,10 +1,12 @@
 -- The store holds all of the session that the tuple makes.
-use Rattle.std.proofs.Common.{◌≤◌, ◌-◌, arith, refl, subst, sym, drop}
+use Rattle.std.proofs.Common.{◌≤◌, ◌+◌, ◌-◌, ◌*◌, arith, refl, subst, sym, drop, length, vec_len}
+use Rattle.std.proofs.Math.Nat.{mul-le-mul_left}
 use Rattle.context_windows.specs.Spanned.{Follows, Remembers, gap_at, window_at}
+use Rattle.context_windows.specs.Spans.{told_at}
 use Rattle.context_windows.proofs.Aligning.{told_aligned}
 use Rattle.key_windows.specs.Calls.{kept_at}
 use Rattle.window_laws.specs.After.{with_tuple}
-use Rattle.context_parts.proofs.OfSessions.{no_events, of_sessions, sessions_held}
+use Rattle.context_parts.proofs.OfSessions.{no_events, of_sessions, session_work, sessions_held, told_once}
 use Rattle.context_parts.proofs.Rest.{few_with, is_window, left_with, rest_with}
 use Rattle.context_parts.proofs.session_part.SessionPartKeyPart.put.Goals as goal
 
@@ -46,3 +48,15 @@ returns-clause-changes g c = λ m n before more t.
     c.put.ensures.changes m x t.stood.follows open_ refl t.water_is
     (subst (λ water. Remembers w c.args.time water m.kept c.args.self.now.sessions) t.water_is t.asked.remembers)
     (sessions_held d c.args.window at (with_tuple m x) n c.args.store.now rest c.args.time late (few_with m x t.step.lists))
+
+pub returns-clause-work : goal.returns-clause-work
+returns-clause-work g c =
+    let d = c.args.defs.now in
+    let gap = gap_at d c.args.window in
+    let spans = c.args.self.now.sessions.spans in
+    let one = 64 * (c.args.store.now.reach + 2) in
+    let told : length (told_at gap c.args.time c.args.water spans) ≤ vec_len c.put.new.out - vec_len c.args.out.now = omega (arith, told_once gap c.args.time c.args.water spans, c.put.ensures.number) in
+    let cost : c.put.new.steps ≤ c.args.steps.now + one * (vec_len c.put.new.out - vec_len c.args.out.now) =
+    omega (arith, c.put.ensures.cost, mul-le-mul_left one told) in
+    subst (λ k. c.put.new.steps ≤ c.args.steps.now + k * (vec_len c.put.new.out - vec_len c.args.out.now))
+    (sym (session_work (window_at d c.args.window).kind c.args.store.now.reach (c.requires.takes.4).stood.session.session)) cost

@@ -8,6 +8,7 @@ use Rattle.context_windows.specs.declared.span.Span.{Span}
 use Rattle.context_windows.specs.Marked.{AreIntervals, HoldsStretches, Marked, RemembersHolder, holder_in}
 use Rattle.context_windows.proofs.Intervals.{intervals_with}
 use Rattle.context_windows.proofs.Marking.{marks_put_told}
+use Rattle.context_windows.proofs.Owed.{holder_is_told}
 use Rattle.context_windows.proofs.Stretching.{marks_put_follows}
 use Rattle.context_windows.proofs.mark_windows.MarkWindows.put.Goals as goal
 
@@ -47,3 +48,10 @@ returns-clause-changes g c = λ m x f le at water r held.
     marks_put_told c.args.window c.args.func c.args.key.now m x s early f (subst (λ t. s.forgotten ≤ t) (sym at) le) c.args.water c.args.store.now water
     (subst (λ t. RemembersHolder c.args.func t c.args.water m.marks m.kept s) (sym at) r) (subst (λ t. HoldsStretches t m.marks (put_in_order m.kept x) c.args.store.now) (sym at) held)
     c.first_or-span.result (over ∙ ap (λ t. holder_in t s.spans s.marks) (sym at)) c.self.inside.stood stood c.args.out.now.items c.tell_joined.new.out.items (λ i h. c.tell_joined.ensures.told i h ∙ search rules)
+
+pub returns-clause-number : goal.returns-clause-number
+returns-clause-number g c = search rules
+
+pub returns-clause-owed : goal.returns-clause-owed
+returns-clause-owed g c = λ marks kept f le r.
+    omega (arith, holder_is_told c.args.func c.args.time c.args.water marks kept c.args.self.now (omega (arith, c.requires.time)) f le r, returns-clause-number g c)

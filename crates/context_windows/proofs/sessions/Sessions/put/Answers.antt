@@ -1,12 +1,15 @@
 -- The sessions near the tuple are one with it, and what is told is what that changes.
-use Rattle.std.proofs.Common.{◌≡◌, ◌∙◌, ◌≤◌, ◌++◌, [], ap, sym, subst, rules}
+use Rattle.std.proofs.Common.{◌≡◌, ◌∙◌, ◌≤◌, ◌++◌, [], length, ap, sym, subst, arith, rules}
 use Rattle.std.specs.Prelude.{option_to_list}
+use Rattle.std.proofs.lemmas.List.{length-map}
 use Rattle.stream_base.specs.Model.Journal.{put_in_order}
 use Rattle.context_windows.specs.Held.{HoldsSessions}
 use Rattle.context_windows.specs.Spanned.{Remembers, Spanned, gap_at, window_at}
-use Rattle.context_windows.specs.Spans.{AreApart, joined_span, near_of, spans_with}
+use Rattle.context_windows.specs.declared.standing.Standing.{Standing}
+use Rattle.context_windows.specs.Spans.{AreApart, asked_of, joined_span, near_of, spans_with}
 use Rattle.context_windows.proofs.Apart.{apart_with}
 use Rattle.context_windows.proofs.Changing.{put_follows, put_told}
+use Rattle.context_windows.proofs.Owed.{asked_are_told}
 use Rattle.context_windows.proofs.sessions.Sessions.put.Goals as goal
 
 pub invariant_of-self : goal.invariant_of-self
@@ -32,3 +35,14 @@ returns-clause-changes g c = λ m x f le at water r held.
     c.joined-span.result (over ∙ ap (λ t. joined_span (gap_at c.args.defs.now c.args.window) t (near_of (gap_at c.args.defs.now c.args.window) t c.args.self.now.spans)) (sym at))
     c.self.inside.first c.self.inside.second stood c.args.out.now.items c.tell_gone.new.out.items c.tell_gone-2.new.out.items c.tell_joined.new.out.items
     c.tell_gone.ensures.items c.tell_gone-2.ensures.items (λ i h. c.tell_joined.ensures.told i h ∙ search rules)
+
+pub returns-clause-number : goal.returns-clause-number
+returns-clause-number g c = search rules
+
+pub returns-clause-owed : goal.returns-clause-owed
+returns-clause-owed g c =
+    let s = c.args.self.now in
+    let gap = gap_at c.args.defs.now c.args.window in
+    let apart : AreApart s.spans = subst (λ (v : Spanned). AreApart v.spans) c.self.view_is c.self.invariant in
+    let few : length s.stood ≡ length (asked_of gap c.args.time c.args.water s.spans) = sym (length-map s.stood (λ (x : Standing). x.span)) ∙ ap length c.requires.asked.spans in
+    omega (arith, few, asked_are_told gap c.args.time c.args.water s.spans apart, returns-clause-number g c)

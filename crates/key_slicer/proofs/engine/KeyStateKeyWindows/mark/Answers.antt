@@ -1,11 +1,16 @@
 -- The store and the parts took the mark in, and go on to stand for the key where settled slices leave.
-use Rattle.std.proofs.Common.{refl, nat_cmp}
+use Rattle.std.proofs.Common.{◌≡◌, ◌-◌, length, vec_len, arith, refl, nat_cmp}
 use Rattle.std.specs.BTreeSet.{insert_key}
+use Rattle.std.specs.List.{enumerate_from, flat_map}
+use Rattle.stream_base.specs.Model.Changes.{changes_between}
 use Rattle.window_laws.specs.After.{with_mark}
 use Rattle.key_windows.specs.Calls.{moment}
+use Rattle.key_slicer.specs.Parts.{turns}
 use Rattle.key_slicer.specs.States.{Fits}
 use Rattle.key_slicer.proofs.StateFacts.{fits_marked, mark_step}
-use Rattle.key_slicer.proofs.SortFacts.{appended_sorted}
+use Rattle.key_slicer.proofs.SortFacts.{appended_sorted, as_many_turns}
+use Rattle.key_slicer.proofs.Loops.{grown}
+use Rattle.key_slicer.proofs.WorkFacts.{mark_cost}
 use Rattle.key_slicer.proofs.engine.KeyStateKeyWindows.mark.Goals as goal
 
 pub purge-requires-clause-stands : goal.purge-requires-clause-stands
@@ -69,3 +74,51 @@ returns-else-time-lateness-clause-changes g c = λ kept marks fits.
     c.mark.ensures.tuples c.mark.ensures.slices c.mark.ensures.sliced c.mark.ensures.marks c.mark.ensures.dropped in
     appended_sorted s.key m (with_mark m c.args.time) d.windows s.scratch.items c.mark-2.new.out.items c.as_slice.result.now c.args.out.now.items c.append_sorted.new.out.items c.requires.ready.empty
     (c.mark-2.ensures.changes m f.without s.store (record { water_is = refl; step = step; stood = f.stood })) c.as_slice.ensures.value c.append_sorted.ensures.items
+
+pub returns-then-time-lateness-clause-work : goal.returns-then-time-lateness-clause-work
+returns-then-time-lateness-clause-work g c = λ kept marks fits.
+    let s = c.args.self.now in
+    let d = c.args.defs.now in
+    let m = moment kept marks c.args.water in
+    let f = fits.known in
+    let step = mark_step g.P.KeyPart.stands d m s.next s.store s.parts.list.items c.args.time c.mark.new.self f c.vouch.ensures c.requires.time c.requires.accepted
+    c.mark.ensures.tuples c.mark.ensures.slices c.mark.ensures.sliced c.mark.ensures.marks c.mark.ensures.dropped in
+    let changed = vec_len c.mark-2.new.out - vec_len s.scratch in
+    let many : changed ≡ length (changes_between d.windows s.key m (with_mark m c.args.time)) = omega (arith, as_many_turns s.key m (with_mark m c.args.time) d.windows, grown s.scratch.items c.mark-2.new.out.items (flat_map (turns s.key m (with_mark m c.args.time)) (enumerate_from 0 d.windows)) (c.mark-2.ensures.changes m f.without s.store (record { water_is = refl; step = step; stood = f.stood }))) in
+    mark_cost d s.key m (with_mark m c.args.time) c.args.time s.store c.mark.new.self c.purge.new.self.store changed c.args.steps.now c.mark.new.steps c.mark-2.new.steps c.purge.new.steps
+    c.mark.ensures.cost c.mark-2.ensures.work c.purge.ensures.work c.mark.ensures.reach many c.mark.ensures.slices
+
+pub returns-else-time-lateness-clause-work : goal.returns-else-time-lateness-clause-work
+returns-else-time-lateness-clause-work g c = λ kept marks fits.
+    let s = c.args.self.now in
+    let d = c.args.defs.now in
+    let m = moment kept marks c.args.water in
+    let f = fits.known in
+    let step = mark_step g.P.KeyPart.stands d m s.next s.store s.parts.list.items c.args.time c.mark.new.self f c.vouch.ensures c.requires.time c.requires.accepted
+    c.mark.ensures.tuples c.mark.ensures.slices c.mark.ensures.sliced c.mark.ensures.marks c.mark.ensures.dropped in
+    let changed = vec_len c.mark-2.new.out - vec_len s.scratch in
+    let many : changed ≡ length (changes_between d.windows s.key m (with_mark m c.args.time)) = omega (arith, as_many_turns s.key m (with_mark m c.args.time) d.windows, grown s.scratch.items c.mark-2.new.out.items (flat_map (turns s.key m (with_mark m c.args.time)) (enumerate_from 0 d.windows)) (c.mark-2.ensures.changes m f.without s.store (record { water_is = refl; step = step; stood = f.stood }))) in
+    mark_cost d s.key m (with_mark m c.args.time) c.args.time s.store c.mark.new.self c.mark.new.self changed c.args.steps.now c.mark.new.steps c.mark-2.new.steps c.mark-2.new.steps
+    c.mark.ensures.cost c.mark-2.ensures.work (omega arith) c.mark.ensures.reach many c.mark.ensures.slices
+
+pub returns-then-time-lateness-clause-ahead : goal.returns-then-time-lateness-clause-ahead
+returns-then-time-lateness-clause-ahead g c = λ le each.
+    let r = c.requires.stands in
+    let s = c.args.self.now in
+    let d = c.args.defs.now in
+    let m = moment r.0 r.1 c.args.water in
+    let f = r.2.known in
+    let step = mark_step g.P.KeyPart.stands d m s.next s.store s.parts.list.items c.args.time c.mark.new.self f c.vouch.ensures c.requires.time c.requires.accepted
+    c.mark.ensures.tuples c.mark.ensures.slices c.mark.ensures.sliced c.mark.ensures.marks c.mark.ensures.dropped in
+    c.purge.ensures.ahead (c.mark-2.ensures.ahead m f.without s.store (record { water_is = refl; step = step; stood = f.stood }) le each)
+
+pub returns-else-time-lateness-clause-ahead : goal.returns-else-time-lateness-clause-ahead
+returns-else-time-lateness-clause-ahead g c = λ le each.
+    let r = c.requires.stands in
+    let s = c.args.self.now in
+    let d = c.args.defs.now in
+    let m = moment r.0 r.1 c.args.water in
+    let f = r.2.known in
+    let step = mark_step g.P.KeyPart.stands d m s.next s.store s.parts.list.items c.args.time c.mark.new.self f c.vouch.ensures c.requires.time c.requires.accepted
+    c.mark.ensures.tuples c.mark.ensures.slices c.mark.ensures.sliced c.mark.ensures.marks c.mark.ensures.dropped in
+    c.mark-2.ensures.ahead m f.without s.store (record { water_is = refl; step = step; stood = f.stood }) le each

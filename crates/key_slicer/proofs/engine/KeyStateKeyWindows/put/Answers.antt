@@ -1,13 +1,18 @@
 -- The store and the parts took the tuple in.
-use Rattle.std.proofs.Common.{◌≡◌, ◌+◌, ◌++◌, refl, subst, to_z, of_z, w64}
+use Rattle.std.proofs.Common.{◌≡◌, ◌≤◌, ◌+◌, ◌-◌, ◌++◌, ℕ, length, vec_len, arith, refl, subst, to_z, of_z, w64}
 use Rattle.std.proofs.lemmas.Int.{to_z-of_z}
+use Rattle.std.specs.List.{enumerate_from, flat_map}
+use Rattle.stream_base.specs.Model.Changes.{changes_between}
 use Rattle.stream_base.specs.Model.Journal.{put_in_order}
 use Rattle.window_laws.specs.After.{with_tuple}
 use Rattle.key_windows.specs.Calls.{changes_by_put, kept_at, moment}
-use Rattle.key_slicer.specs.Parts.{AllTakeTuple}
+use Rattle.key_slicer.specs.Parts.{AllTakeTuple, rooms, turns}
 use Rattle.key_slicer.specs.States.{Fits}
+use Rattle.key_slicer.specs.Work.{put_work}
 use Rattle.key_slicer.proofs.StateFacts.{all_take, fits_put}
-use Rattle.key_slicer.proofs.SortFacts.{appended_sorted}
+use Rattle.key_slicer.proofs.SortFacts.{appended_sorted, as_many_turns}
+use Rattle.key_slicer.proofs.Loops.{grown}
+use Rattle.key_slicer.proofs.WorkFacts.{put_cost}
 use Rattle.key_slicer.proofs.engine.KeyStateKeyWindows.put.Goals as goal
 
 pub put-requires-clause-takes : goal.put-requires-clause-takes
@@ -52,3 +57,34 @@ returns-clause-changes g c = λ kept marks fits.
     subst (λ v. c.append_sorted.new.out.items ≡ c.args.out.now.items ++ changes_by_put d s.key kept marks c.args.water (kept_at c.args.pos c.args.time v)) (to_z-of_z w64 c.args.value c.ranges.value)
     (appended_sorted s.key m (with_tuple m x) d.windows s.scratch.items c.put.new.out.items c.as_slice.result.now c.args.out.now.items c.append_sorted.new.out.items c.requires.ready.empty
     (c.put.ensures.changes m f.without s.store more all) c.as_slice.ensures.value c.append_sorted.ensures.items)
+
+pub returns-clause-work : goal.returns-clause-work
+returns-clause-work g c = λ kept marks fits.
+    let x = kept_at c.args.pos c.args.time (to_z w64 (of_z w64 c.args.value)) in
+    let s = c.args.self.now in
+    let d = c.args.defs.now in
+    let m = moment kept marks c.args.water in
+    let f = fits.known in
+    let more = (c.put_in.ensures.comes f.without).0 in
+    let all : AllTakeTuple g.P.KeyPart.stands d g.P.KeyPart.is_asked c.args.water x c.put_in.new.store c.before-2.new.self.list.items m f.without s.store more =
+    all_take g.P.KeyPart.stands d g.P.KeyPart.is_asked m c.args.water s.next s.store s.parts.list.items c.before-2.new.self.list.items x c.put_in.new.store refl c.vouch.ensures f
+    c.requires.position c.requires.few c.requires.time c.requires.accepted c.put_in.ensures.comes c.before-2.ensures.stays c.before-2.ensures.asked in
+    let changed = vec_len c.put.new.out - vec_len s.scratch in
+    let many : changed ≡ length (changes_between d.windows s.key m (with_tuple m x)) = omega (arith, as_many_turns s.key m (with_tuple m x) d.windows, grown s.scratch.items c.put.new.out.items (flat_map (turns s.key m (with_tuple m x)) (enumerate_from 0 d.windows)) (c.put.ensures.changes m f.without s.store more all)) in
+    subst (λ v. c.put.new.steps ≤ c.args.steps.now + put_work d s.key m (with_tuple m (kept_at c.args.pos c.args.time v)) c.args.time s.store) (to_z-of_z w64 c.args.value c.ranges.value)
+    (put_cost d s.key m (with_tuple m x) c.args.time s.store c.put_in.new.store.reach (rooms (λ (i : ℕ) (part : g.row.P.Denot). g.P.KeyPart.owed part) c.before-2.new.self.list.items) changed c.args.steps.now c.before-2.new.steps c.put_in.new.steps c.put.new.steps
+    c.before-2.ensures.work c.put_in.ensures.work (c.put.ensures.work m f.without s.store more all) c.put.ensures.owed c.put_in.ensures.reach many)
+
+pub returns-clause-ahead : goal.returns-clause-ahead
+returns-clause-ahead g c = λ le each.
+    let r = c.requires.stands in
+    let x = kept_at c.args.pos c.args.time (to_z w64 (of_z w64 c.args.value)) in
+    let s = c.args.self.now in
+    let d = c.args.defs.now in
+    let m = moment r.0 r.1 c.args.water in
+    let f = r.2.known in
+    let more = (c.put_in.ensures.comes f.without).0 in
+    let all : AllTakeTuple g.P.KeyPart.stands d g.P.KeyPart.is_asked c.args.water x c.put_in.new.store c.before-2.new.self.list.items m f.without s.store more =
+    all_take g.P.KeyPart.stands d g.P.KeyPart.is_asked m c.args.water s.next s.store s.parts.list.items c.before-2.new.self.list.items x c.put_in.new.store refl c.vouch.ensures f
+    c.requires.position c.requires.few c.requires.time c.requires.accepted c.put_in.ensures.comes c.before-2.ensures.stays c.before-2.ensures.asked in
+    c.put.ensures.ahead m f.without s.store more all le (c.before-2.ensures.ahead c.args.water s.store each)

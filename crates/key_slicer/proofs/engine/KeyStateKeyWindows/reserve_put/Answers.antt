@@ -1,7 +1,9 @@
 -- The parts and the store go on to stand for what they did.
-use Rattle.std.proofs.Common.{◌-◌, ap}
+use Rattle.std.proofs.Common.{◌-◌, ap, arith}
 use Rattle.std.specs.Prelude.{vec_capacity, vec_len}
 use Rattle.key_slicer.specs.declared.parts.Parts.{Parts}
+use Rattle.key_slicer.specs.Parts.{rooms}
+use Rattle.key_slicer.proofs.AheadFacts.{ahead_reserved, ahead_same}
 use Rattle.key_slicer.proofs.StateFacts.{fits_reserved, fits_same, no_more_room, ready_to_take}
 use Rattle.key_slicer.proofs.engine.KeyStateKeyWindows.reserve_put.Goals as goal
 
@@ -36,3 +38,31 @@ returns-clause-ready g c =
     ready_to_take (λ i part. g.P.KeyPart.is_ready d i c.args.time c.args.water part) (λ i part. g.P.KeyPart.put_room d i c.args.time c.args.water part) c.args.water c.reserve.new.self t.store c.reserve_put.new.self.list.items t.parts.list.items
     c.in_ok-room.room t.promise t.scratch.items (vec_capacity t.scratch - vec_len t.scratch) c.requires.water c.in_ok-room.ensures.ready c.in_ok-reserve.ensures.room c.in_ok-room.ensures.room c.make_room.ensures.store (ap (λ (p : Parts g.row.P.Denot). p.list.items) c.make_room.ensures.parts)
     c.in_ok-make_room.ensures.promised c.in_ok-make_room.ensures.empty c.in_ok-make_room.ensures.fits_in
+
+pub returns-in_err-reserve-clause-ahead : goal.returns-in_err-reserve-clause-ahead
+returns-in_err-reserve-clause-ahead g c = λ w each.
+    let s = c.args.self.now in
+    let d = c.args.defs.now in
+    ahead_reserved (g.P.KeyPart.is_ahead d) (g.met.P.KeyPart.ahead_with_room d) w s.store c.reserve.new.self s.parts.list.items c.reserve_put.new.self.list.items c.reserve_put.ensures.ahead c.reserve.ensures.kept each
+
+pub returns-in_err-make_room-clause-ahead : goal.returns-in_err-make_room-clause-ahead
+returns-in_err-make_room-clause-ahead g c = λ w each.
+    let s = c.args.self.now in
+    let d = c.args.defs.now in
+    let t = c.make_room.new.self in
+    ahead_same (g.P.KeyPart.is_ahead d) w c.reserve.new.self t.store c.reserve_put.new.self.list.items t.parts.list.items c.make_room.ensures.store (ap (λ (p : Parts g.row.P.Denot). p.list.items) c.make_room.ensures.parts)
+    (ahead_reserved (g.P.KeyPart.is_ahead d) (g.met.P.KeyPart.ahead_with_room d) w s.store c.reserve.new.self s.parts.list.items c.reserve_put.new.self.list.items c.reserve_put.ensures.ahead c.reserve.ensures.kept each)
+
+pub returns-clause-ahead : goal.returns-clause-ahead
+returns-clause-ahead g c = λ w each.
+    let s = c.args.self.now in
+    let d = c.args.defs.now in
+    let t = c.make_room.new.self in
+    ahead_same (g.P.KeyPart.is_ahead d) w c.reserve.new.self t.store c.reserve_put.new.self.list.items t.parts.list.items c.make_room.ensures.store (ap (λ (p : Parts g.row.P.Denot). p.list.items) c.make_room.ensures.parts)
+    (ahead_reserved (g.P.KeyPart.is_ahead d) (g.met.P.KeyPart.ahead_with_room d) w s.store c.reserve.new.self s.parts.list.items c.reserve_put.new.self.list.items c.reserve_put.ensures.ahead c.reserve.ensures.kept each)
+
+pub returns-in_err-make_room-clause-credit : goal.returns-in_err-make_room-clause-credit
+returns-in_err-make_room-clause-credit g c = omega (arith, ap (λ (p : Parts g.row.P.Denot). rooms (λ i part. g.P.KeyPart.credit part) p.list.items) c.make_room.ensures.parts, c.reserve_put.ensures.credit)
+
+pub returns-clause-credit : goal.returns-clause-credit
+returns-clause-credit g c = omega (arith, ap (λ (p : Parts g.row.P.Denot). rooms (λ i part. g.P.KeyPart.credit part) p.list.items) c.make_room.ensures.parts, c.reserve_put.ensures.credit)

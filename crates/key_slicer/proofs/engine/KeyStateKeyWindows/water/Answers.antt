@@ -1,5 +1,5 @@
 -- The parts took the move in, and else there is nothing that it could complete.
-use Rattle.std.proofs.Common.{◌≡◌, ◌∙◌, ◌++◌, [], ap, append-nil, refl, sym, true, ⊎_elim}
+use Rattle.std.proofs.Common.{◌≡◌, ◌∙◌, ◌++◌, [], ap, append-nil, arith, refl, sym, true, ⊎_elim}
 use Rattle.key_windows.specs.Calls.{moment}
 use Rattle.key_slicer.specs.States.{Fits, IsBlank}
 use Rattle.key_slicer.proofs.StateFacts.{all_stand, fits_moved, move_is, nothing_moves}
@@ -41,3 +41,31 @@ returns-else-is_water-clause-changes g c = λ kept marks fits.
     let none : kept ≡ [] = ⊎_elim (λ is. let yes : c.is_water.result ≡ true = c.is_water.ensures.no is in cc (c.if-is_water.false)) (λ (b : IsBlank g.P.KeyPart.stands d kept marks s.next s.store s.parts.list.items). b.no_tuple) fits.clock in
     sym (append-nil c.args.out.now.items)
     ∙ ap (λ cs. c.args.out.now.items ++ cs) (sym (nothing_moves d s.key kept marks c.args.old c.args.new s.next c.windows-windows.ensures.limits fits.known.lists c.requires.rises none))
+
+pub returns-then-is_water-clause-ahead : goal.returns-then-is_water-clause-ahead
+returns-then-is_water-clause-ahead g c = λ is.
+    let r = c.requires.stands in
+    let s = c.args.self.now in
+    let d = c.args.defs.now in
+    let m = moment r.0 r.1 c.args.old in
+    let f = r.2.known in
+    c.purge.ensures.ahead (c.water.ensures.ahead m f.without (all_stand g.P.KeyPart.stands d m c.args.old s.next s.store s.parts.list.items refl c.vouch.ensures f))
+
+pub returns-else-is_water-clause-ahead : goal.returns-else-is_water-clause-ahead
+returns-else-is_water-clause-ahead g c = λ is. let yes : c.is_water.result ≡ true = c.is_water.ensures.no is in cc (c.if-is_water.false)
+
+pub returns-then-is_water-clause-work_ahead : goal.returns-then-is_water-clause-work_ahead
+returns-then-is_water-clause-work_ahead g c = λ kept marks fits each.
+    let s = c.args.self.now in
+    let d = c.args.defs.now in
+    let m = moment kept marks c.args.old in
+    let f = fits.known in
+    omega (arith, c.water.ensures.work_ahead m f.without (all_stand g.P.KeyPart.stands d m c.args.old s.next s.store s.parts.list.items refl c.vouch.ensures f) each, c.purge.ensures.work, c.purge.ensures.credit)
+
+pub returns-then-is_water-clause-work : goal.returns-then-is_water-clause-work
+returns-then-is_water-clause-work g c = λ kept marks fits.
+    let s = c.args.self.now in
+    let d = c.args.defs.now in
+    let m = moment kept marks c.args.old in
+    let f = fits.known in
+    omega (arith, c.water.ensures.work m f.without (all_stand g.P.KeyPart.stands d m c.args.old s.next s.store s.parts.list.items refl c.vouch.ensures f), c.purge.ensures.work, c.purge.ensures.credit)

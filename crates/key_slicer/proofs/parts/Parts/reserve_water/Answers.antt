@@ -1,5 +1,7 @@
 -- One part more has room.
 use Rattle.std.proofs.Common.{◌∙◌, ◌+◌, ◌<◌, arith, length, sym}
+use Rattle.key_slicer.specs.Parts.{rooms}
+use Rattle.key_slicer.proofs.AheadFacts.{ahead_set, credit_less}
 use Rattle.key_slicer.proofs.Loops.{one_stepped, room_more}
 use Rattle.key_slicer.proofs.Steps.{IsReserved}
 use Rattle.key_slicer.proofs.parts.Parts.reserve_water.Goals as goal
@@ -17,4 +19,18 @@ loop-window-preserved g c =
           (record { stays = c.in_ok-more.ensures.stays; ready = c.in_ok-more.ensures.ready });
       room = c.in_ok-room.ensures ∙ (λ k. c.loop-window.invariant.room k + c.in_ok-more.ensures.room k)
           ∙ sym (room_more (λ j part. g.P.KeyPart.move_room d j c.args.store.now c.args.old c.args.new part) i now c.reserve_water.new.self here);
+      credit = credit_less g.P.KeyPart.credit i (rooms (λ j part. g.P.KeyPart.credit part) start) now c.index_mut.result.now c.reserve_water.new.self here c.index_mut.ensures.value c.reserve_water.ensures.credit c.loop-window.invariant.credit;
+      ahead = ahead_set (g.P.KeyPart.is_ahead d) i start now c.index_mut.result.now c.reserve_water.new.self here c.index_mut.ensures.value c.reserve_water.ensures.ahead c.loop-window.invariant.ahead;
     }
+
+pub returns-in_err-more-clause-credit : goal.returns-in_err-more-clause-credit
+returns-in_err-more-clause-credit g c =
+    let now = c.loop-window.self.list.items in
+    let here : c.loop-window.window < length now = omega (arith, c.loop-window.invariant.stepped.as_many) in
+    credit_less g.P.KeyPart.credit c.loop-window.window (rooms (λ j part. g.P.KeyPart.credit part) c.args.self.now.list.items) now c.index_mut.result.now c.reserve_water.new.self here c.index_mut.ensures.value c.reserve_water.ensures.credit c.loop-window.invariant.credit
+
+pub returns-in_err-room-clause-credit : goal.returns-in_err-room-clause-credit
+returns-in_err-room-clause-credit g c =
+    let now = c.loop-window.self.list.items in
+    let here : c.loop-window.window < length now = omega (arith, c.loop-window.invariant.stepped.as_many) in
+    credit_less g.P.KeyPart.credit c.loop-window.window (rooms (λ j part. g.P.KeyPart.credit part) c.args.self.now.list.items) now c.index_mut.result.now c.reserve_water.new.self here c.index_mut.ensures.value c.reserve_water.ensures.credit c.loop-window.invariant.credit

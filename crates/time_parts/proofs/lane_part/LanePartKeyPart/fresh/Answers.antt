@@ -1,9 +1,12 @@
--- A new lane knows an empty store.
+-- A new lane knows an empty store, and misses none of it.
 use Rattle.time_parts.specs.Lanes.{kind_at}
 use Rattle.time_parts.proofs.lane_part.LanePartKeyPart.fresh.Goals as goal
 
-pub returns : goal.returns
-returns g c = λ water s empty. record {
+pub returns-clause-stands : goal.returns-clause-stands
+returns-clause-stands g c = λ water s empty. record {
   timed = c.requires.kind;
   knows = c.new.ensures.knows (kind_at c.args.defs.now c.args.window) water s empty;
 }
+
+pub returns-clause-ahead : goal.returns-clause-ahead
+returns-clause-ahead g c = λ water s empty. c.new.ensures.knows_all (kind_at c.args.defs.now c.args.window) water s empty

@@ -1,6 +1,6 @@
 -- A mark changes no interval; the lane goes on to know the slices before it.
-use Rattle.std.proofs.Common.{◌∙◌, ◌++◌, ap, sym, subst, append-nil}
-use Rattle.time_lanes.specs.Lane.{Knows, Laned}
+use Rattle.std.proofs.Common.{◌≡◌, ◌∙◌, ◌++◌, ap, sym, subst, append-nil}
+use Rattle.time_lanes.specs.Lane.{Knows, KnowsAll, Laned}
 use Rattle.time_lanes.proofs.StayFacts.{mark_stays}
 use Rattle.key_parts.specs.Calls.{window_at}
 use Rattle.time_parts.specs.Lanes.{Timed, kind_at}
@@ -26,3 +26,16 @@ returns-clause-changes g c = λ m n before takes.
     let t = takes.stood.timed in
     let may = takes.step.held.may_leave in
     sym (ap (λ q. c.args.out.now.items ++ q) (mark_changes_nothing c.args.window c.args.key.now (window_at d c.args.window) m c.args.time (timed_at d c.args.window t) (within_at d c.args.window t may.kinds) may.kept.in_order) ∙ append-nil c.args.out.now.items)
+
+-- and misses none of them where the mark comes behind what is complete
+pub returns-clause-ahead : goal.returns-clause-ahead
+returns-clause-ahead g c = λ m n before takes behind ahead.
+    let d = c.args.defs.now in
+    let t = takes.stood.timed in
+    let kind = kind_at d c.args.window in
+    let kinds = takes.step.held.may_leave.kinds in
+    let same = mark_stays d.windows c.args.window (window_at d c.args.window) before kinds (stands_at d c.args.window t) (timed_at d c.args.window t) takes.step.store takes.step.held.sliced c.args.store.now c.args.time takes.step.slices in
+    let lane : c.args.self.now.lane ≡ c.self.inside.lane = sym (ap (λ (p : Timed). p.lane) c.self.view_is) in
+    c.touched.ensures.knows_all kind c.args.water before c.args.store.now same behind
+    (subst (λ (l : Laned). Knows kind c.args.water before l) lane (subst (λ k. Knows kind k before c.args.self.now.lane) takes.water_is takes.stood.knows))
+    (subst (λ (l : Laned). KnowsAll kind c.args.water before l) lane ahead)

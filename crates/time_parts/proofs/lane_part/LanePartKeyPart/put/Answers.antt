@@ -1,14 +1,14 @@
 -- What stood before is told with the tuple; the lane goes on to know the slices before it.
-use Rattle.std.proofs.Common.{◌≡◌, ◌∙◌, ◌≤◌, ap, sym, refl, take, drop, length, subst, arith}
+use Rattle.std.proofs.Common.{◌≡◌, ◌∙◌, ◌≤◌, ◌+◌, ◌-◌, ◌*◌, ap, sym, refl, take, drop, length, subst, arith, vec_len}
 use Rattle.stream_base.specs.declared.def.Def.{Def}
-use Rattle.time_lanes.specs.Lane.{Knows, Laned}
+use Rattle.time_lanes.specs.Lane.{Knows, KnowsAll, Laned}
 use Rattle.time_lanes.specs.Late.{complete_holding}
 use Rattle.time_lanes.proofs.ServedFacts.{same_window}
 use Rattle.time_lanes.proofs.StayFacts.{tuple_stays}
 use Rattle.key_windows.specs.Calls.{kept_at}
 use Rattle.key_parts.specs.Calls.{window_at}
 use Rattle.time_parts.specs.Lanes.{Timed, kind_at, late_room}
-use Rattle.time_parts.proofs.LaneFacts.{changed_of_all, is_late, taken_in, told_number}
+use Rattle.time_parts.proofs.LaneFacts.{changed_of_all, is_late, taken_in, timed_work, told_number}
 use Rattle.time_parts.proofs.WindowFacts.{stands_at, timed_at, within_at}
 use Rattle.time_parts.proofs.lane_part.LanePartKeyPart.put.Goals as goal
 
@@ -24,8 +24,8 @@ late-requires-clause-formers g c = λ def stands.
     let w = window_at d c.args.window in
     let same : def ≡ w = same_window d.windows c.args.window def w stands (stands_at d c.args.window q.4.stood.timed) in
     let told : c.deref.result.now ≡ c.args.self.now.formers = c.deref.ensures.value ∙ ap (λ (p : Timed). p.formers) c.self.view_is in
-    subst (λ (e : Def). length (complete_holding e.kind c.args.time c.args.water) ≤ length c.deref.result.now) (sym same)
-    (told_number w c.args.time c.args.water q.0 c.deref.result.now q.4.water_is (told ∙ q.4.asked))
+    let number = told_number w c.args.time c.args.water q.0 c.deref.result.now q.4.water_is (told ∙ q.4.asked) in
+    subst (λ (e : Def). length (complete_holding e.kind c.args.time c.args.water) ≤ length c.deref.result.now) (sym same) (omega (arith, number))
 
 pub late-requires-clause-spare : goal.late-requires-clause-spare
 late-requires-clause-spare g c = λ def stands.
@@ -65,3 +65,31 @@ pub returns-clause-room : goal.returns-clause-room
 returns-clause-room g c =
     let q = c.requires.takes in
     omega (arith, c.late.ensures.number (window_at c.args.defs.now c.args.window) (stands_at c.args.defs.now c.args.window q.4.stood.timed))
+
+pub returns-clause-owed : goal.returns-clause-owed
+returns-clause-owed g c =
+    let q = c.requires.takes in
+    let w = window_at c.args.defs.now c.args.window in
+    omega (arith, c.late.ensures.number w (stands_at c.args.defs.now c.args.window q.4.stood.timed), told_number w c.args.time c.args.water q.0 c.args.self.now.formers q.4.water_is q.4.asked)
+
+pub returns-clause-work : goal.returns-clause-work
+returns-clause-work g c =
+    let q = c.requires.takes in
+    let d = c.args.defs.now in
+    let work = timed_work (kind_at d c.args.window) c.args.store.now.reach (timed_at d c.args.window q.4.stood.timed) in
+    subst (λ k. c.late.new.steps ≤ c.args.steps.now + k * (vec_len c.late.new.out - vec_len c.args.out.now)) (sym work) c.late.ensures.cost
+
+-- it misses none of them where the tuple comes behind what is complete
+pub returns-clause-ahead : goal.returns-clause-ahead
+returns-clause-ahead g c = λ m n before more takes behind ahead.
+    let d = c.args.defs.now in
+    let t = takes.stood.timed in
+    let kind = kind_at d c.args.window in
+    let kinds = takes.step.held.may_leave.kinds in
+    let x = kept_at c.args.pos c.args.time c.args.value in
+    let stored = (taken_in d c.args.window n before x more c.args.store.now t takes.step.comes).0 in
+    let same = tuple_stays d.windows c.args.window (window_at d c.args.window) before kinds (stands_at d c.args.window t) (timed_at d c.args.window t) takes.step.store takes.step.held.sliced c.args.store.now x stored.put in
+    let lane : c.args.self.now.lane ≡ c.self.inside.lane = sym (ap (λ (p : Timed). p.lane) c.self.view_is) in
+    c.touched.ensures.knows_all kind c.args.water before c.args.store.now same behind
+    (subst (λ (l : Laned). Knows kind c.args.water before l) lane (subst (λ k. Knows kind k before c.args.self.now.lane) takes.water_is takes.stood.knows))
+    (subst (λ (l : Laned). KnowsAll kind c.args.water before l) lane ahead)

@@ -1,12 +1,12 @@
 -- The lane tells what the move completes, of which the store holds all tuples.
-use Rattle.std.proofs.Common.{ap, sym, take, subst, arith}
+use Rattle.std.proofs.Common.{◌≡◌, ◌≤◌, ◌+◌, ◌-◌, ◌*◌, ap, sym, take, subst, arith, vec_len}
 use Rattle.slice_store.specs.Stored.{tuples_of}
-use Rattle.time_lanes.specs.Lane.{Laned}
+use Rattle.time_lanes.specs.Lane.{Knows, KnowsAll, Laned}
 use Rattle.time_lanes.specs.Moves.{MayMove}
 use Rattle.key_parts.specs.Calls.{window_at}
-use Rattle.time_parts.specs.Lanes.{Timed}
-use Rattle.time_parts.proofs.LaneFacts.{completed_of_all, few_held}
-use Rattle.time_parts.proofs.WindowFacts.{apart_above, stands_at}
+use Rattle.time_parts.specs.Lanes.{Timed, kind_at, slices_completed, slices_of_last}
+use Rattle.time_parts.proofs.LaneFacts.{completed_of_all, few_held, timed_row}
+use Rattle.time_parts.proofs.WindowFacts.{apart_above, stands_at, timed_at}
 use Rattle.time_parts.proofs.lane_part.LanePartKeyPart.water.Goals as goal
 
 pub returns-clause-changes : goal.returns-clause-changes
@@ -28,3 +28,33 @@ returns-clause-changes g c = λ m n at.
 pub returns-clause-room : goal.returns-clause-room
 returns-clause-room g c =
     omega (arith, c.advance.ensures.number (window_at c.args.defs.now c.args.window) (stands_at c.args.defs.now c.args.window c.requires.stands.2.stood.timed))
+
+-- each row takes one step beside the slices that the lane takes up
+pub returns-clause-work_ahead : goal.returns-clause-work_ahead
+returns-clause-work_ahead g c = λ m n at ahead.
+    let d = c.args.defs.now in
+    let s = c.args.store.now in
+    let t = at.stood.timed in
+    let kind = kind_at d c.args.window in
+    let w = window_at d c.args.window in
+    let is = stands_at d c.args.window t in
+    let lane : c.args.self.now.lane ≡ c.self.inside.lane = sym (ap (λ (p : Timed). p.lane) c.self.view_is) in
+    let knows = subst (λ (l : Laned). Knows kind c.args.old s l) lane (subst (λ k. Knows kind k s c.args.self.now.lane) at.water_is at.stood.knows) in
+    let cost = c.advance.ensures.cost w is knows (subst (λ (l : Laned). KnowsAll kind c.args.old s l) lane ahead) in
+    let credit = ap (λ (l : Laned). l.credit) lane in
+    subst (λ k. c.advance.new.steps + c.advance.new.self.credit ≤ c.args.steps.now + c.args.self.now.lane.credit + (10 * slices_completed d c.args.window s c.args.old c.args.new + k * (vec_len c.advance.new.out - vec_len c.args.out.now)))
+    (sym (timed_row kind s.reach (timed_at d c.args.window t))) (omega (arith, cost, credit, c.advance.ensures.number w is))
+
+pub returns-clause-work : goal.returns-clause-work
+returns-clause-work g c = λ m n at.
+    let d = c.args.defs.now in
+    let s = c.args.store.now in
+    let t = at.stood.timed in
+    let kind = kind_at d c.args.window in
+    let w = window_at d c.args.window in
+    let is = stands_at d c.args.window t in
+    let lane : c.args.self.now.lane ≡ c.self.inside.lane = sym (ap (λ (p : Timed). p.lane) c.self.view_is) in
+    let cost = c.advance.ensures.cost_touched w is (subst (λ (l : Laned). Knows kind c.args.old s l) lane (subst (λ k. Knows kind k s c.args.self.now.lane) at.water_is at.stood.knows)) in
+    let credit = ap (λ (l : Laned). l.credit) lane in
+    subst (λ k. c.advance.new.steps + c.advance.new.self.credit ≤ c.args.steps.now + c.args.self.now.lane.credit + (10 * (slices_completed d c.args.window s c.args.old c.args.new + slices_of_last d c.args.window s c.args.old) + k * (vec_len c.advance.new.out - vec_len c.args.out.now)))
+    (sym (timed_row kind s.reach (timed_at d c.args.window t))) (omega (arith, cost, credit, c.advance.ensures.number w is))

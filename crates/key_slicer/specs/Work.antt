@@ -1,0 +1,73 @@
+-- How many steps a tuple, a mark or a move of the watermark takes at most in an engine on slices.
+use Rattle.std.specs.Prelude.{◌+◌, ◌-◌, ◌*◌, ℕ, List, filter, length, sum_by}
+use Rattle.std.specs.List.{enumerate_from, flat_map}
+use Rattle.stream_base.specs.Limits.{Definitions}
+use Rattle.stream_base.specs.declared.def.Def.{Def}
+use Rattle.stream_base.specs.declared.kind.Kind.{Kind}
+use Rattle.stream_base.specs.declared.kind.Kind.TheVariants.{Tumbling, Sliding, Session, Marks, Events}
+use Rattle.stream_base.specs.Laws.{completions}
+use Rattle.stream_base.specs.Model.Changes.{Moment, changes_between}
+use Rattle.window_laws.specs.Runs.{parted_at}
+use Rattle.slice_store.specs.Entered.{is_across, slices_near}
+use Rattle.slice_store.specs.Slices.{joined}
+use Rattle.slice_store.specs.Stored.{Stored}
+use Rattle.key_parts.specs.Work.{change_work, row_work}
+use Rattle.key_slicer.specs.Parts.{turns}
+
+-- the most that a window takes for its changes by a tuple from one moment of a key to another, over a tree of this reach
+abbrev pub turn_work : List ℕ → Moment → Moment → ℕ → ℕ × Def → ℕ
+turn_work key old new reach w = change_work (w.1).kind reach * length (turns key old new w)
+
+-- and all windows
+abbrev pub turns_work : Definitions → List ℕ → Moment → Moment → ℕ → ℕ
+turns_work d key old new reach = sum_by (turn_work key old new reach) (enumerate_from 0 d.windows)
+
+-- how many events an instance of a window of this kind has, where the window counts them
+abbrev pub events_in : Kind → ℕ
+events_in (Tumbling length) = 0
+events_in (Sliding length slide) = 0
+events_in (Session gap) = 0
+events_in Marks = 0
+events_in (Events count) = count
+
+-- the steps of the windows that count events: twice its count for each change of such a window from one moment of a key to another
+abbrev pub counting_work : Definitions → List ℕ → Moment → Moment → ℕ
+counting_work d key old new = sum_by (λ w. 2 * events_in (w.1).kind * length (turns key old new w)) (enumerate_from 0 d.windows)
+
+-- the most that an entry takes which leads from one moment of a key to another, where the tree of the key has this reach and so many tuples lie in the slices that the entry enters or splits: what four folds take in a tree that the entry has made higher, and two more for each change; a step for each of those tuples; and the steps of the windows that count events
+abbrev pub entry_work : Definitions → List ℕ → Moment → Moment → ℕ → ℕ → ℕ
+entry_work d key old new reach tuples = 64 * (reach + 3) * (4 + 2 * length (changes_between d.windows key old new)) + tuples + counting_work d key old new
+
+-- the most that a tuple at a time takes, by the store before it: the slices are those that it enters
+abbrev pub put_work : Definitions → List ℕ → Moment → Moment → ℕ → Stored → ℕ
+put_work d key old new time store = entry_work d key old new store.reach (length (joined (slices_near d.windows time store)))
+
+-- how many slices have left after a mark at a time, of those that it made
+abbrev pub slices_gone : ℕ → Stored → Stored → ℕ
+slices_gone time before after = length (flat_map (parted_at time) before.slices) - length after.slices
+
+-- the most that a mark at a time takes, by the store before and after it: the slices are those that it splits, and each slice that leaves adds one fold
+abbrev pub mark_work : Definitions → List ℕ → Moment → Moment → ℕ → Stored → Stored → ℕ
+mark_work d key old new time before after =
+    entry_work d key old new before.reach (length (joined (filter (is_across time) before.slices))) + 64 * (before.reach + 3) * slices_gone time before after
+
+-- for the window at a place, how many slices lie in the instances that a move from one watermark to another completes in a store
+abbrev pub TakenUp : Type 0
+TakenUp = Definitions → ℕ → Stored → ℕ → ℕ → ℕ
+
+-- the most that a window takes on credit for a move of a key from one moment to a later watermark, in this store: ten steps for each slice that is taken up, and for each row that becomes complete what one takes in a window of its kind
+abbrev pub moved_work : TakenUp → Definitions → List ℕ → Moment → ℕ → Stored → ℕ × Def → ℕ
+moved_work taken_up d key old new store w = 10 * taken_up d w.0 store old.water new + row_work (w.1).kind store.reach * length (completions key old new w)
+
+-- and all windows
+abbrev pub moves_work : TakenUp → Definitions → List ℕ → Moment → ℕ → Stored → ℕ
+moves_work taken_up d key old new store = sum_by (moved_work taken_up d key old new store) (enumerate_from 0 d.windows)
+
+-- the most that a move of a key from one moment to another takes on credit, by the store before and after it: that of all windows, and one fold for each slice that leaves
+abbrev pub move_work : TakenUp → Definitions → List ℕ → Moment → Moment → Stored → Stored → ℕ
+move_work taken_up d key old new before after =
+    moves_work taken_up d key old new.water before + 64 * (before.reach + 2) * (length before.slices - length after.slices)
+
+-- how many steps more a move from a watermark takes, by what each window has missed in this store: ten for each slice of the last instance that is complete
+abbrev pub catch_up : (Definitions → ℕ → Stored → ℕ → ℕ) → Definitions → Stored → ℕ → ℕ
+catch_up missed d store water = sum_by (λ w. 10 * missed d w.0 store water) (enumerate_from 0 d.windows)

@@ -1,0 +1,20 @@
+-- Each row folds the tuples of an instance.
+use Rattle.std.proofs.Common.{◌≡◌, ◌∙◌, ◌≤◌, ◌+◌, ◌-◌, ◌*◌, ap, sym, subst, arith, vec_len}
+use Rattle.stream_base.specs.declared.def.Def.{Def}
+use Rattle.count_shift.specs.Counting.{count_of}
+use Rattle.key_parts.specs.Work.{row_work}
+use Rattle.time_parts.specs.Lanes.{kind_at}
+use Rattle.time_parts.proofs.CountFacts.{counted_row, counts_at}
+use Rattle.time_parts.proofs.count_part.CountPartKeyPart.water.Goals as goal
+
+pub returns-clause-work_ahead : goal.returns-clause-work_ahead
+returns-clause-work_ahead g c = λ m n at ahead.
+    let d = c.args.defs.now in
+    let row : count_of c.window_at-def.result.kind ≡ row_work (kind_at d c.args.window) c.args.store.now.reach =
+    ap (λ (w : Def). count_of w.kind) c.window_at-def.ensures.stands ∙ sym (counted_row (kind_at d c.args.window) c.args.store.now.reach (counts_at d c.args.window at.stood.counts)) in
+    let cost = subst (λ k. c.rows.new.steps ≤ c.args.steps.now + k * (vec_len c.rows.new.out - vec_len c.args.out.now)) row c.rows.ensures.cost in
+    omega (arith, cost)
+
+pub returns-clause-work : goal.returns-clause-work
+returns-clause-work g c = λ m n at.
+    omega (arith, returns-clause-work_ahead g c m n at tt)
