@@ -4,6 +4,7 @@ ghost use Rattle.agg_laws.specs.Pairs.{has_key};
 use crate::aggregates::insert_fold_remove;
 use agg_laws::{AggTree, FlatTree, Lift, Monoid, Probes, Steps, Sum, Trace};
 use fiba_arena::{ArenaTree, Item, Node, Nodes};
+use fiba_finger::{FingerTree, Grown};
 use std::process::Abort;
 use std::test::Fail;
 use stream_base::NoMemory;
@@ -181,5 +182,149 @@ fn a_thousand_keys_come_and_go_as_in_a_sorted_vector(rt: HostRuntime) -> Result<
         are_alike(&rt, &arena, &flat, &mut steps);
     }
     assert_eq!(rt; arena.len(), 504);
+    Ok(())
+}
+
+// What an insertion from the finger did, and how many steps and probes it took.
+#[derive(Clone, Copy)]
+struct Near {
+    grown: Grown,
+    steps: u64,
+    probes: u64,
+}
+
+// A value under a key from the finger, whatever was there before.
+fn put_near(
+    tree: &mut FingerTree<Sum>,
+    key: u64,
+    value: Sum,
+    steps: &mut Steps<Work>,
+) -> Result<Near, NoMemory> {
+    let mut aside = Probes::new();
+    let _former = tree.remove(key, &mut aside, steps);
+    tree.reserve(1)?;
+    let before = steps.count();
+    let mut probes = Probes::new();
+    let grown = tree.insert_near(key, value, &mut probes, steps);
+    Ok(Near {
+        grown,
+        steps: steps.count().saturating_sub(before),
+        probes: probes.count(),
+    })
+}
+
+// An insertion kept its bounds on steps and probes.
+fn is_within(near: &Near) -> bool {
+    let levels = u64::from(near.grown.climbs) + u64::from(near.grown.splits);
+    near.steps <= 8 + 32 * levels && near.probes <= 32 * (levels + 2)
+}
+
+#[test]
+fn a_finger_tree_answers_five_calls(rt: HostRuntime) -> Result<(), Fail> {
+    let mut steps: Steps<Work> = Steps::start(&rt);
+    let mut tree: FingerTree<Sum> = FingerTree::fresh(rt.alloc());
+    assert_eq!(rt; tree.first_key(), None);
+    answers_five_calls(&rt, &mut tree, &mut steps)?;
+    Ok(())
+}
+
+#[test]
+fn a_caller_of_any_tree_works_on_a_finger_tree(rt: HostRuntime) -> Result<(), Fail> {
+    let mut steps: Steps<Work> = Steps::start(&rt);
+    let mut probes = Probes::new();
+    let mut tree: FingerTree<Sum> = FingerTree::fresh(rt.alloc());
+    let sum = insert_fold_remove(&mut tree, 5, Sum::lift(2), &mut probes, &mut steps)?;
+    assert_eq!(rt; sum.sum, 2);
+    assert_eq!(rt; tree.len(), 0);
+    Ok(())
+}
+
+#[test]
+fn a_key_before_the_last_of_a_thousand_climbs_at_most_one_level(
+    rt: HostRuntime,
+) -> Result<(), Fail> {
+    let mut steps: Steps<Work> = Steps::start(&rt);
+    let mut probes = Probes::new();
+    let mut tree: FingerTree<Sum> = FingerTree::fresh(rt.alloc());
+    for i in 1..1001 {
+        put(&mut tree, 2 * i, Sum::lift(1), &mut probes, &mut steps)?;
+    }
+    assert_eq!(rt; tree.len(), 1000);
+    let near = put_near(&mut tree, 1999, Sum::lift(1), &mut steps)?;
+    assert_eq!(rt; near.grown.climbs <= 1, true);
+    assert_eq!(rt; is_within(&near), true);
+    assert_eq!(rt; tree.fold_range(1998, 2001, &mut probes, &mut steps).sum, 3);
+    Ok(())
+}
+
+#[test]
+fn a_thousand_keys_in_order_climb_no_level(rt: HostRuntime) -> Result<(), Fail> {
+    let mut steps: Steps<Work> = Steps::start(&rt);
+    let mut tree: FingerTree<Sum> = FingerTree::fresh(rt.alloc());
+    for i in 1..1001 {
+        let near = put_near(&mut tree, 2 * i, Sum::lift(1), &mut steps)?;
+        assert_eq!(rt; near.grown.climbs, 0);
+        assert_eq!(rt; near.grown.splits > 0 || near.steps <= 8, true);
+        assert_eq!(rt; is_within(&near), true);
+    }
+    assert_eq!(rt; tree.len(), 1000);
+    Ok(())
+}
+
+#[test]
+fn the_fourth_key_splits_the_only_leaf(rt: HostRuntime) -> Result<(), Fail> {
+    let mut steps: Steps<Work> = Steps::start(&rt);
+    let mut probes = Probes::new();
+    let mut tree: FingerTree<Sum> = FingerTree::fresh(rt.alloc());
+    put(&mut tree, 1, Sum::lift(1), &mut probes, &mut steps)?;
+    put(&mut tree, 2, Sum::lift(2), &mut probes, &mut steps)?;
+    put(&mut tree, 3, Sum::lift(4), &mut probes, &mut steps)?;
+    let near = put_near(&mut tree, 4, Sum::lift(8), &mut steps)?;
+    assert_eq!(rt;
+        near.grown,
+        Grown {
+            splits: 1,
+            climbs: 0
+        }
+    );
+    assert_eq!(rt; tree.height(), 2);
+    assert_eq!(rt; tree.fold_range(2, 5, &mut probes, &mut steps).sum, 14);
+    Ok(())
+}
+
+// A finger tree and a sorted vector fold alike and have as many pairs.
+fn fold_alike(
+    rt: &impl Abort,
+    finger: &FingerTree<Trace>,
+    flat: &FlatTree<Trace>,
+    steps: &mut Steps<Work>,
+) {
+    let mut probes = Probes::new();
+    let of_finger = finger.fold_range(0, 1009, &mut probes, steps);
+    assert_eq!(rt; of_finger, flat.fold_range(0, 1009, &mut probes, steps));
+    let of_middle = finger.fold_range(300, 600, &mut probes, steps);
+    assert_eq!(rt; of_middle, flat.fold_range(300, 600, &mut probes, steps));
+    assert_eq!(rt; finger.len(), flat.len());
+    assert_eq!(rt; finger.first_key(), flat.first_key());
+    assert_eq!(rt; finger.height() <= 9, true);
+}
+
+#[test]
+fn keys_come_and_go_at_a_finger_as_in_a_sorted_vector(rt: HostRuntime) -> Result<(), Fail> {
+    let mut steps: Steps<Work> = Steps::start(&rt);
+    let mut probes = Probes::new();
+    let mut finger: FingerTree<Trace> = FingerTree::fresh(rt.alloc());
+    let mut flat: FlatTree<Trace> = FlatTree::fresh(rt.alloc());
+    for i in 1..505 {
+        let (key, value) = (i * 617 % 1009, Trace::lift(i as i64));
+        put(&mut finger, key, value, &mut probes, &mut steps)?;
+        put(&mut flat, key, value, &mut probes, &mut steps)?;
+        fold_alike(&rt, &finger, &flat, &mut steps);
+    }
+    for key in 1..505 {
+        let taken = finger.remove(key, &mut probes, &mut steps);
+        assert_eq!(rt; taken, flat.remove(key, &mut probes, &mut steps));
+        fold_alike(&rt, &finger, &flat, &mut steps);
+    }
     Ok(())
 }

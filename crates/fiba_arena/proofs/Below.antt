@@ -18,7 +18,7 @@ use Rattle.agg_laws.specs.Pairs.{values_of}
 use Rattle.fiba_arena.proofs.Lists.{all_middle}
 use Rattle.fiba_arena.proofs.Linked.{linked_kids, links_low, others_linked}
 use Rattle.fiba_arena.proofs.Links.{slot_below}
-use Rattle.fiba_arena.proofs.Sound.{all_values, few, few_kids, node_of, weight_of}
+use Rattle.fiba_arena.proofs.Sound.{all_values, few, few_kids, node_of, only_self, weight_of}
 use Rattle.fiba_arena.proofs.Sound as sound
 use Rattle.fiba_arena.proofs.Kids.{all-with_item, kids-around, kids-with_item, length-with_item, tally-around, tally-with_item, woven-around, woven-with_item}
 use Rattle.fiba_arena.proofs.Nesting.{SameOthers, others_beside}
@@ -98,6 +98,7 @@ module _ {M : Type 0} (IsValue : M → Type 0) (empty : M) (op : M → M → M) 
       few = fits;
       opened = record { items = items; kids = kids; owned = λ k. let o = can.owned k in let w = weighs (only k) in let s = same (only k) in omega arith; linked = linked };
       applies = rw pairs applies;
+      stays = refl;
       moves = record { counts = λ k. let w = weighs (only k) in let s = same (only k) in omega arith; kept = λ k z. refl };
       room = let w = weighs (λ _. 1) in let s = same (λ _. 1) in omega arith;
     }
@@ -211,6 +212,7 @@ module _ {M : Type 0} (IsValue : M → Type 0) (empty : M) (op : M → M → M) 
             few = let a = s.fits in let b = done.few in omega arith;
             opened = record { items = s.items; kids = s.kids; owned = λ k. let o = can.owned k in let n = count k in omega arith; linked = s.linked };
             applies = applies;
+            stays = let w = weight (only at) in let d = done.moves.counts at in let b = nested at in let o = can.owned at in let s0 = only_self at in s.moves.kept at (omega arith) ∙ done.moves.kept at (omega arith);
             moves = record {
               counts = count;
               kept = λ k z. let w = weight (only k) in let d = done.moves.counts k in let b = nested k in s.moves.kept k (omega arith) ∙ done.moves.kept k (omega arith);

@@ -12,3 +12,5 @@ pub mod Strings
 pub mod Planting
 pub mod Tops
 pub mod Writes
+pub mod Fullness
+pub mod Paying

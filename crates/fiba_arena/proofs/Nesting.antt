@@ -1,5 +1,5 @@
 -- An opened child with a neighbour's items, and closed again.
-use Rattle.std.proofs.Common.{◌≡◌, ◌≤◌, ◌<◌, ◌+◌, ◌++◌, ℕ, zero, suc, Bool, false, List, [], ◌∷◌, Option, None, Some, length, refl, sym, ap, subst, ◌∙◌, arith, append_assoc, length-append}
+use Rattle.std.proofs.Common.{◌≡◌, ◌≤◌, ◌<◌, ◌+◌, ◌-◌, ◌++◌, ℕ, zero, suc, Bool, false, List, [], ◌∷◌, Option, None, Some, length, refl, sym, ap, subst, ◌∙◌, arith, append_assoc, length-append}
 use Rattle.std.specs.Prelude.{slice_get}
 use Rattle.std.specs.Option.{option_map}
 use Rattle.fiba_arena.specs.declared.slot.Slot.{Slot}
@@ -12,7 +12,7 @@ use Rattle.fiba_arena.specs.Kids.{OthersAt, before, behind, kid_of, left_of, oth
 use Rattle.fiba_arena.specs.Nested.{IsFilled, IsNested, IsSettled, nested_times}
 use Rattle.fiba_arena.proofs.Lists.{all_join, pushed_joined}
 use Rattle.fiba_arena.proofs.Frames.{Keeps, kids-join, same_kids, same_tree, tally-join, woven-join}
-use Rattle.fiba_arena.proofs.Sound.{moves-then, node_of, pairs_of, weight_of}
+use Rattle.fiba_arena.proofs.Sound.{moves-then, node_of, only_self, pairs_of, weight_of}
 use Rattle.fiba_arena.proofs.Writes.{freed_moves, row_beside}
 use Rattle.fiba_arena.proofs.Linked.{any_place, linked_kids, others_linked, row_linked}
 use Rattle.fiba_arena.proofs.Kids.{all-spliced, all-thinned, before-thinned, before-thinned_next, behind-thinned, behind-thinned_next, kid-thinned, kids-spliced, kids-thinned, kids-thinned_next, left-next, left-thinned, length-spliced, length-thinned, others-thinned, others-thinned_next, right-inner, right-thinned_next, tally-spliced, woven-spliced}
@@ -69,35 +69,25 @@ module _ {M : Type 0} (IsValue : M → Type 0) (empty : M) (op : M → M → M) 
   pub child_opened : (s : Store M) (h : ℕ) (l r : Bool) (slots : List (Slot M)) (last i : ℕ) (child : List (Slot M)) (end : ℕ) → IsNested IsValue empty op s h l r slots last i child end → IsOpened IsValue empty op s (kid_of slots last i) h (left_of l slots i) (right_of r slots i) child end
   child_opened s h l r slots last i child end n = record { items = n.child_items; kids = n.child_kids; owned = λ k. let o = n.owned k in omega arith; linked = n.child_linked }
 
-  -- the child is closed, and what it became stands in its place
-  pub settled : (old new : Store M) (h : ℕ) (l r : Bool) (slots : List (Slot M)) (last i : ℕ) (child : List (Slot M)) (end : ℕ) (nodes : List (Slot M)) (stop : ℕ) → IsNested IsValue empty op old h l r slots last i child end → IsClosed IsValue empty op old new (kid_of slots last i) h (left_of l slots i) (right_of r slots i) child end nodes stop → IsSettled IsValue empty op old new h l r slots last i child end (spliced slots i nodes stop) (spliced_last slots last i stop)
-  settled old new h l r slots last i child end nodes stop n c =
-      let apart : (k : ℕ) → others (times k (plain old) (suc h)) slots last i + (only k (kid_of slots last i) + row_times k (plain old) h child end + vacancy (look old k)) ≤ 1 = λ k. let o = n.owned k in omega arith in
-      let stays = others_beside old new (suc h) slots last i (λ k. only k (kid_of slots last i) + row_times k (plain old) h child end) (λ k. row_times k (plain new) (suc h) nodes stop) c.moves apart in
+  -- the child, which has items now, is closed, and what it became stands in its place
+  pub settled : (old mid new : Store M) (h : ℕ) (l r : Bool) (slots : List (Slot M)) (last i : ℕ) (child : List (Slot M)) (end : ℕ) (slots' : List (Slot M)) (last' i' : ℕ) (child' : List (Slot M)) (end' : ℕ) (nodes : List (Slot M)) (stop : ℕ) → IsFilled IsValue empty op old mid h l r slots last i child end slots' last' i' child' end' → IsClosed IsValue empty op mid new (kid_of slots' last' i') h (left_of l slots' i') (right_of r slots' i') child' end' nodes stop → length nodes ≤ (length child - 3) + (1 - length child) → IsSettled IsValue empty op old new h l r slots last i child end (spliced slots' i' nodes stop) (spliced_last slots' last' i' stop)
+  settled old mid new h l r slots last i child end slots' last' i' child' end' nodes stop f c few =
+      let n = f.nested in
+      let apart : (k : ℕ) → others (times k (plain mid) (suc h)) slots' last' i' + (only k (kid_of slots' last' i') + row_times k (plain mid) h child' end' + vacancy (look mid k)) ≤ 1 = λ k. let o = n.owned k in omega arith in
+      let stays = others_beside mid new (suc h) slots' last' i' (λ k. only k (kid_of slots' last' i') + row_times k (plain mid) h child' end') (λ k. row_times k (plain new) (suc h) nodes stop) c.moves apart in
+      let closing : Moves (look mid) (look new) (λ k. nested_times k (plain mid) h slots' last' i' child' end') (λ k. row_times k (plain new) (suc h) (spliced slots' i' nodes stop) (spliced_last slots' last' i' stop)) = record {
+        counts = λ k. let a = c.moves.counts k in let t = tally-spliced (times k (plain new) (suc h)) slots' last' i' nodes stop in let e = stays.tallies (only k) in omega arith;
+        kept = λ k z. c.moves.kept k (omega arith);
+      } in
       record {
-        linked = kids-spliced (λ _ _ k. IsLinked new (suc h) k) false false slots last i nodes stop (others_linked old new (suc h) slots last i (λ k. only k (kid_of slots last i) + row_times k (plain old) h child end) (λ k. row_times k (plain new) (suc h) nodes stop) c.moves apart n.linked) (any_place (λ k. IsLinked new (suc h) k) false false (left_of false slots i) (right_of false slots i) nodes stop c.linked);
-        fits = let e = length-spliced slots i nodes stop in let f = c.few in omega arith;
-        items = all-spliced (λ item. IsValue item.value) slots i nodes stop n.items c.items;
-        kids = kids-spliced (λ l r k. IsAt IsValue empty op (plain new) (suc h) l r k) l r slots last i nodes stop (stays.kids l r n.beside) c.kids;
-        pairs = woven-spliced (pairs_at (plain new) (suc h)) slots last i nodes stop ∙ ap (λ ps. ps ++ woven (pairs_at (plain new) (suc h)) nodes stop ++ behind (pairs_at (plain new) (suc h)) slots last i) stays.front ∙ ap (λ ps. before (pairs_at (plain old) (suc h)) slots i ++ ps ++ behind (pairs_at (plain new) (suc h)) slots last i) c.pairs ∙ ap (λ ps. before (pairs_at (plain old) (suc h)) slots i ++ woven (pairs_at (plain old) h) child end ++ ps) stays.back;
-        moves = record {
-          counts = λ k. let a = c.moves.counts k in let t = tally-spliced (times k (plain new) (suc h)) slots last i nodes stop in let e = stays.tallies (only k) in omega arith;
-          kept = λ k z. c.moves.kept k (omega arith);
-        };
-        room = let t = tally-spliced (size (plain new) (suc h)) slots last i nodes stop in let e = stays.tallies (λ _. 1) in let q = c.room in omega arith;
+        linked = kids-spliced (λ _ _ k. IsLinked new (suc h) k) false false slots' last' i' nodes stop (others_linked mid new (suc h) slots' last' i' (λ k. only k (kid_of slots' last' i') + row_times k (plain mid) h child' end') (λ k. row_times k (plain new) (suc h) nodes stop) c.moves apart n.linked) (any_place (λ k. IsLinked new (suc h) k) false false (left_of false slots' i') (right_of false slots' i') nodes stop c.linked);
+        fits = let e = length-spliced slots' i' nodes stop in let a = f.fits in omega arith;
+        items = all-spliced (λ item. IsValue item.value) slots' i' nodes stop n.items c.items;
+        kids = kids-spliced (λ l r k. IsAt IsValue empty op (plain new) (suc h) l r k) l r slots' last' i' nodes stop (stays.kids l r n.beside) c.kids;
+        pairs = woven-spliced (pairs_at (plain new) (suc h)) slots' last' i' nodes stop ∙ ap (λ ps. ps ++ woven (pairs_at (plain new) (suc h)) nodes stop ++ behind (pairs_at (plain new) (suc h)) slots' last' i') stays.front ∙ ap (λ ps. before (pairs_at (plain mid) (suc h)) slots' i' ++ ps ++ behind (pairs_at (plain new) (suc h)) slots' last' i') c.pairs ∙ ap (λ ps. before (pairs_at (plain mid) (suc h)) slots' i' ++ woven (pairs_at (plain mid) h) child' end' ++ ps) stays.back ∙ f.pairs;
+        moves = moves-then (look old) (look mid) (look new) (λ k. nested_times k (plain old) h slots last i child end) (λ k. nested_times k (plain mid) h slots' last' i' child' end') (λ k. row_times k (plain new) (suc h) (spliced slots' i' nodes stop) (spliced_last slots' last' i' stop)) f.moves closing;
+        room = let t = tally-spliced (size (plain new) (suc h)) slots' last' i' nodes stop in let e = stays.tallies (λ _. 1) in let q = c.room in let x = f.room in omega arith;
       }
-
-  -- a filled child that settles
-  pub filled_settled : (old mid new : Store M) (h : ℕ) (l r : Bool) (slots : List (Slot M)) (last i : ℕ) (child : List (Slot M)) (end : ℕ) (slots' : List (Slot M)) (last' i' : ℕ) (child' : List (Slot M)) (end' : ℕ) (row : List (Slot M)) (rest : ℕ) → IsFilled IsValue empty op old mid h l r slots last i child end slots' last' i' child' end' → IsSettled IsValue empty op mid new h l r slots' last' i' child' end' row rest → IsSettled IsValue empty op old new h l r slots last i child end row rest
-  filled_settled old mid new h l r slots last i child end slots' last' i' child' end' row rest f s = record {
-    fits = let a = f.fits in let b = s.fits in omega arith;
-    items = s.items;
-    kids = s.kids;
-    pairs = s.pairs ∙ f.pairs;
-    moves = moves-then (look old) (look mid) (look new) (λ k. nested_times k (plain old) h slots last i child end) (λ k. nested_times k (plain mid) h slots' last' i' child' end') (λ k. row_times k (plain new) (suc h) row rest) f.moves s.moves;
-    room = s.room ∙ f.room;
-    linked = s.linked;
-  }
 
   pub filled_already : (s : Store M) (h : ℕ) (l r : Bool) (slots : List (Slot M)) (last i : ℕ) (child : List (Slot M)) (end : ℕ) → IsNested IsValue empty op s h l r slots last i child end → 1 ≤ length child → (4 ≤ length child → 1 ≤ s.spare) → IsFilled IsValue empty op s s h l r slots last i child end slots last i child end
   filled_already s h l r slots last i child end n some split = record {
@@ -108,6 +98,7 @@ module _ {M : Type 0} (IsValue : M → Type 0) (empty : M) (op : M → M → M) 
     some = some;
     fits = omega arith;
     split = split;
+    freed = λ none. absurd (omega arith);
   }
 
   -- the neighbours of an opened child are sound
@@ -172,9 +163,22 @@ module _ {M : Type 0} (IsValue : M → Type 0) (empty : M) (op : M → M → M) 
               let d = weighs (λ _. 1) in
               omega arith;
           some = let e = length-append child (middle ∷ ns) in omega arith;
-          fits = let e = length-thinned slots i s is in let f = length-append child (middle ∷ ns) in let n = few_slots node in omega arith;
+          fits = let e = length-thinned slots i s is in omega arith;
           split = λ f. omega arith;
+          freed = λ f. omega arith;
         }
+
+    -- the opened child's number is left alone
+    pub next_apart : look old (kid_of slots last (suc i)) ≡ Some node → Puts old new (kid_of slots last (suc i)) None → look new (kid_of (thinned slots i) (thinned_last slots last i) i) ≡ look old (kid_of slots last i)
+    next_apart found freed =
+        let kid = kid_of slots last i in
+        let next = kid_of slots last (suc i) in
+        let kids = kids-thinned (λ l r k. IsAt IsValue empty op (plain old) (suc h) l r k) l r slots last i s is n.beside in
+        let a = others-thinned (times kid (plain old) (suc h)) slots last i s is in
+        let b = weight_of IsValue empty op (plain old) h false (right_of r (thinned slots i) i) next (plain_node node) (ap (option_map plain_node) found) (only kid) in
+        let o = n.owned kid in
+        let own = only_self kid in
+        ap (look new) (kid-thinned slots last i s is) ∙ (freed_moves old new next freed).kept kid (omega arith)
 
   -- the opened child's items, of which there are none, come to the previous child
   module _ (old new : Store M) (h : ℕ) (l r : Bool) (slots : List (Slot M)) (last j : ℕ) (child : List (Slot M)) (end : ℕ) (s : Slot M) (node : Node M) (n : IsNested IsValue empty op old h l r slots last (suc j) child end) (is : slice_get slots j ≡ Some s) (none : length child ≡ 0) where
@@ -231,8 +235,9 @@ module _ {M : Type 0} (IsValue : M → Type 0) (empty : M) (op : M → M → M) 
               let d = weighs (λ _. 1) in
               omega arith;
           some = let e = length-append ns (middle ∷ child) in omega arith;
-          fits = let e = length-thinned slots j s is in let f = length-append ns (middle ∷ child) in let n = few_slots node in omega arith;
+          fits = let e = length-thinned slots j s is in omega arith;
           split = λ f. omega arith;
+          freed = λ f. omega arith;
         }
 
   module _ (old : Store M) (h : ℕ) (l r : Bool) (slots : List (Slot M)) (last i j : ℕ) (child : List (Slot M)) (end : ℕ) (s : Slot M) (e : i ≡ suc j) (n : IsNested IsValue empty op old h l r slots last i child end) (is : slice_get slots j ≡ Some s) (none : length child ≡ 0) where

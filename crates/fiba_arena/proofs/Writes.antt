@@ -1,5 +1,5 @@
 -- Nodes created and opened nodes closed, beside trees that stay.
-use Rattle.std.proofs.Common.{◌≡◌, ◌≤◌, ◌+◌, ◌++◌, ℕ, suc, Bool, false, List, [], ◌∷◌, None, Some, length, refl, sym, ap, ◌∙◌, arith, inl, inr}
+use Rattle.std.proofs.Common.{◌≡◌, ◌≤◌, ◌+◌, ◌++◌, ℕ, suc, Bool, false, List, [], ◌∷◌, None, Some, refl, sym, ap, ◌∙◌, arith, inl, inr}
 use Rattle.std.specs.Option.{option_map}
 use Rattle.std.proofs.lemmas.Bool.{cases_eq}
 use Rattle.std.proofs.lemmas.List.Elements.{All-cons, All-nil}
@@ -88,6 +88,10 @@ module _ {M : Type 0} (IsValue : M → Type 0) (empty : M) (op : M → M → M) 
       front_stays : SameRow IsValue empty op (plain old) (plain mid) h xs s.kid
       front_stays = row_beside old mid h xs s.kid (λ k. row_times k (plain old) h ys last) (λ k. times k (plain mid) (suc h) end) moved (λ k. let o = opened.owned k in let t = weight (only k) in omega arith)
 
+      -- the number that is held is left alone
+      pub held_stays : look mid at ≡ look old at
+      held_stays = moved.kept at (let o = opened.owned at in let t = weight (only at) in let s = only_self at in omega arith)
+
       pub front_opened : IsOpened IsValue empty op mid at h l false xs s.kid
       front_opened = record {
         items = all_front (λ s. IsValue s.item.value) xs s ys opened.items;
@@ -96,12 +100,11 @@ module _ {M : Type 0} (IsValue : M → Type 0) (empty : M) (op : M → M → M) 
         linked = row_linked old mid h xs s.kid (λ k. row_times k (plain old) h ys last) (λ k. times k (plain mid) (suc h) end) moved (λ k. let o = opened.owned k in let t = weight (only k) in omega arith) linked_parts.0;
       }
 
-      pub closed_in_two : (new : Store M) → IsWritten IsValue empty op old mid end h false r ys last → IsWritten IsValue empty op mid new at h l false xs s.kid → Moves (look mid) (look new) (λ k. only k at + row_times k (plain mid) h xs s.kid) (λ k. times k (plain new) (suc h) at) → mid.spare + 1 ≡ old.spare → new.spare ≡ mid.spare → 4 ≤ length (xs ++ s ∷ ys) → IsClosed IsValue empty op old new at h l r (xs ++ s ∷ ys) last (record { kid = at; item = s.item } ∷ []) end
-      closed_in_two new back front then taken spare many =
+      pub closed_in_two : (new : Store M) → IsWritten IsValue empty op old mid end h false r ys last → IsWritten IsValue empty op mid new at h l false xs s.kid → Moves (look mid) (look new) (λ k. only k at + row_times k (plain mid) h xs s.kid) (λ k. times k (plain new) (suc h) at) → mid.spare + 1 ≡ old.spare → new.spare ≡ mid.spare → IsClosed IsValue empty op old new at h l r (xs ++ s ∷ ys) last (record { kid = at; item = s.item } ∷ []) end
+      closed_in_two new back front then taken spare =
           let apart : (k : ℕ) → times k (plain mid) (suc h) end + (only k at + row_times k (plain mid) h xs s.kid + vacancy (look mid k)) ≤ 1 = λ k. let o = opened.owned k in let t = weight (only k) in let c = moved.counts k in let e = front_stays.tallies (only k) in omega arith in
           let stays = tree_beside mid new (suc h) end (λ k. only k at + row_times k (plain mid) h xs s.kid) (λ k. times k (plain new) (suc h) at) then apart in
           record {
-            few = omega arith;
             sizes =
                 let t = weight (λ _. 1) in
                 let a = front.weighs (λ _. 1) in

@@ -1,5 +1,5 @@
 -- What happens to a tree, as to a list of pairs.
-use Rattle.std.specs.Prelude.{◌≡◌, ◌≤◌, ◌+◌, ◌++◌, ◌==◌, ℕ, suc, Bool, true, false, List, [], ◌∷◌, Option, None, Some, IsSome, length, map, nat_lt, slice_get}
+use Rattle.std.specs.Prelude.{◌≡◌, ◌≤◌, ◌+◌, ◌-◌, ◌++◌, ◌==◌, ℕ, suc, Bool, true, false, List, [], ◌∷◌, Option, None, Some, IsSome, length, map, nat_lt, slice_get}
 use Rattle.fiba_arena.specs.declared.item.Item.{Item}
 use Rattle.fiba_arena.specs.declared.slot.Slot.{Slot}
 use Rattle.fiba_arena.specs.declared.change.Change.{Change}
@@ -105,6 +105,7 @@ pub record IsApplied {M : Type 0} (IsValue : M → Type 0) (empty : M) (op : M �
   pub few : length slots ≤ 3 + growth change
   pub opened : IsOpened IsValue empty op new at b left right slots last
   pub applies : Applies change taken (pairs_at (plain old) (suc b) at) (woven (pairs_at (plain new) b) slots last)
+  pub stays : look new at ≡ look old at
   pub moves : Moves (look old) (look new) (λ k. times k (plain old) (suc b) at) (λ k. only k at + row_times k (plain new) b slots last)
   pub room : new.spare + (1 + row_size (plain new) b slots last) ≡ old.spare + size (plain old) (suc b) at
 
@@ -141,3 +142,17 @@ is_first First = true
 -- the item at a place stands behind the place of the change, if it doesn't stand before it
 abbrev pub IsPassed : {M : Type 0} → Change M → List (Slot M) → ℕ → Type 0
 IsPassed {M} change slots at = (s : Slot M) → slice_get slots at ≡ Some s → stands_before change s.item.key ≡ false → stands_behind change s.item.key ≡ true
+
+-- whether an item comes in the place of another, and else nothing happens
+abbrev pub is_set : {M : Type 0} → Change M → Bool
+is_set (Insert item) = false
+is_set (Set item) = true
+is_set (Remove at) = false
+is_set First = false
+
+-- what a change did to the number of full nodes, where the node that is open now had `held` items and has `count`: each node that was split was full, so an insertion leaves one more at most, and none where the open node grew; a change that takes an item out leaves no more, and one that sets an item leaves as many
+pub record IsPaid {M : Type 0} (change : Change M) (full left spare rest held count : ℕ) : Type 0 where
+  pub longer : count ≤ held + growth change
+  pub grows : 1 ≤ growth change → left + spare + (count - held) ≤ full + 1 + rest
+  pub shrinks : growth change ≡ 0 → left ≤ full
+  pub kept : is_set change ≡ true → (left ≡ full) × (count ≡ held)

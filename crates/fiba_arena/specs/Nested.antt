@@ -38,8 +38,9 @@ pub record IsFilled {M : Type 0} (IsValue : M → Type 0) (empty : M) (op : M �
   pub moves : Moves (look old) (look new) (λ k. nested_times k (plain old) h slots last i child end) (λ k. nested_times k (plain new) h slots' last' i' child' end')
   pub room : new.spare + nested_size (plain new) h slots' last' i' child' end' ≡ old.spare + nested_size (plain old) h slots last i child end
   pub some : 1 ≤ length child'
-  pub fits : length slots' + (length child' - 3) ≤ length slots + (length child - 3)
+  pub fits : length slots' + (1 - length child) ≤ length slots
   pub split : 4 ≤ length child' → 1 ≤ new.spare
+  pub freed : length child ≡ 0 → 1 ≤ new.spare
 
 -- the opened child is closed again, so the row is sound as a whole
 pub record IsSettled {M : Type 0} (IsValue : M → Type 0) (empty : M) (op : M → M → M) (old new : Store M) (h : ℕ) (left right : Bool) (slots : List (Slot M)) (last i : ℕ) (child : List (Slot M)) (end : ℕ) (row : List (Slot M)) (rest : ℕ) : Type 0 where

@@ -1,5 +1,5 @@
 -- The tree that stands at a number of a store: its pairs, its nodes, and what makes it sound.
-use Rattle.std.specs.Prelude.{◌≡◌, ◌≤◌, ◌==◌, ◌||◌, ◌+◌, ◌-◌, ◌++◌, ℕ, zero, suc, Bool, false, List, [], ◌∷◌, Option, None, Some, All, length, if◌then◌else◌}
+use Rattle.std.specs.Prelude.{◌≡◌, ◌≤◌, ◌==◌, ◌||◌, ◌+◌, ◌++◌, ℕ, zero, suc, Bool, false, List, [], ◌∷◌, Option, None, Some, All, length, if◌then◌else◌}
 use Rattle.std.specs.Option.{option_map, option_map_or, IsSomeAnd}
 use Rattle.agg_laws.specs.Laws.{total}
 use Rattle.agg_laws.specs.Pairs.{values_of}
@@ -140,7 +140,6 @@ pub record IsLoose {M : Type 0} (IsValue : M → Type 0) (empty : M) (op : M →
 
 -- an opened node is closed again: it became one node, or two with an item between
 pub record IsClosed {M : Type 0} (IsValue : M → Type 0) (empty : M) (op : M → M → M) (old new : Store M) (at h : ℕ) (left right : Bool) (slots : List (Slot M)) (last : ℕ) (nodes : List (Slot M)) (end : ℕ) : Type 0 where
-  pub few : length nodes ≤ length slots - 3
   pub sizes : row_size (plain new) (suc h) nodes end ≡ length nodes + 1 + row_size (plain old) h slots last
   pub items : AreValues IsValue nodes
   pub kids : TreesAt IsValue empty op (plain new) (suc h) left right nodes end

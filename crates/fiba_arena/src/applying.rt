@@ -1,6 +1,7 @@
 ghost use Rattle.std.specs.Prelude.{◌≡◌, ◌≤◌, ◌+◌, ◌*◌, false, true, IfSome, IfNone, length};
 ghost use Rattle.fiba_arena.specs.Rows.{listed};
-ghost use Rattle.fiba_arena.specs.Changes.{CanApply, IsApplied, IsItemAt, IsPassed, growth, is_first, meets};
+ghost use Rattle.fiba_arena.specs.Stores.{full_nodes, held, look};
+ghost use Rattle.fiba_arena.specs.Changes.{CanApply, IsApplied, IsItemAt, IsPaid, IsPassed, growth, is_first, meets};
 
 use crate::applied::Applied;
 use crate::change::Change;
@@ -31,7 +32,11 @@ pub fn apply<M: Monoid, L>(
     ensures some { 1 ≤ growth change → 1 ≤ length (listed result.open.slots) }
     ensures spare { nodes.old.spare ≤ nodes.new.spare + below }
     ensures grows { 1 ≤ growth change → nodes.new.spare ≤ nodes.old.spare }
+    ensures paid { IsPaid change (full_nodes nodes.old) (full_nodes nodes.new)
+        nodes.old.spare nodes.new.spare (held (look nodes.old at))
+        (length (listed result.open.slots)) }
     ensures probes { probes.old ≤ probes.new }
+    ensures looks { probes.new ≤ probes.old + 12 * below + 1 }
     ensures cost { steps.new ≤ steps.old + 8 * below }
 {
     let open = nodes.get(at, probes).opened();

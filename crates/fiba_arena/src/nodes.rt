@@ -72,6 +72,7 @@ impl<M: Copy> Nodes<M> {
         ensures kids { length result.kids ≡ 4 }
         ensures counted { probes.new ≡ next_count probes.old }
         ensures rises { probes.old ≤ probes.new }
+        ensures looks { probes.new ≤ probes.old + 1 }
     {
         probes.look();
         let node = self.slab[at];

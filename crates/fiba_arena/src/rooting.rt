@@ -1,7 +1,8 @@
-ghost use Rattle.std.specs.Prelude.{◌≡◌, ◌≤◌, ◌<◌, ◌+◌, ◌-◌, ◌*◌, ◌^◌, false, length};
+ghost use Rattle.std.specs.Prelude.{◌≡◌, ◌≤◌, ◌<◌, ◌+◌, ◌-◌, ◌*◌, ◌^◌, false, true, length};
 ghost use Rattle.fiba_arena.specs.Rows.{listed};
 ghost use Rattle.fiba_arena.specs.Trees.{IsOpened};
-ghost use Rattle.fiba_arena.specs.Changes.{is_first};
+ghost use Rattle.fiba_arena.specs.Stores.{full_nodes, fullness, held, look};
+ghost use Rattle.fiba_arena.specs.Changes.{growth, is_first, is_set};
 ghost use Rattle.fiba_arena.specs.Roots.{CanChange, CanSprout, IsChanged, IsPlanted, IsSprouted};
 
 use crate::applying::apply;
@@ -32,7 +33,10 @@ pub fn change_root<M: Monoid, L>(
     requires levels { root.height + 1 < 2 ^ 32 }
     ensures changed { IsChanged M.is_value M.empty M.op nodes.old nodes.new root result.root
         place.left place.right change result.taken }
+    ensures grows { full_nodes nodes.new ≤ full_nodes nodes.old + growth change }
+    ensures kept { is_set change ≡ true → full_nodes nodes.new ≡ full_nodes nodes.old }
     ensures probes { probes.old ≤ probes.new }
+    ensures looks { probes.new ≤ probes.old + 12 * root.height + 4 }
     ensures cost { steps.new ≤ steps.old + 8 * root.height + 3 }
 {
     if root.height == 0 {
@@ -61,7 +65,9 @@ fn sprout<M: Monoid, L>(
     requires can { CanSprout M.is_value M.empty M.op nodes.old root item }
     ensures sprouted { IsSprouted M.is_value M.empty M.op nodes.old nodes.new root
         place.left place.right item result }
+    ensures full { full_nodes nodes.new ≡ full_nodes nodes.old }
     ensures probes { probes.old ≤ probes.new }
+    ensures looks { probes.new ≤ probes.old + 4 }
     ensures cost { steps.new ≤ steps.old + 3 }
 {
     let Some(item) = item else {
@@ -98,7 +104,11 @@ pub fn plant<M: Monoid, L>(
         → result.height ≡ below + 1 + (length (listed open.now.slots) - 3) }
     ensures spare { 1 ≤ length (listed open.now.slots)
         → nodes.new.spare + 2 * (length (listed open.now.slots) - 3) ≡ nodes.old.spare }
+    ensures full { full_nodes nodes.new + fullness (held (look nodes.old at))
+        ≡ full_nodes nodes.old + fullness (length (listed open.now.slots)) }
     ensures probes { probes.old ≤ probes.new }
+    ensures looks { probes.new ≤ probes.old + 10
+        + 4 * (length (listed open.now.slots) - 3) }
     ensures cost { steps.new ≤ steps.old + 8 + 3 * (length (listed open.now.slots) - 3) }
 {
     if open.slots.len() == 0 {
@@ -108,7 +118,7 @@ pub fn plant<M: Monoid, L>(
             height: below,
         };
     }
-    let closed = close(nodes, at, open, below, place, None, probes, steps);
+    let closed = close(nodes, at, open, 3, below, place, None, probes, steps);
     if closed.slots.len() == 0 {
         return Root {
             at: closed.last,

@@ -1,5 +1,7 @@
 ghost use Rattle.std.specs.Prelude.{◌≡◌, ◌≤◌, ◌<◌, ◌+◌, ◌-◌, length};
 ghost use Rattle.fiba_arena.specs.Rows.{listed};
+ghost use Rattle.fiba_arena.specs.Stores.{full_nodes, fullness, held, look};
+ghost use Rattle.fiba_arena.specs.Kids.{kid_of};
 ghost use Rattle.fiba_arena.specs.Nested.{IsFilled, IsNested, IsSettled};
 
 use crate::nest::Nest;
@@ -11,7 +13,8 @@ use crate::writing::close;
 use agg_laws::{Monoid, Probes, Steps};
 
 /// Closes the opened child of a row: it becomes one node or two, together with a neighbour where
-/// it has no item of its own. At most eight steps.
+/// it has no item of its own. At most eight steps. It makes a full node only where the child has
+/// three items.
 pub fn settle<M: Monoid, L>(
     nodes: &mut Nodes<M>,
     nest: &Nest<M>,
@@ -35,14 +38,46 @@ pub fn settle<M: Monoid, L>(
     ensures spare { nodes.old.spare ≤ nodes.new.spare + 1 }
     ensures taken { 1 ≤ length (listed nest.now.child.slots)
         → nodes.new.spare + (length (listed nest.now.child.slots) - 3) ≡ nodes.old.spare }
+    ensures full { full_nodes nodes.new + fullness (held (look nodes.old
+        (kid_of (listed nest.now.row.slots) nest.now.row.last nest.now.at)))
+        ≤ full_nodes nodes.old + fullness (length (listed nest.now.child.slots)) }
+    ensures even { 1 ≤ length (listed nest.now.child.slots)
+        → full_nodes nodes.new + fullness (held (look nodes.old
+        (kid_of (listed nest.now.row.slots) nest.now.row.last nest.now.at)))
+        ≡ full_nodes nodes.old + fullness (length (listed nest.now.child.slots)) }
     ensures probes { probes.old ≤ probes.new }
+    ensures looks { probes.new ≤ probes.old + 11 }
     ensures cost { steps.new ≤ steps.old + 8 }
 {
+    let most = most_items(&nest.child);
     let nest = filled(nodes, nest, height, place, probes);
     let at = nest.row.kid(nest.at);
     let inner = nest.row.place(nest.at, place);
-    let closed = close(nodes, at, &nest.child, height, inner, up, probes, steps);
+    let closed = close(
+        nodes,
+        at,
+        &nest.child,
+        most,
+        height,
+        inner,
+        up,
+        probes,
+        steps,
+    );
     nest.row.spliced(nest.at, closed)
+}
+
+// How many items a node can have that an opened child becomes: three, and two where the child has
+// none of its own. So a removal makes no full node: there are no more of them than insertions, and
+// each pays for one split.
+fn most_items<M: Copy>(child: &Open<M>) -> usize
+    ensures some { 1 ≤ length (listed child.now.slots) → result ≡ 3 }
+    ensures none { length (listed child.now.slots) ≡ 0 → result ≡ 2 }
+    ensures two { 2 ≤ result }
+    ensures three { result ≤ 3 }
+    ensures few { length (listed child.now.slots) ≤ 4 }
+{
+    if child.slots.len() == 0 { 2 } else { 3 }
 }
 
 // Gives the opened child an item: where it has none, it takes the item beside it and all that the
@@ -65,10 +100,14 @@ fn filled<M: Monoid>(
         (listed result.row.slots) result.row.last result.at
         (listed result.child.slots) result.child.last }
     ensures same { 1 ≤ length (listed nest.now.child.slots) → result ≡ nest.now }
-    ensures still { 1 ≤ length (listed nest.now.child.slots)
-        → nodes.new.spare ≡ nodes.old.spare }
+    ensures still { 1 ≤ length (listed nest.now.child.slots) → nodes.new ≡ nodes.old }
     ensures spare { nodes.old.spare ≤ nodes.new.spare }
+    ensures full { full_nodes nodes.new + fullness (held (look nodes.old
+        (kid_of (listed nest.now.row.slots) nest.now.row.last nest.now.at)))
+        ≤ full_nodes nodes.old + fullness (held (look nodes.new
+        (kid_of (listed result.row.slots) result.row.last result.at))) }
     ensures probes { probes.old ≤ probes.new }
+    ensures looks { probes.new ≤ probes.old + 1 }
 {
     if nest.child.slots.len() != 0 {
         return *nest;
@@ -98,7 +137,12 @@ fn with_next<M: Monoid>(
         (listed result.row.slots) result.row.last result.at
         (listed result.child.slots) result.child.last }
     ensures spare { nodes.old.spare ≤ nodes.new.spare }
+    ensures full { full_nodes nodes.new + fullness (held (look nodes.old
+        (kid_of (listed nest.now.row.slots) nest.now.row.last nest.now.at)))
+        ≤ full_nodes nodes.old + fullness (held (look nodes.new
+        (kid_of (listed result.row.slots) result.row.last result.at))) }
     ensures probes { probes.old ≤ probes.new }
+    ensures looks { probes.new ≤ probes.old + 1 }
 {
     let item = nest.row.slots.get(nest.at).item;
     let next = nest.row.kid(nest.at + 1);
@@ -135,7 +179,12 @@ fn with_previous<M: Monoid>(
         (listed result.row.slots) result.row.last result.at
         (listed result.child.slots) result.child.last }
     ensures spare { nodes.old.spare ≤ nodes.new.spare }
+    ensures full { full_nodes nodes.new + fullness (held (look nodes.old
+        (kid_of (listed nest.now.row.slots) nest.now.row.last nest.now.at)))
+        ≤ full_nodes nodes.old + fullness (held (look nodes.new
+        (kid_of (listed result.row.slots) result.row.last result.at))) }
     ensures probes { probes.old ≤ probes.new }
+    ensures looks { probes.new ≤ probes.old + 1 }
 {
     let at = nest.at - 1;
     let item = nest.row.slots.get(at).item;

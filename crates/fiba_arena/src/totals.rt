@@ -27,6 +27,7 @@ pub fn total_of<M: Monoid, L>(
         (shown place.left place.right (pairs_at (plain nodes.now) height)
         (listed slots.now) last)) }
     ensures probes { probes.old ≤ probes.new }
+    ensures looks { probes.new ≤ probes.old + length (listed slots.now) + 1 }
     ensures cost { steps.new ≤ steps.old + 2 * length (listed slots.now) + 1 }
 {
     let mut sum = M::unit();
@@ -61,6 +62,7 @@ pub(crate) fn with_kid<M: Monoid, L>(
     ensures value { result ≡ fold M.op sum (values_of
         (if place.left || place.right then [] else pairs_at (plain nodes.now) height kid)) }
     ensures probes { probes.old ≤ probes.new }
+    ensures looks { probes.new ≤ probes.old + 1 }
     ensures cost { steps.new ≤ steps.old + 1 }
     ensures one_each { steps.new ≤ steps.old + length
         (if place.left || place.right then [] else pairs_at (plain nodes.now) height kid) }

@@ -1,6 +1,6 @@
 ghost use Rattle.std.specs.Prelude.{◌≡◌, ◌≤◌, ◌<◌, ◌+◌, ◌-◌, ◌*◌, suc, false, None, Some, IsSome, length};
 ghost use Rattle.fiba_arena.specs.Rows.{listed};
-ghost use Rattle.fiba_arena.specs.Stores.{look};
+ghost use Rattle.fiba_arena.specs.Stores.{full_nodes, fullness, held, look};
 ghost use Rattle.fiba_arena.specs.Trees.{HasUp, IsClosed, IsLoose, KidsAt, IsOpened, IsWritten, Moves, TreesAt, only, plain, row_times, times, ups};
 ghost use Rattle.fiba_arena.specs.Links.{AreAdopted, IsAdopted};
 
@@ -18,6 +18,7 @@ fn adopt<M: Copy>(nodes: &mut Nodes<M>, kid: usize, at: usize, probes: &mut Prob
     requires { IsSome (look nodes.old kid) }
     ensures adopted { IsAdopted nodes.old nodes.new kid at }
     ensures probes { probes.old ≤ probes.new }
+    ensures looks { probes.new ≤ probes.old + 1 }
 {
     let mut node = nodes.get(kid, probes);
     node.up = Some(at);
@@ -38,6 +39,7 @@ fn adopt_all<M: Monoid>(
     ensures adopted { AreAdopted nodes.old nodes.new height
         (listed open.now.slots) open.now.last at }
     ensures probes { probes.old ≤ probes.new }
+    ensures looks { probes.new ≤ probes.old + length (listed open.now.slots) + 1 }
 {
     if height == 0 {
         return;
@@ -74,7 +76,10 @@ pub fn write<M: Monoid, L>(
     ensures up { ups nodes.new at ≡ Some up }
     ensures kids { KidsAt (λ _ _ k. HasUp nodes.new height at k) false false
         (listed open.now.slots) open.now.last }
+    ensures full { full_nodes nodes.new + fullness (held (look nodes.old at))
+        ≡ full_nodes nodes.old + fullness (length (listed open.now.slots)) }
     ensures probes { probes.old ≤ probes.new }
+    ensures looks { probes.new ≤ probes.old + 2 * length (listed open.now.slots) + 2 }
     ensures cost { steps.new ≤ steps.old + 2 * length (listed open.now.slots) + 1 }
 {
     let agg = total_of(nodes, &open.slots, open.last, height, place, probes, steps);
@@ -105,7 +110,10 @@ pub fn create<M: Monoid, L>(
     ensures spare { nodes.new.spare + 1 ≡ nodes.old.spare }
     ensures kids { KidsAt (λ _ _ k. HasUp nodes.new height result k) false false
         (listed open.now.slots) open.now.last }
+    ensures full { full_nodes nodes.new
+        ≡ full_nodes nodes.old + fullness (length (listed open.now.slots)) }
     ensures probes { probes.old ≤ probes.new }
+    ensures looks { probes.new ≤ probes.old + 2 * length (listed open.now.slots) + 2 }
     ensures cost { steps.new ≤ steps.old + 2 * length (listed open.now.slots) + 1 }
 {
     let blank = Node::made(open.slots, open.last, height == 0, None, M::unit());
@@ -114,12 +122,13 @@ pub fn create<M: Monoid, L>(
     at
 }
 
-/// Closes an opened node again: one node under its number, or two where it has four items. At most
-/// eight steps.
+/// Closes an opened node again: one node under its number, or two where it has more items than
+/// `most`. At most eight steps.
 pub fn close<M: Monoid, L>(
     nodes: &mut Nodes<M>,
     at: usize,
     open: &Open<M>,
+    most: usize,
     height: u32,
     place: Place,
     up: Option<usize>,
@@ -129,29 +138,38 @@ pub fn close<M: Monoid, L>(
     requires opened { IsOpened M.is_value M.empty M.op nodes.old at height place.left place.right
         (listed open.now.slots) open.now.last }
     requires some { 1 ≤ length (listed open.now.slots) }
-    requires room { 4 ≤ length (listed open.now.slots) → 1 ≤ nodes.old.spare }
+    requires two { 2 ≤ most }
+    requires three { most ≤ 3 }
+    requires room { most < length (listed open.now.slots) → 1 ≤ nodes.old.spare }
     ensures closed { IsClosed M.is_value M.empty M.op nodes.old nodes.new at height
         place.left place.right (listed open.now.slots) open.now.last
         (listed result.slots) result.last }
-    ensures split { length (listed result.slots) ≡ length (listed open.now.slots) - 3 }
+    ensures whole { length (listed open.now.slots) ≤ most → length (listed result.slots) ≡ 0 }
+    ensures split { most < length (listed open.now.slots) → length (listed result.slots) ≡ 1 }
     ensures spare { nodes.new.spare + length (listed result.slots) ≡ nodes.old.spare }
+    ensures full { 3 ≤ most → full_nodes nodes.new + fullness (held (look nodes.old at))
+        ≡ full_nodes nodes.old + fullness (length (listed open.now.slots)) }
+    ensures thin { most ≤ 2 → full_nodes nodes.new + fullness (held (look nodes.old at))
+        ≡ full_nodes nodes.old }
     ensures probes { probes.old ≤ probes.new }
+    ensures looks { probes.new ≤ probes.old + 10 }
     ensures cost { steps.new ≤ steps.old + 8 }
 {
-    if open.slots.len() < 4 {
+    if open.slots.len() <= most {
         write(nodes, at, open, height, place, up, probes, steps);
         return Open {
             slots: Row::Empty,
             last: at,
         };
     }
-    let middle = open.slots.get(2);
+    let cut = open.slots.len() - 2;
+    let middle = open.slots.get(cut);
     let front = Open {
-        slots: open.slots.first(2),
+        slots: open.slots.first(cut),
         last: middle.kid,
     };
     let back = Open {
-        slots: open.slots.rest(3),
+        slots: open.slots.rest(cut + 1),
         last: open.last,
     };
     let last = create(nodes, &back, height, place.back(), probes, steps);

@@ -26,7 +26,7 @@ pub left_same : (d : ℕ) → left_at false d ≡ false
 left_same zero = refl
 left_same (suc d) = refl
 
-some_node : {M : Type 0} (o : Option (Plain M)) → vacancy o ≡ 0 → (n : Plain M) × (o ≡ Some n)
+pub some_node : {M : Type 0} (o : Option (Plain M)) → vacancy o ≡ 0 → (n : Plain M) × (o ≡ Some n)
 some_node None e = absurd (omega arith)
 some_node (Some n) e = (n, refl)
 

@@ -3,3 +3,4 @@ pub mod Climbing
 pub mod Regrown
 pub mod Raising
 pub mod Sprouting
+pub mod Lefts

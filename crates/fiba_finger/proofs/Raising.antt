@@ -11,20 +11,24 @@ use Rattle.fiba_arena.specs.declared.node.Node.{Node}
 use Rattle.fiba_arena.specs.declared.item.Item.{Item}
 use Rattle.fiba_arena.specs.declared.change.Change.{Change}
 use Rattle.fiba_arena.specs.Rows.{Plain, last_of, plain_node, slots_of}
-use Rattle.fiba_arena.specs.Stores.{Store, look}
-use Rattle.fiba_arena.specs.Trees.{IsAt, IsOpened, IsWritten, Look, Moves, only, pairs_at, plain, row_times, size, times, ups, woven}
+use Rattle.fiba_arena.specs.Stores.{Store, full_nodes, fullness, held, look}
+use Rattle.fiba_arena.specs.Trees.{IsAt, IsOpened, IsWritten, Look, Moves, Owned, only, pairs_at, plain, row_times, size, times, ups, woven}
 use Rattle.fiba_arena.specs.Kids.{before, kid_of, left_of, right_of}
 use Rattle.fiba_arena.specs.Nested.{IsNested, IsSettled}
-use Rattle.fiba_arena.specs.Changes.{Applies, CanApply, IsApplied, stands_before}
+use Rattle.fiba_arena.specs.Changes.{Applies, CanApply, IsApplied, IsPaid, stands_before}
 use Rattle.fiba_arena.specs.Roots.{CanChange, IsChanged, IsPlanted}
 use Rattle.fiba_arena.proofs.Sound.{moves-then, only_self, weight_of}
+use Rattle.fiba_arena.proofs.Fullness.{held_few, held_is, held_some}
+use Rattle.fiba_arena.proofs.Opened.{is_there}
+use Rattle.fiba_arena.proofs.Paying.{paid_below}
 use Rattle.fiba_arena.proofs.Nesting.{few_slots}
 use Rattle.fiba_arena.proofs.Kids.{tally-around}
 use Rattle.fiba_arena.proofs.Below.{descended, kid_nested, kid_room}
 use Rattle.fiba_arena.proofs.Planting.{applied_room}
-use Rattle.fiba_finger.specs.Edges.{ahead, edge}
+use Rattle.fiba_finger.specs.Edges.{ahead, edge, left_edge}
 use Rattle.fiba_finger.specs.Climbs.{CanRaise, IsRaised}
 use Rattle.fiba_finger.proofs.Edges.{Opens, ahead_suc, ahead_zero, all_first, all_second, edge_more, edge_suc, edge_up, edge_zero, kid_of_end, left_at, left_of_end, opens, past_end, rank_end, right_of_end}
+use Rattle.fiba_finger.proofs.Lefts.{left_stays}
 use Rattle.fiba_finger.proofs.Regrown.{IsRegrown, can_edge, lifted}
 
 -- the place of a node on the right edge
@@ -96,6 +100,11 @@ module _ {M : Type 0} (IsValue : M → Type 0) (empty : M) (op : M → M → M) 
       }
 
 module _ {M : Type 0} (IsValue : M → Type 0) (empty : M) (op : M → M → M) (old now : Store M) (root : Root) (at below : ℕ) (change : Change M) (parent : Option ℕ) (slots : List (Slot M)) (last : ℕ) (r : IsRaising IsValue empty op old now root at below change parent slots last) where
+  held_here : 1 ≤ held (look now at)
+  held_here =
+      let there = is_there IsValue empty op old (suc below) (left_at true (root.height - 1 - below)) true at (omega arith) (can_here IsValue empty op old root at below change r.can).sound in
+      subst (λ o. 1 ≤ held o) (sym r.applied.stays) (held_some (look old at) there)
+
   module _ (inner : below + 1 < root.height) where
     next : root.height - 1 - below ≡ suc (root.height - 1 - (below + 1))
     next = omega arith
@@ -208,11 +217,35 @@ module _ {M : Type 0} (IsValue : M → Type 0) (empty : M) (op : M → M → M) 
             some = omega arith;
           })
 
+      -- the full nodes pay for the splits, one level up
+      pub pays : (new : Store M) (i : ℕ) (l right : Bool) (wide : List (Slot M)) (rest : ℕ) → i ≡ length row → l ≡ (below + 2 == root.height) → right ≡ true → IsSettled IsValue empty op now new below l right row end i slots last wide rest → (1 ≤ length slots → length row ≤ length wide) → IsPaid change (full_nodes old) (full_nodes now) old.spare now.spare (held (look now at)) (length slots) → full_nodes new + fullness (held (look now (kid_of row end i))) ≤ full_nodes now + fullness (length slots) → (1 ≤ length slots → full_nodes new + fullness (held (look now (kid_of row end i))) ≡ full_nodes now + fullness (length slots)) → (1 ≤ length slots → new.spare + (length slots - 3) ≡ now.spare) → IsPaid change (full_nodes old) (full_nodes new) old.spare new.spare (held (look new at_parent)) (length wide)
+      pays new i l right wide rest e le re s kept paid closed even taken =
+          let kid : kid_of row end i ≡ at = ap (kid_of row end) e ∙ kid_of_end row end ∙ end_at in
+          let was : held (look now (kid_of row end i)) ≡ held (look now at) = ap (λ k. held (look now k)) kid in
+          let p = paid_below change (full_nodes old) (full_nodes now) (full_nodes new) old.spare now.spare new.spare (held (look now at)) (length slots) (length row) (length wide) (held (look now (kid_of row end i))) paid was (held_few (look now at)) held_here (λ g. r.some) closed even s.fits kept taken in
+          let up = goes_on new i l right wide rest e le re s (kept r.some) in
+          let found_old : look old at_parent ≡ Some node = ap (look old) is_above ∙ sym above_stays ∙ ap (look now) (sym is_above) ∙ found in
+          let own = held_is (look new at_parent) node row (up.applied.stays ∙ found_old) row_is in
+          rw own p
+
     pub opened_inner : (l right : Bool) → l ≡ false → right ≡ true → IsOpened IsValue empty op now at below l right slots last
     opened_inner l right le re =
         let z : left_at true (root.height - 1 - below) ≡ false = ap (left_at true) next in
         let o : IsOpened IsValue empty op now at below false true slots last = subst (λ b. IsOpened IsValue empty op now at below b true slots last) z r.applied.opened in
         rw (le, re) o
+
+    -- the first leaf stays
+    left_end : (new : Store M) → Moves (look old) (look new) (λ k. times k (plain old) (suc below) at) (λ k. times k (plain new) (suc below) at) → left_edge (plain new) (root.height - 1) root.at ≡ left_edge (plain old) (root.height - 1) root.at
+    left_end new moves =
+        let d = root.height - 1 - (below + 1) in
+        let b = root.height - 2 in
+        let up : root.height ≡ suc (suc b) = omega arith in
+        let stands : edge (plain old) (suc d) root.at ≡ at = ap (λ d. edge (plain old) d root.at) (sym next) ∙ r.can.edge.stands in
+        let sound : IsAt IsValue empty op (plain old) (suc (suc b)) true true root.at = subst (λ h. IsAt IsValue empty op (plain old) h true true root.at) up r.can.can.tree.sound in
+        let owned : Owned (look old) (λ k. times k (plain old) (suc (suc b)) root.at) = subst (λ h. Owned (look old) (λ k. times k (plain old) h root.at)) up r.can.can.tree.owned in
+        let same = left_stays IsValue empty op old new b d (suc below) root.at true (omega arith) sound owned (λ k z. moves.kept k (let t : times k (plain old) (suc below) (edge (plain old) (suc d) root.at) ≡ times k (plain old) (suc below) at = ap (times k (plain old) (suc below)) stands in omega arith)) in
+        let low : root.height - 1 ≡ suc b = omega arith in
+        ap (λ n. left_edge (plain new) n root.at) low ∙ same ∙ ap (λ n. left_edge (plain old) n root.at) (sym low)
 
     -- the node is written, and the tree is whole
     pub ends : (new : Store M) (l right : Bool) → l ≡ false → right ≡ true → IsWritten IsValue empty op now new at below l right slots last → Moves (look now) (look new) (λ k. only k at + row_times k (plain now) below slots last) (λ k. times k (plain new) (suc below) at) → new.spare ≡ now.spare → ups new at ≡ Some parent → IsRaised IsValue empty op old new root root at below change
@@ -245,6 +278,7 @@ module _ {M : Type 0} (IsValue : M → Type 0) (empty : M) (op : M → M → M) 
           taken = r.taken;
           changed = subst (λ h. IsChanged IsValue empty op old new (record { at = root.at; height = h }) (record { at = root.at; height = h }) true true change r.taken) (sym high) c;
           edge = record { within = r.can.edge.within; stands = whole.1 ∙ r.can.edge.stands };
+          front = λ lt. (refl, left_end new base.moves);
         }
 
   module _ (b : ℕ) (b_is : b ≡ root.height - 1) (here : below ≡ b) where
@@ -285,4 +319,5 @@ module _ {M : Type 0} (IsValue : M → Type 0) (empty : M) (op : M → M → M) 
             higher = let x = p.higher in let y = applied_top.few in omega arith;
           };
           edge = record { within = omega arith; stands = ap (λ d. edge (plain new) d grown.at) z ∙ edge_zero (plain new) grown.at };
+          front = λ lt. absurd (omega arith);
         }

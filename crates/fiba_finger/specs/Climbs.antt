@@ -9,7 +9,7 @@ use Rattle.fiba_arena.specs.Trees.{plain}
 use Rattle.fiba_arena.specs.Changes.{stands_before}
 use Rattle.fiba_arena.specs.Roots.{CanChange, IsChanged}
 use Rattle.fiba_arena.specs.Arena.{pairs_in}
-use Rattle.fiba_finger.specs.Edges.{ahead, edge}
+use Rattle.fiba_finger.specs.Edges.{ahead, edge, left_edge}
 
 -- how many pairs have a greater key
 abbrev pub distance : {M : Type 0} → ℕ → List (ℕ × M) → ℕ
@@ -36,11 +36,12 @@ pub record CanRaise {M : Type 0} (IsValue : M → Type 0) (empty : M) (op : M �
   pub edge : IsOnEdge store root at below
   pub lower : All (λ p. stands_before change p.0 ≡ true) (ahead (plain store) root.height (root.height - 1 - below) root.at)
 
--- a change was made to a tree, and the highest node that was written stands on its right edge
+-- a change was made to a tree, and the highest node that was written stands on its right edge; where it isn't the root, the first leaf is still the first
 pub record IsRaised {M : Type 0} (IsValue : M → Type 0) (empty : M) (op : M → M → M) (old new : Store M) (root grown : Root) (top below : ℕ) (change : Change M) : Type 0 where
   pub taken : Option (Item M)
   pub changed : IsChanged IsValue empty op old new root grown true true change taken
   pub edge : IsOnEdge new grown top below
+  pub front : below + 1 < grown.height → (grown.height ≡ root.height) × (left_edge (plain new) (grown.height - 1) grown.at ≡ left_edge (plain old) (root.height - 1) root.at)
 
 -- an item was put into a tree
 pub record IsPut {M : Type 0} (IsValue : M → Type 0) (empty : M) (op : M → M → M) (old new : Store M) (root grown : Root) (item : Item M) : Type 0 where

@@ -1,4 +1,4 @@
-ghost use Rattle.std.specs.Prelude.{◌≡◌, ◌≤◌, false, true};
+ghost use Rattle.std.specs.Prelude.{◌≡◌, ◌≤◌, ◌+◌, ◌*◌, false, true};
 ghost use Rattle.agg_laws.specs.Pairs.{AreRising, has_key};
 ghost use Rattle.fiba_arena.specs.Arena.{pairs_in};
 ghost use Rattle.fiba_arena.specs.Roots.{IsTree};
@@ -24,6 +24,7 @@ pub fn climb<M: Monoid>(
     requires reached { IsReached nodes.now root key from.at from.below }
     ensures climbed { IsClimbed nodes.now root key result.at result.below }
     ensures probes { probes.old ≤ probes.new }
+    ensures looks { probes.new + 2 * from.below ≤ probes.old + 2 * result.below + 2 }
 {
     if from.below + 1 == root.height {
         return from;

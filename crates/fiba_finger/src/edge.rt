@@ -1,6 +1,6 @@
-ghost use Rattle.std.specs.Prelude.{◌≡◌, ◌≤◌, suc, true};
+ghost use Rattle.std.specs.Prelude.{◌≡◌, ◌≤◌, ◌+◌, suc, true};
 ghost use Rattle.fiba_arena.specs.Trees.{IsAt, plain};
-ghost use Rattle.fiba_finger.specs.Edges.{edge};
+ghost use Rattle.fiba_finger.specs.Edges.{edge, left_edge};
 
 use agg_laws::{Monoid, Probes};
 use fiba_arena::{Nodes, Place};
@@ -27,10 +27,32 @@ pub fn rightmost<M: Monoid>(
     requires { IsAt M.is_value M.empty M.op (plain nodes.now) (suc below) left true at }
     ensures leaf { result ≡ edge (plain nodes.now) below at }
     ensures probes { probes.old ≤ probes.new }
+    ensures looks { probes.new ≤ probes.old + below }
 {
     if below == 0 {
         return at;
     }
     let last = nodes.get(at, probes).last();
     rightmost(nodes, last, below - 1, false, probes)
+}
+
+/// The leaf on the left edge of a tree.
+pub fn leftmost<M: Monoid>(
+    nodes: &Nodes<M>,
+    at: usize,
+    below: u32,
+    place: Place,
+    probes: &mut Probes,
+) -> usize
+    requires { IsAt M.is_value M.empty M.op (plain nodes.now) (suc below)
+        place.left place.right at }
+    ensures leaf { result ≡ left_edge (plain nodes.now) below at }
+    ensures probes { probes.old ≤ probes.new }
+    ensures looks { probes.new ≤ probes.old + below }
+{
+    if below == 0 {
+        return at;
+    }
+    let slot = nodes.get(at, probes).slots().get(0);
+    leftmost(nodes, slot.kid, below - 1, place.front(), probes)
 }

@@ -1,6 +1,6 @@
-//! A tree of partial aggregates with a finger at its newest leaf, so that a late tuple costs what its
-//! distance asks for: the finger B-tree of Tangwongsan, Hirzel, Schneider, "Optimal and general
-//! out-of-order sliding-window aggregation", VLDB 2019.
+//! A tree of partial aggregates with a finger at its oldest and one at its newest leaf, so that a
+//! late tuple costs what its distance asks for: the finger B-tree of Tangwongsan, Hirzel,
+//! Schneider, "Optimal and general out-of-order sliding-window aggregation", VLDB 2019.
 //!
 //! *Stands on* `agg_laws` and `fiba_arena`, whose nodes and functions it shares with the arena tree.
 //! *Promise*: a finger tree is its list of pairs with rising keys, and an insertion touches only the

@@ -1,24 +1,26 @@
 ghost use Rattle.std.specs.Prelude.{◌≡◌, ◌≤◌, ◌<◌, ◌+◌, ◌-◌, ◌*◌, ◌^◌, false, true};
 ghost use Rattle.agg_laws.specs.Pairs.{AreRising, has_key};
 ghost use Rattle.fiba_arena.specs.Arena.{pairs_in};
+ghost use Rattle.fiba_arena.specs.Stores.{full_nodes};
 ghost use Rattle.fiba_arena.specs.Changes.{is_first};
 ghost use Rattle.fiba_arena.specs.Roots.{CanChange, IsTree};
 ghost use Rattle.fiba_arena.specs.declared.change.Change.TheVariants.{Insert};
 ghost use Rattle.fiba_finger.specs.Climbs.{IsPut, distance};
-ghost use Rattle.fiba_finger.specs.Fingers.{IsFinger};
+ghost use Rattle.fiba_finger.specs.Fingers.{IsFinger, IsFront};
 
 use crate::climb::climb;
 use crate::climbed::Climbed;
-use crate::edge::{right_place, rightmost};
+use crate::edge::{leftmost, right_place, rightmost};
 use crate::grown::Grown;
 use crate::raise::raise;
 use agg_laws::{Monoid, Probes, Steps};
 use fiba_arena::{Change, Item, Nodes, Root, change_root};
 
-/// A tree after an insertion, its last leaf, and what the insertion did.
+/// A tree after an insertion, its first and its last leaf, and what the insertion did.
 #[derive(Clone, Copy)]
 pub struct Put {
     pub root: Root,
+    pub front: usize,
     pub finger: usize,
     pub grown: Grown,
 }
@@ -27,6 +29,7 @@ pub struct Put {
 pub fn put_near<M: Monoid, L>(
     nodes: &mut Nodes<M>,
     root: Root,
+    front: usize,
     finger: usize,
     item: Item<M>,
     probes: &mut Probes,
@@ -35,16 +38,21 @@ pub fn put_near<M: Monoid, L>(
     requires can { CanChange M.is_value M.empty M.op nodes.old root true true (Insert item) }
     requires rising { AreRising (pairs_in nodes.old root) }
     requires absent { has_key item.key (pairs_in nodes.old root) ≡ false }
+    requires front { IsFront nodes.old root front }
     requires finger { IsFinger nodes.old root finger }
     requires levels { root.height + 1 < 2 ^ 32 }
     ensures put { IsPut M.is_value M.empty M.op nodes.old nodes.new root result.root item }
+    ensures front { IsFront nodes.new result.root result.front }
     ensures finger { IsFinger nodes.new result.root result.finger }
     ensures near { 2 ^ result.grown.climbs ≤ distance item.key (pairs_in nodes.old root) + 1 }
     ensures climbs { result.grown.climbs ≤ root.height }
     ensures splits { result.grown.splits ≤ root.height }
     ensures taken { nodes.new.spare + (result.grown.splits + (result.root.height - root.height))
         ≡ nodes.old.spare }
+    ensures full { full_nodes nodes.new + result.grown.splits ≤ full_nodes nodes.old + 1 }
     ensures probes { probes.old ≤ probes.new }
+    ensures looks { probes.new ≤ probes.old + 20
+        + 16 * (result.grown.climbs + result.grown.splits) }
     ensures cost { steps.new ≤ steps.old + 8
         + (8 * result.grown.climbs + 11 * result.grown.splits) }
 {
@@ -52,6 +60,7 @@ pub fn put_near<M: Monoid, L>(
     if root.height == 0 {
         let place = right_place(true);
         let root = change_root(nodes, root, place, change, probes, steps).root;
+        let front = start_of(nodes, root, probes);
         let finger = end_of(nodes, root, probes);
         let grown = Grown {
             splits: 0,
@@ -59,6 +68,7 @@ pub fn put_near<M: Monoid, L>(
         };
         return Put {
             root,
+            front,
             finger,
             grown,
         };
@@ -77,6 +87,7 @@ pub fn put_near<M: Monoid, L>(
     };
     Put {
         root: raised.root,
+        front: front_after(nodes, raised.root, top.below, front, probes),
         finger: rightmost(nodes, top.at, top.below, is_root, probes),
         grown,
     }
@@ -87,9 +98,45 @@ pub fn end_of<M: Monoid>(nodes: &Nodes<M>, root: Root, probes: &mut Probes) -> u
     requires { IsTree M.is_value M.empty M.op nodes.now root true true }
     ensures finger { IsFinger nodes.now root result }
     ensures probes { probes.old ≤ probes.new }
+    ensures looks { probes.new ≤ probes.old + root.height }
 {
     if root.height == 0 {
         return 0;
     }
     rightmost(nodes, root.at, root.height - 1, true, probes)
+}
+
+/// The first leaf of a tree.
+pub fn start_of<M: Monoid>(nodes: &Nodes<M>, root: Root, probes: &mut Probes) -> usize
+    requires { IsTree M.is_value M.empty M.op nodes.now root true true }
+    ensures front { IsFront nodes.now root result }
+    ensures probes { probes.old ≤ probes.new }
+    ensures looks { probes.new ≤ probes.old + root.height }
+{
+    if root.height == 0 {
+        return 0;
+    }
+    leftmost(nodes, root.at, root.height - 1, right_place(true), probes)
+}
+
+// The first leaf after an insertion that wrote no node above a level: the one from before, unless
+// the root was written too.
+fn front_after<M: Monoid>(
+    nodes: &Nodes<M>,
+    root: Root,
+    below: u32,
+    front: usize,
+    probes: &mut Probes,
+) -> usize
+    requires tree { IsTree M.is_value M.empty M.op nodes.now root true true }
+    requires within { below < root.height }
+    requires stays { below + 1 < root.height → IsFront nodes.now root front }
+    ensures front { IsFront nodes.now root result }
+    ensures probes { probes.old ≤ probes.new }
+    ensures looks { probes.new ≤ probes.old + below + 1 }
+{
+    if below + 1 < root.height {
+        return front;
+    }
+    start_of(nodes, root, probes)
 }

@@ -1,4 +1,5 @@
 ghost use Rattle.std.specs.Prelude.{◌≡◌, ◌≤◌, ◌<◌, ◌+◌, ◌*◌, ◌-◌, ◌^◌};
+ghost use Rattle.fiba_arena.specs.Stores.{full_nodes};
 ghost use Rattle.fiba_arena.specs.Changes.{growth};
 ghost use Rattle.fiba_finger.specs.Climbs.{CanRaise, IsRaised};
 
@@ -25,9 +26,12 @@ pub fn raise<M: Monoid, L>(
     ensures raised { IsRaised M.is_value M.empty M.op nodes.old nodes.new root result.root
         result.top.at result.top.below change }
     ensures splits { result.splits ≤ root.height }
+    ensures top { result.top.below ≤ from.below + result.splits }
     ensures taken { nodes.new.spare + (result.splits + (result.root.height - root.height))
         ≡ nodes.old.spare }
+    ensures full { full_nodes nodes.new + result.splits ≤ full_nodes nodes.old + 1 }
     ensures probes { probes.old ≤ probes.new }
+    ensures looks { probes.new ≤ probes.old + 16 + 12 * (from.below + result.splits) }
     ensures cost { steps.new ≤ steps.old + 8 * from.below + 8 + 11 * result.splits }
 {
     let spare = nodes.spare();

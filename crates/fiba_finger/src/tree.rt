@@ -1,27 +1,30 @@
-ghost use Rattle.std.specs.Prelude.{◌≡◌, ◌≤◌, ◌<◌, ◌+◌, ◌-◌, ◌*◌, ◌^◌, ◌↔◌, [], length, None, IsTrue, false};
+ghost use Rattle.std.specs.Prelude.{◌≡◌, ◌≤◌, ◌<◌, ◌+◌, ◌-◌, ◌*◌, ◌^◌, ◌↔◌, [], length, None, IsTrue, OnOk, false};
 ghost use Rattle.agg_laws.specs.Laws.{total};
-ghost use Rattle.agg_laws.specs.Pairs.{AreRising, has_key, inserted, replaced, within, values_of, value_at, without};
+ghost use Rattle.agg_laws.specs.Pairs.{AreRising, has_key, inserted, least_key, replaced, within, values_of, value_at, without};
 ghost use Rattle.fiba_finger.specs.Climbs.{distance};
 
 use crate::edge::right_place;
 use crate::grown::Grown;
-use crate::put::{end_of, put_near};
+use crate::put::{end_of, put_near, start_of};
 use agg_laws::{AggTree, Monoid, Probes, Steps};
-use fiba_arena::{Bound, Change, Item, Nodes, Root, change_root, first_item, fold_span};
+use fiba_arena::{Bound, Change, Item, Nodes, Root, change_root, fold_span};
 use std::alloc::Global;
 use std::marker::Model;
 use stream_base::NoMemory;
 
-/// A tree of partial aggregates with a finger at its last leaf.
+/// A tree of partial aggregates with a finger at its first leaf and one at its last.
 ///
 /// Its reach is its height. `insert_near` works from the finger, so what it does grows with the
 /// logarithm of the distance from the end and with the nodes that it splits. Contracts see its
-/// pairs, for how many more there is room, its height, and how many nodes it has: each split makes
-/// one more, and so does each level of height.
+/// pairs, for how many more there is room, its height, how many nodes it has, and how many nodes of
+/// its arena are full, with three items. Each split makes one more node, and so does each level of
+/// height. A split takes a full node away, an insertion makes one at most, and no other call makes
+/// any: so the splits of a run are at most its insertions.
 #[derive(Drop)]
 pub struct FingerTree<M: Monoid> {
     nodes: Nodes<M>,
     root: Root,
+    front: usize,
     finger: usize,
     count: u64,
     limit: u64,
@@ -30,6 +33,7 @@ pub struct FingerTree<M: Monoid> {
 impl<M: Monoid> Model for FingerTree<M> {
     ghost use Rattle.std.specs.Prelude.{◌-◌};
     ghost use Rattle.fiba_arena.specs.Arena.{pairs_in};
+    ghost use Rattle.fiba_arena.specs.Stores.{full_nodes};
     ghost use Rattle.fiba_finger.specs.Fingers.{Fingers, IsFingered, nodes_in};
 
     ghost Value = { Fingers M };
@@ -39,16 +43,17 @@ impl<M: Monoid> Model for FingerTree<M> {
       spare = t.limit - t.count;
       height = t.root.height;
       nodes = nodes_in t.nodes t.root;
+      full = full_nodes t.nodes;
     } };
 
     ghost invariant = { λ t. IsFingered M.is_value M.empty M.op t.nodes t.root
-        t.count t.limit t.finger };
+        t.count t.limit t.front t.finger };
 }
 
 impl<M: Monoid> FingerTree<M> {
     /// Puts a value under a key that isn't there, and answers how many nodes it split and how many
     /// levels it climbed from the last leaf: at most the logarithm of how many pairs have a greater
-    /// key. Uses one spare.
+    /// key. Each split is paid for by a full node. Uses one spare.
     pub fn insert_near<L>(
         &mut self,
         key: u64,
@@ -68,13 +73,24 @@ impl<M: Monoid> FingerTree<M> {
         ensures splits { result.splits ≤ self.old.height }
         ensures split { self.new.nodes ≡ self.old.nodes + result.splits
             + (self.new.height - self.old.height) }
+        ensures full { self.new.full + result.splits ≤ self.old.full + 1 }
         ensures probes { probes.old ≤ probes.new }
+        ensures looks { probes.new ≤ probes.old + 32 * (result.climbs + result.splits + 2) }
         ensures cost { steps.new ≤ steps.old + 8 + 32 * (result.climbs + result.splits) }
     {
         value.vouch();
         let item = Item { key, value };
-        let put = put_near(&mut self.nodes, self.root, self.finger, item, probes, steps);
+        let put = put_near(
+            &mut self.nodes,
+            self.root,
+            self.front,
+            self.finger,
+            item,
+            probes,
+            steps,
+        );
         self.root = put.root;
+        self.front = put.front;
         self.finger = put.finger;
         self.count += 1;
         put.grown
@@ -90,17 +106,32 @@ impl<M: Monoid> AggTree<M> for FingerTree<M> {
 
     ghost bounded = { λ reach count. 2 ^ reach ≤ count + 1 };
 
-    fn fresh(alloc: Global) -> FingerTree<M> {
+    /// An empty tree.
+    fn fresh(alloc: Global) -> FingerTree<M>
+        ensures empty { result.pairs ≡ [] }
+        ensures reach { result.height ≡ 0 }
+        ensures full { result.full ≡ 0 }
+    {
         FingerTree {
             nodes: Nodes::new(alloc),
             root: Root { at: 0, height: 0 },
+            front: 0,
             finger: 0,
             count: 0,
             limit: 0,
         }
     }
 
-    fn reserve(&mut self, room: u64) -> Result<(), NoMemory> {
+    /// Makes room for `room` more pairs.
+    fn reserve(&mut self, room: u64) -> Result<(), NoMemory>
+        ensures room { OnOk result (room ≤ self.new.spare) }
+        ensures spare { self.old.spare ≤ self.new.spare }
+        ensures kept { self.new.pairs ≡ self.old.pairs }
+        ensures rising { AreRising self.new.pairs }
+        ensures bounded { 2 ^ self.new.height ≤ length self.new.pairs + 1 }
+        ensures reach { self.new.height ≡ self.old.height }
+        ensures full { self.new.full ≡ self.old.full }
+    {
         let Some(limit) = self.count.checked_add(room) else {
             return Err(NoMemory);
         };
@@ -121,6 +152,7 @@ impl<M: Monoid> AggTree<M> for FingerTree<M> {
         ensures bounded { 2 ^ self.new.height ≤ length self.new.pairs + 1 }
         ensures spare { self.new.spare + 1 ≡ self.old.spare }
         ensures reach { self.new.height ≤ self.old.height + 1 }
+        ensures full { self.new.full ≤ self.old.full + 1 }
         ensures probes { probes.old ≤ probes.new }
         ensures cost { steps.new ≤ steps.old + 64 * (self.old.height + 2) }
     {
@@ -135,6 +167,7 @@ impl<M: Monoid> AggTree<M> for FingerTree<M> {
         ensures bounded { 2 ^ self.new.height ≤ length self.new.pairs + 1 }
         ensures spare { self.old.spare ≤ self.new.spare }
         ensures reach { self.new.height ≤ self.old.height }
+        ensures full { self.new.full ≡ self.old.full }
         ensures probes { probes.old ≤ probes.new }
         ensures cost { steps.new ≤ steps.old + 16 * (self.old.height + 2) }
     {
@@ -143,6 +176,7 @@ impl<M: Monoid> AggTree<M> for FingerTree<M> {
         let place = right_place(true);
         let changed = change_root(&mut self.nodes, self.root, place, change, probes, steps);
         self.root = changed.root;
+        self.front = start_of(&self.nodes, self.root, probes);
         self.finger = end_of(&self.nodes, self.root, probes);
     }
 
@@ -156,6 +190,7 @@ impl<M: Monoid> AggTree<M> for FingerTree<M> {
         ensures bounded { 2 ^ self.new.height ≤ length self.new.pairs + 1 }
         ensures spare { self.old.spare ≤ self.new.spare }
         ensures reach { self.new.height ≤ self.old.height }
+        ensures full { self.new.full ≤ self.old.full }
         ensures probes { probes.old ≤ probes.new }
         ensures cost { steps.new ≤ steps.old + 64 * (self.old.height + 2) }
     {
@@ -163,18 +198,24 @@ impl<M: Monoid> AggTree<M> for FingerTree<M> {
         let place = right_place(true);
         let changed = change_root(&mut self.nodes, self.root, place, change, probes, steps);
         self.root = changed.root;
+        self.front = start_of(&self.nodes, self.root, probes);
         self.finger = end_of(&self.nodes, self.root, probes);
         let item = changed.taken?;
         self.count -= 1;
         Some(item.value)
     }
 
-    fn first_key(&self) -> Option<u64> {
+    /// The least key, by one look at the first leaf.
+    fn first_key(&self) -> Option<u64>
+        ensures least { result ≡ least_key self.now.pairs }
+        ensures none { (result ≡ None) ↔ (self.now.pairs ≡ []) }
+        ensures rising { AreRising self.now.pairs }
+    {
         if self.root.height == 0 {
             return None;
         }
-        let place = right_place(true);
-        Some(first_item(&self.nodes, self.root.at, self.root.height - 1, place).key)
+        let mut probes = Probes::new();
+        Some(self.nodes.get(self.front, &mut probes).first.key)
     }
 
     /// The values with `low <= key < high` combined in the order of keys, from the unit. At most

@@ -1,6 +1,9 @@
 -- A root without items gives way to its only child; one that was split has two nodes, and room for a third.
-use Rattle.std.proofs.Common.{arith}
+use Rattle.std.proofs.Common.{◌≡◌, length, ap, arith, inl, inr}
+use Rattle.std.proofs.lemmas.Bool.{cases_lt}
 use Rattle.fiba_arena.specs.Rows.{listed}
+use Rattle.fiba_arena.specs.Stores.{fullness}
+use Rattle.fiba_arena.proofs.Fullness.{full_puts}
 use Rattle.fiba_arena.proofs.Planting.{planted_kid}
 use Rattle.fiba_arena.proofs.rooting.plant.Goals as goal
 
@@ -10,4 +13,15 @@ returns-then-len-eq0-clause-planted g c =
 
 pub create-requires-clause-room : goal.create-requires-clause-room
 create-requires-clause-room g c =
-    omega (arith, c.close-closed.ensures.closed.few, c.close-closed.ensures.closed.sizes, c.close-closed.ensures.closed.room, c.len-2.ensures.len, c.requires.room)
+    let k = c.close-closed.ensures in
+    elim (cases_lt 3 (length (listed c.args.open.now.slots))) [
+      | inl more ↦ let n = k.split more in omega (arith, n, k.spare, c.requires.room)
+      | inr le ↦ let n = k.whole le in absurd (c.if-len-eq0-2.false (omega (arith, n, c.len-2.ensures.len)))
+    ]
+
+pub returns-then-len-eq0-clause-full : goal.returns-then-len-eq0-clause-full
+returns-then-len-eq0-clause-full g c =
+    let freed = full_puts c.args.nodes.now c.free.new.self c.args.at _ c.free.ensures.freed in
+    let empty : length (listed c.args.open.now.slots) ≡ 0 = omega (arith, c.len.ensures.len, c.if-len-eq0.true) in
+    let none : fullness (length (listed c.args.open.now.slots)) ≡ 0 = ap fullness empty in
+    omega arith

@@ -4,6 +4,7 @@ use Rattle.fiba_arena.specs.Rows.{listed, slots_of, last_of}
 use Rattle.fiba_arena.specs.Stores.{Puts, look}
 use Rattle.fiba_arena.specs.Kids.{kid_of, left_of}
 use Rattle.fiba_arena.proofs.Opened.{is_there}
+use Rattle.fiba_arena.proofs.Fullness.{full_puts}
 use Rattle.fiba_arena.proofs.Nesting.{previous_there, filled_previous, row_previous}
 use Rattle.fiba_arena.proofs.settling.with_previous.Goals as goal
 
@@ -27,3 +28,10 @@ returns-clause-filled g c =
     let filled = filled_previous m.is_value m.empty m.op c.args.nodes.now c.args.height c.args.place.left c.args.place.right slots nest.row.last nest.at at child nest.child.last c.get-item.result (omega arith) c.requires.nested c.get-item.ensures c.requires.empty c.free.new.self c.get-node.result found freed c.free.ensures.spare in
     let row : listed c.joined.result ≡ slots_of c.get-node.result ++ record { kid = last_of c.get-node.result; item = c.get-item.result.item } ∷ child = row_previous (listed c.joined.result) (listed c.pushed-front.result) (listed c.slots.result) (slots_of c.get-node.result) child c.last-kid.result (last_of c.get-node.result) c.get-item.result.item c.joined.ensures c.pushed-front.ensures c.slots.ensures.slots c.last-kid.ensures in
     rw (c.thinned.ensures.slots, c.thinned.ensures.last, row) filled
+
+pub returns-clause-full : goal.returns-clause-full
+returns-clause-full g c =
+    let nest = c.args.nest.now in
+    let freed = subst (λ q. Puts c.args.nodes.now c.free.new.self q _) c.kid-2.ensures c.free.ensures.freed in
+    let gone = full_puts c.args.nodes.now c.free.new.self (kid_of (listed nest.row.slots) nest.row.last nest.at) _ freed in
+    omega arith

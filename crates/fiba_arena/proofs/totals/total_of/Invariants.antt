@@ -7,4 +7,4 @@ use Rattle.fiba_arena.proofs.totals.total_of.Given as goal
 
 abbrev pub invariant-loop-i : goal.invariant-loop-i
 invariant-loop-i g l =
-    IsSummed g.M.Monoid.is_value g.M.Monoid.empty g.M.Monoid.op (plain l.nodes) l.height l.place.left l.place.right (listed l.slots) l.last l.left (drop l.i (listed l.slots)) l.sum × (l.fn.probes ≤ l.probes) × (l.steps ≤ l.fn.steps + 2 * l.i)
+    IsSummed g.M.Monoid.is_value g.M.Monoid.empty g.M.Monoid.op (plain l.nodes) l.height l.place.left l.place.right (listed l.slots) l.last l.left (drop l.i (listed l.slots)) l.sum × (l.fn.probes ≤ l.probes) × (l.probes ≤ l.fn.probes + l.i) × (l.steps ≤ l.fn.steps + 2 * l.i)

@@ -10,7 +10,7 @@ adopt-requires g c =
 
 pub loop-i-preserved : goal.loop-i-preserved
 loop-i-preserved g c =
-    (adopting_more c.args.nodes.now c.loop-i.nodes c.adopt.new.nodes (listed c.args.open.now.slots) c.args.open.now.last c.args.at c.loop-i.i c.get.result c.get.ensures c.loop-i.invariant.0 c.adopt.ensures.adopted, omega arith)
+    (adopting_more c.args.nodes.now c.loop-i.nodes c.adopt.new.nodes (listed c.args.open.now.slots) c.args.open.now.last c.args.at c.loop-i.i c.get.result c.get.ensures c.loop-i.invariant.0 c.adopt.ensures.adopted, omega arith, omega arith)
 
 pub adopt-requires-2 : goal.adopt-requires-2
 adopt-requires-2 g c =

@@ -1,5 +1,5 @@
--- Four items are two, one and one: the last one is a node of its own, and the first two stay.
-use Rattle.std.proofs.Common.{◌≡◌, ◌≤◌, ◌++◌, ◌∷◌, length, subst, arith}
+-- The last item is a node of its own, the one before it goes up, and the others stay.
+use Rattle.std.proofs.Common.{◌≡◌, ◌-◌, ◌++◌, ◌∷◌, subst}
 use Rattle.fiba_arena.specs.Rows.{listed}
 use Rattle.fiba_arena.specs.Trees.{IsOpened}
 use Rattle.fiba_arena.proofs.Lists.{parts_of}
@@ -13,7 +13,7 @@ create-last-requires-clause-loose g c =
     let xs = listed c.first.result in
     let s = c.get-middle.result in
     let ys = listed c.rest.result in
-    let parts : slots ≡ xs ++ s ∷ ys = parts_of slots xs 2 s ys c.get-middle.ensures c.first.ensures c.rest.ensures in
+    let parts : slots ≡ xs ++ s ∷ ys = parts_of slots xs (c.len-cut.result - 2) s ys c.get-middle.ensures c.first.ensures c.rest.ensures in
     let opened : IsOpened m.is_value m.empty m.op c.args.nodes.now c.args.at c.args.height c.args.place.left c.args.place.right (xs ++ s ∷ ys) c.args.open.now.last = subst (λ l. IsOpened m.is_value m.empty m.op c.args.nodes.now c.args.at c.args.height c.args.place.left c.args.place.right l c.args.open.now.last) parts c.requires.opened in
     rw c.back.ensures (back_loose m.is_value m.empty m.op c.args.nodes.now c.args.at c.args.height c.args.place.left c.args.place.right xs s ys c.args.open.now.last opened)
 
@@ -24,7 +24,7 @@ write-requires-2-clause-opened g c =
     let xs = listed c.first.result in
     let s = c.get-middle.result in
     let ys = listed c.rest.result in
-    let parts : slots ≡ xs ++ s ∷ ys = parts_of slots xs 2 s ys c.get-middle.ensures c.first.ensures c.rest.ensures in
+    let parts : slots ≡ xs ++ s ∷ ys = parts_of slots xs (c.len-cut.result - 2) s ys c.get-middle.ensures c.first.ensures c.rest.ensures in
     let opened : IsOpened m.is_value m.empty m.op c.args.nodes.now c.args.at c.args.height c.args.place.left c.args.place.right (xs ++ s ∷ ys) c.args.open.now.last = subst (λ l. IsOpened m.is_value m.empty m.op c.args.nodes.now c.args.at c.args.height c.args.place.left c.args.place.right l c.args.open.now.last) parts c.requires.opened in
     rw c.front.ensures (front_opened m.is_value m.empty m.op c.args.nodes.now c.args.at c.args.height c.args.place.left c.args.place.right xs s ys c.args.open.now.last opened c.create-last.new.nodes c.create-last.result c.create-last.ensures.moves)
 
@@ -35,8 +35,8 @@ returns-clause-closed g c =
     let xs = listed c.first.result in
     let s = c.get-middle.result in
     let ys = listed c.rest.result in
-    let parts : slots ≡ xs ++ s ∷ ys = parts_of slots xs 2 s ys c.get-middle.ensures c.first.ensures c.rest.ensures in
+    let parts : slots ≡ xs ++ s ∷ ys = parts_of slots xs (c.len-cut.result - 2) s ys c.get-middle.ensures c.first.ensures c.rest.ensures in
     let opened : IsOpened m.is_value m.empty m.op c.args.nodes.now c.args.at c.args.height c.args.place.left c.args.place.right (xs ++ s ∷ ys) c.args.open.now.last = subst (λ l. IsOpened m.is_value m.empty m.op c.args.nodes.now c.args.at c.args.height c.args.place.left c.args.place.right l c.args.open.now.last) parts c.requires.opened in
     let back = rw c.back.ensures at c.create-last.ensures.written in
     let front = rw c.front.ensures at c.write-2.ensures.written in
-    rw parts (closed_in_two m.is_value m.empty m.op c.args.nodes.now c.args.at c.args.height c.args.place.left c.args.place.right xs s ys c.args.open.now.last opened c.create-last.new.nodes c.create-last.result c.create-last.ensures.moves c.write-2.new.nodes back front c.write-2.ensures.moves c.create-last.ensures.spare c.write-2.ensures.spare (subst (λ l. 4 ≤ length l) parts (omega (arith, c.len.ensures.len))))
+    rw parts (closed_in_two m.is_value m.empty m.op c.args.nodes.now c.args.at c.args.height c.args.place.left c.args.place.right xs s ys c.args.open.now.last opened c.create-last.new.nodes c.create-last.result c.create-last.ensures.moves c.write-2.new.nodes back front c.write-2.ensures.moves c.create-last.ensures.spare c.write-2.ensures.spare)

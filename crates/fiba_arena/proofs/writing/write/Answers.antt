@@ -1,7 +1,8 @@
 -- The children were adopted, and then the node is put over them.
-use Rattle.std.proofs.Common.{Some, arith, refl}
+use Rattle.std.proofs.Common.{Some, arith, ap, refl}
 use Rattle.fiba_arena.specs.Rows.{listed}
 use Rattle.fiba_arena.specs.Trees.{plain}
+use Rattle.fiba_arena.proofs.Fullness.{full_written}
 use Rattle.fiba_arena.proofs.Links.{kids_linked, node_moves, node_written}
 use Rattle.fiba_arena.proofs.writing.write.Goals as goal
 
@@ -16,3 +17,7 @@ returns-clause-written g c =
 pub returns-clause-moves : goal.returns-clause-moves
 returns-clause-moves g c =
     node_moves g.M.Monoid.is_value g.M.Monoid.empty g.M.Monoid.op c.args.nodes.now c.adopt_all.new.nodes c.set.new.self c.args.at c.args.height c.args.place.left c.args.place.right (listed c.args.open.now.slots) c.args.open.now.last c.made.result (returns-clause-written g c) c.adopt_all.ensures.adopted c.set.ensures.put
+
+pub returns-clause-full : goal.returns-clause-full
+returns-clause-full g c =
+    full_written c.args.nodes.now c.adopt_all.new.nodes c.set.new.self c.args.at c.made.result (listed c.args.open.now.slots) c.adopt_all.ensures.adopted.same c.set.ensures.put (ap (λ p. p.slots) c.made.ensures.plain)

@@ -1,7 +1,7 @@
 -- The node that was written last stands on the edge, which goes on below it to the finger.
-use Rattle.std.proofs.Common.{◌-◌, suc, true, sym, ap, subst, ◌∙◌, arith}
+use Rattle.std.proofs.Common.{◌≡◌, ◌-◌, suc, true, sym, ap, subst, ◌∙◌, arith}
 use Rattle.fiba_arena.specs.Trees.{IsAt, plain}
-use Rattle.fiba_finger.specs.Edges.{edge}
+use Rattle.fiba_finger.specs.Edges.{edge, left_edge}
 use Rattle.fiba_finger.proofs.Edges.{edge_parts, edge_sound, left_at}
 use Rattle.fiba_finger.proofs.Raising.{left_is}
 use Rattle.fiba_finger.proofs.Sprouting.{sprout_taken}
@@ -33,3 +33,11 @@ returns-then-root-eq0-clause-taken g c =
     let m = g.M.Monoid in
     let changed = rw (c.right_place-place.ensures.left, c.right_place-place.ensures.right) at c.change_root.ensures.changed in
     sprout_taken m.is_value m.empty m.op c.args.nodes.now c.change_root.new.nodes c.args.root c.change_root.result.root c.args.item c.change_root.result.taken c.if-root-eq0.true changed
+
+pub front_after-requires-clause-stays : goal.front_after-requires-clause-stays
+front_after-requires-clause-stays g c lt b e =
+    let r = c.raise-raised.ensures.raised in
+    let q = r.front lt in
+    let high : c.args.root.height ≡ suc (c.args.root.height - 1) = omega arith in
+    let low : c.raise-raised.result.root.height - 1 ≡ b = omega (arith, e) in
+    c.requires.front (c.args.root.height - 1) high ∙ sym q.1 ∙ ap (λ n. left_edge (plain c.raise-raised.new.nodes) n c.raise-raised.result.root.at) low

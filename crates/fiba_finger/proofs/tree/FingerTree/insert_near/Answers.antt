@@ -12,6 +12,7 @@ invariant_of-self g c =
     let put = c.put_near-put.ensures.put in
     record {
       arena = (arena_inserted m.is_value m.empty m.op true true c.self.inside.nodes c.put_near-put.new.nodes c.self.inside.root c.put_near-put.result.root c.self.inside.count c.self.inside.limit c.self.invariant.arena (omega (arith, c.self.ranges)) (record { key = c.args.key; value = c.args.value }) put.taken (ap (has_key c.args.key) view ∙ c.requires.absent) (omega (arith, spare, c.requires.room)) put.changed).0;
+      first = c.put_near-put.ensures.front;
       last = c.put_near-put.ensures.finger;
     }
 

@@ -12,7 +12,7 @@ invariant_of-self g c =
     let changed = rw (c.right_place-place.ensures.left, c.right_place-place.ensures.right) at c.change_root-changed.ensures.changed in
     let none : c.change_root-changed.result.taken ≡ None = search rules in
     let zero : length (pairs_of c.change_root-changed.result.taken) ≡ 0 = ap (λ o. length (pairs_of o)) none in
-    record { arena = arena_removed m.is_value m.empty m.op true true c.self.inside.nodes c.change_root-changed.new.nodes c.self.inside.root c.change_root-changed.result.root c.self.inside.count c.self.inside.limit c.self.invariant.arena (omega (arith, c.self.ranges)) c.args.key c.change_root-changed.result.taken c.self.inside.count (omega (arith, zero)) changed; last = c.end_of-self-inside.ensures.finger }
+    record { arena = arena_removed m.is_value m.empty m.op true true c.self.inside.nodes c.change_root-changed.new.nodes c.self.inside.root c.change_root-changed.result.root c.self.inside.count c.self.inside.limit c.self.invariant.arena (omega (arith, c.self.ranges)) c.args.key c.change_root-changed.result.taken c.self.inside.count (omega (arith, zero)) changed; first = c.start_of-self-inside.ensures.front; last = c.end_of-self-inside.ensures.finger }
 
 pub returns-in_err-item-clause-bounded : goal.returns-in_err-item-clause-bounded
 returns-in_err-item-clause-bounded g c = let a = invariant_of-self g c in a.arena.tall
@@ -24,7 +24,7 @@ invariant_of-self-2 g c =
     let some : c.change_root-changed.result.taken ≡ Some c.in_ok-item.item = search rules in
     let done = removed_of m.is_value m.empty m.op true true c.self.inside.nodes c.change_root-changed.new.nodes c.self.inside.root c.change_root-changed.result.root c.self.inside.count c.self.inside.limit c.self.invariant.arena (omega (arith, c.self.ranges)) c.args.key c.change_root-changed.result.taken changed in
     let one : length (pairs_of c.change_root-changed.result.taken) ≡ 1 = ap (λ o. length (pairs_of o)) some in
-    record { arena = arena_removed m.is_value m.empty m.op true true c.self.inside.nodes c.change_root-changed.new.nodes c.self.inside.root c.change_root-changed.result.root c.self.inside.count c.self.inside.limit c.self.invariant.arena (omega (arith, c.self.ranges)) c.args.key c.change_root-changed.result.taken (c.self.inside.count - 1) (omega (arith, one, done.fewer, c.self.invariant.arena.counted)) changed; last = c.end_of-self-inside.ensures.finger }
+    record { arena = arena_removed m.is_value m.empty m.op true true c.self.inside.nodes c.change_root-changed.new.nodes c.self.inside.root c.change_root-changed.result.root c.self.inside.count c.self.inside.limit c.self.invariant.arena (omega (arith, c.self.ranges)) c.args.key c.change_root-changed.result.taken (c.self.inside.count - 1) (omega (arith, one, done.fewer, c.self.invariant.arena.counted)) changed; first = c.start_of-self-inside.ensures.front; last = c.end_of-self-inside.ensures.finger }
 
 pub returns-in_err-item-clause-value : goal.returns-in_err-item-clause-value
 returns-in_err-item-clause-value g c =

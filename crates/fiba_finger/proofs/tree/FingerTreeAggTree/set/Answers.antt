@@ -9,7 +9,7 @@ invariant_of-self g c =
     let m = g.M.Monoid in
     let view = ap (λ v. v.pairs) c.self.view_is in
     let changed = rw (c.right_place-place.ensures.left, c.right_place-place.ensures.right) at c.change_root-changed.ensures.changed in
-    record { arena = (arena_replaced m.is_value m.empty m.op true true c.self.inside.nodes c.change_root-changed.new.nodes c.self.inside.root c.change_root-changed.result.root c.self.inside.count c.self.inside.limit c.self.invariant.arena (omega (arith, c.self.ranges)) (record { key = c.args.key; value = c.args.value }) c.change_root-changed.result.taken (ap (has_key c.args.key) view ∙ c.requires) changed).0; last = c.end_of-self-inside.ensures.finger }
+    record { arena = (arena_replaced m.is_value m.empty m.op true true c.self.inside.nodes c.change_root-changed.new.nodes c.self.inside.root c.change_root-changed.result.root c.self.inside.count c.self.inside.limit c.self.invariant.arena (omega (arith, c.self.ranges)) (record { key = c.args.key; value = c.args.value }) c.change_root-changed.result.taken (ap (has_key c.args.key) view ∙ c.requires) changed).0; first = c.start_of-self-inside.ensures.front; last = c.end_of-self-inside.ensures.finger }
 
 pub returns-clause-replaced : goal.returns-clause-replaced
 returns-clause-replaced g c =
