@@ -16,3 +16,5 @@ mod entries;
 mod in_step;
 #[cfg(test)]
 mod kinds;
+#[cfg(test)]
+mod settled;

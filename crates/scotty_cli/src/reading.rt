@@ -55,7 +55,8 @@ fn drain_all<S: Source>(
     ensures many { length feeds.new.items ≡ length feeds.old.items }
     ensures whole { IfOk result (λ all. length all.items ≡ length feeds.old.items) }
     ensures drained { IfOk result (λ all. AreDrained S.rest feeds.old.items (lists_of all.items)) }
-    ensures trouble { IfErr result (IsFirstTrouble S.rest S.faults feeds.old.items feeds.new.items) }
+    ensures trouble { IfErr result
+        (IsFirstTrouble S.rest S.faults feeds.old.items feeds.new.items) }
 {
     let mut all = Vec::new(alloc);
     for i in 0..feeds.len() {

@@ -10,8 +10,11 @@ use stream_base::{Gate, MemFile, MemFiles};
 
 const LOOKS: u64 = 50_000_000;
 
+const FEW_LOOKS: u64 = 5_000_000;
+
 // How often each of these has passed: source 0 and 1 before an offer, and within a turn of shard 0
-// and 1; and how many holds were left by the limit of looks.
+// and 1; and how often something went wrong: a hold that was left by the limit of looks, a turn that
+// came too early, a number that nobody has.
 #[derive(Drop)]
 struct Passes {
     of_first: AtomicU64,
@@ -33,14 +36,48 @@ impl Passes {
     }
 
     // Looks until the counter shows so many.
-    fn hold(&self, counter: &AtomicU64, many: u64) {
+    fn hold(&self, counter: &AtomicU64, wanted: u64) {
         for _ in 0..LOOKS {
-            if counter.load(Ordering::SeqCst) >= many {
+            if counter.load(Ordering::SeqCst) >= wanted {
                 return;
             }
         }
         self.left.fetch_add(1, Ordering::SeqCst);
     }
+
+    // How many turns have begun.
+    fn turns(&self) -> u64 {
+        many(&self.at_first).saturating_add(many(&self.at_second))
+    }
+
+    // A source passes, and is counted as it leaves. The first time it lingers until a turn begins, so
+    // that one whose source passes behind it finds it uncounted.
+    fn count_offer(&self, counter: &AtomicU64) {
+        if many(counter) == 0 {
+            for _ in 0..FEW_LOOKS {
+                if self.turns() > 0 {
+                    break;
+                }
+            }
+        }
+        count(counter);
+    }
+
+    // A turn passes. For it, and for each that began before it, a source has passed by then. It is
+    // counted last, so that a source that lingers until then isn't counted yet.
+    fn count_turn(&self, counter: &AtomicU64) {
+        let turns = self.turns().saturating_add(1);
+        let offers = many(&self.of_first).saturating_add(many(&self.of_second));
+        if offers < turns {
+            count(&self.left);
+        }
+        count(counter);
+    }
+}
+
+// How often it has passed.
+fn many(counter: &AtomicU64) -> u64 {
+    counter.load(Ordering::SeqCst)
 }
 
 // One more has passed; answers how many had before.
@@ -98,6 +135,27 @@ impl Gate for ShardsMeet {
                 }
             }
             _ => {}
+        }
+    }
+}
+
+// Counts, and notes each turn that has begun before its entry's source has passed.
+#[derive(Drop)]
+struct Counts {
+    passes: Passes,
+}
+
+impl Gate for Counts {
+    fn pass(&self, source: u16) {
+        let passes = &self.passes;
+        match source {
+            0 => passes.count_offer(&passes.of_first),
+            1 => passes.count_offer(&passes.of_second),
+            16 => passes.count_turn(&passes.at_first),
+            17 => passes.count_turn(&passes.at_second),
+            _ => {
+                count(&passes.left);
+            }
         }
     }
 }
@@ -170,4 +228,32 @@ fn entries_are_applied_to_two_shards_while_sources_are_read(rt: HostRuntime) -> 
 #[test]
 fn mail_is_applied_to_two_shards_while_sources_are_read(rt: HostRuntime) -> Result<(), Fail> {
     applies_while_reading(&rt, "mail")
+}
+
+// The tuple of each source goes to the second shard, and its water and its end to both.
+fn passes_once_an_offer_and_once_a_turn<R: Abort + AllocGlobal + Threads + Wait + Sync>(
+    rt: &R,
+    way: &str,
+) -> Result<(), Fail> {
+    let gate = Counts {
+        passes: Passes::new(),
+    };
+    let rows = "t,1,5,a\nw,10\n";
+    ends_well(rt, "2", way, [rows, rows], &gate)?;
+    assert_eq!(rt; many(&gate.passes.of_first), 5);
+    assert_eq!(rt; many(&gate.passes.of_second), 5);
+    assert_eq!(rt; many(&gate.passes.at_first), 4);
+    assert_eq!(rt; many(&gate.passes.at_second), 6);
+    assert_eq!(rt; many(&gate.passes.left), 0);
+    Ok(())
+}
+
+#[test]
+fn the_gate_is_passed_before_each_offer_and_in_each_turn(rt: HostRuntime) -> Result<(), Fail> {
+    passes_once_an_offer_and_once_a_turn(&rt, "turns")
+}
+
+#[test]
+fn the_gate_is_passed_before_each_letter_and_each_entry_of_it(rt: HostRuntime) -> Result<(), Fail> {
+    passes_once_an_offer_and_once_a_turn(&rt, "mail")
 }
