@@ -61,7 +61,9 @@ impl<M: Monoid> Model for Daba<M> {
 
     ghost view = { λ q. record { items = q.cells.values; spare = q.cells.spare } };
 
-    ghost invariant = { λ q. KeepsTotals M.is_value M.empty M.op q.cells.values q.cells.aggregates q.bounds × IsBalanced q.bounds (length q.cells.values) };
+    ghost invariant = { λ q.
+        KeepsTotals M.is_value M.empty M.op q.cells.values q.cells.aggregates q.bounds
+        × IsBalanced q.bounds (length q.cells.values) };
 }
 
 impl<M: Monoid> AggQueue<M> for Daba<M> {

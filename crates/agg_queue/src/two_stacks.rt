@@ -53,7 +53,8 @@ impl<M: Monoid> Model for TwoStacks<M> {
       credit = length q.cells.values - q.front;
     } };
 
-    ghost invariant = { λ q. AreStacked M.is_value M.empty M.op q.cells.values q.cells.aggregates q.front q.back };
+    ghost invariant = { λ q. AreStacked M.is_value M.empty M.op
+        q.cells.values q.cells.aggregates q.front q.back };
 }
 
 impl<M: Monoid> AggQueue<M> for TwoStacks<M> {

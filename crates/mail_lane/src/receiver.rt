@@ -16,7 +16,14 @@ impl<M> Model for Receiver<M> {
 
     ghost Value = { ReceiverState M };
 
-    ghost view = { λ r. record { lane = record { web = r.pass.web; heap = r.pass.heap }; senders = senders_of r.pass.me.view.client; taken = taken_of r.pass.me.view.client; back = collected_of r.pass.me.view.client } };
+    ghost view = { λ r. record {
+      lane = record { web = r.pass.web; heap = r.pass.heap };
+      senders = senders_of r.pass.me.view.client;
+      taken = taken_of r.pass.me.view.client;
+      back = collected_of r.pass.me.view.client;
+    } };
 
-    ghost invariant = { λ r. (r.pass.me.hand ≡ None) × (r.pass.me.spare ≡ None) × (r.pass.me.view.client ≡ Receiving (senders_of r.pass.me.view.client) (taken_of r.pass.me.view.client) (collected_of r.pass.me.view.client)) };
+    ghost invariant = { λ r. (r.pass.me.hand ≡ None) × (r.pass.me.spare ≡ None)
+        × (r.pass.me.view.client ≡ Receiving (senders_of r.pass.me.view.client)
+        (taken_of r.pass.me.view.client) (collected_of r.pass.me.view.client)) };
 }

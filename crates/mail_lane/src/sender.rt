@@ -16,7 +16,12 @@ impl<M> Model for Sender<M> {
 
     ghost Value = { SenderState M };
 
-    ghost view = { λ s. record { lane = record { web = s.pass.web; heap = s.pass.heap }; number = s.number; sent = sent_of s.pass.me.view.client } };
+    ghost view = { λ s. record {
+      lane = record { web = s.pass.web; heap = s.pass.heap };
+      number = s.number;
+      sent = sent_of s.pass.me.view.client;
+    } };
 
-    ghost invariant = { λ s. (s.pass.me.hand ≡ None) × (s.pass.me.spare ≡ None) × (s.pass.me.view.client ≡ Sending s.number (sent_of s.pass.me.view.client)) };
+    ghost invariant = { λ s. (s.pass.me.hand ≡ None) × (s.pass.me.spare ≡ None)
+        × (s.pass.me.view.client ≡ Sending s.number (sent_of s.pass.me.view.client)) };
 }

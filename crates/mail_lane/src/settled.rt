@@ -19,7 +19,10 @@ impl<M> Model for Settled<M> {
 
     ghost Value = { SettledState M };
 
-    ghost view = { λ s. record { taken = taken_of s.pass.me.view.client; sent = collected_of s.pass.me.view.client } };
+    ghost view = { λ s. record {
+      taken = taken_of s.pass.me.view.client;
+      sent = collected_of s.pass.me.view.client;
+    } };
 
     ghost invariant = { λ s. IsSegPassOf s.line.queue s.pass × IsSettled s.pass.me.view.client };
 }

@@ -43,7 +43,8 @@ pub trait Files {
     fn give_back(&mut self, source: Self::Input)
         requires { 1 ≤ out self.old }
         ensures one_less { out self.new + 1 ≡ out self.old }
-        ensures planned { (names : List (List ℕ)) → may_open self.old names → may_open self.new names }
+        ensures planned { (names : List (List ℕ)) → may_open self.old names
+            → may_open self.new names }
         ensures opens { failed_opens self.new ≡ failed_opens self.old }
         ensures failed { 0 < Self.Input.faults source
             → Rose (failed_reads self.old) (failed_reads self.new) }
