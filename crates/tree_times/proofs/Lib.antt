@@ -1,1 +1,3 @@
+mod Keys
+mod Lates
 pub mod Ranks

@@ -1,47 +1,17 @@
 -- The keys that came stand before the next one's place, so no key comes twice.
-use Rattle.std.proofs.Common.{◌≡◌, ◌<◌, ◌+◌, ◌==◌, ◌||◌, ℕ, Bool, true, false, cond, List, [], ◌∷◌, refl, sym, ◌∙◌, arith, inl, inr}
-use Rattle.std.specs.Prelude.{filter, nat_lt, nat_le}
-use Rattle.std.proofs.lemmas.Bool.{cases_eq}
-use Rattle.std.proofs.lemmas.List.Folds.{list_any-append}
-use Rattle.agg_laws.specs.Pairs.{has_key, inserted, pairs_below, pairs_from}
+use Rattle.std.proofs.Common.{◌≡◌, ◌<◌, ◌+◌, ℕ, false, List, arith}
+use Rattle.agg_laws.specs.Pairs.{has_key, inserted}
 use Rattle.tree_times.specs.declared.order.Order.{Order}
 use Rattle.tree_times.specs.Orders.{rank_of}
+use Rattle.tree_times.proofs.Keys.{KeysAre, none_yet, one_more}
 
 -- the keys of these pairs stand before a place
 abbrev pub AreBefore : {M : Type 0} → Order → ℕ → List (ℕ × M) → Type 0
-AreBefore order i pairs = (key : ℕ) → has_key key pairs ≡ true → rank_of order key < i
-
-or_map : (a b c : Bool) → (b ≡ true → c ≡ true) → (a || b) ≡ true → (a || c) ≡ true
-or_map true b c f h = refl
-or_map false b c f h = f h
-
-or_right : (a c : Bool) → c ≡ true → (a || c) ≡ true
-or_right true c h = refl
-or_right false c h = h
-
-or_left : (a b c : Bool) → (a ≡ true → c ≡ true) → (a || b) ≡ true → (b ≡ true → c ≡ true) → c ≡ true
-or_left true b c f h g = f refl
-or_left false b c f h g = g h
+AreBefore order i pairs = KeysAre (λ key. rank_of order key < i) pairs
 
 module _ {M : Type 0} where
-  kept_first : (b : Bool) (key : ℕ) (p : ℕ × M) (some ps : List (ℕ × M)) → (has_key key some ≡ true → has_key key ps ≡ true) → has_key key (cond b (p ∷ some) some) ≡ true → has_key key (p ∷ ps) ≡ true
-  kept_first true key p some ps f h = or_map (p.0 == key) (has_key key some) (has_key key ps) f h
-  kept_first false key p some ps f h = or_right (p.0 == key) (has_key key ps) (f h)
+  pub none_at : (order : Order) (i key : ℕ) (ps : List (ℕ × M)) → AreBefore order i ps → rank_of order key ≡ i → has_key key ps ≡ false
+  none_at order i key ps before e = none_yet (λ k. rank_of order k < i) key ps before (λ lt. omega (arith, lt, e))
 
-  kept_key : (test : ℕ × M → Bool) (key : ℕ) (ps : List (ℕ × M)) → has_key key (filter test ps) ≡ true → has_key key ps ≡ true
-  kept_key test key [] h = h
-  kept_key test key (p ∷ ps) h = kept_first (test p) key p (filter test ps) ps (kept_key test key ps) h
-
-  pub none_yet : (order : Order) (i key : ℕ) (ps : List (ℕ × M)) → AreBefore order i ps → rank_of order key ≡ i → has_key key ps ≡ false
-  none_yet order i key ps before e = elim (has_key key ps) as (λ b. has_key key ps ≡ b → has_key key ps ≡ false) [ true ↦ λ h. let lt = before key h in absurd (omega arith) | false ↦ λ h. h ] refl
-
-  pub one_more : (order : Order) (i key : ℕ) (value : M) (ps : List (ℕ × M)) → AreBefore order i ps → rank_of order key ≡ i → AreBefore order (i + 1) (inserted key value ps)
-  one_more order i key value ps before e k h =
-      elim (cases_eq key k) [
-        | inl same ↦ rw (← same) (omega (arith, e))
-        | inr other ↦
-            let split = sym (list_any-append (λ p. p.0 == k) (pairs_below key ps) ((key, value) ∷ pairs_from key ps)) ∙ h in
-            let had : has_key k ps ≡ true = or_left (has_key k (pairs_below key ps)) (has_key k ((key, value) ∷ pairs_from key ps)) (has_key k ps) (λ b. kept_key (λ p. nat_lt p.0 key) k ps b) split (λ b. or_left (key == k) (has_key k (pairs_from key ps)) (has_key k ps) (λ q. absurd (other (grind arith))) b (λ c. kept_key (λ p. nat_le key p.0) k ps c)) in
-            let lt = before k had in
-            omega arith
-      ]
+  pub next_at : (order : Order) (i key : ℕ) (value : M) (ps : List (ℕ × M)) → AreBefore order i ps → rank_of order key ≡ i → AreBefore order (i + 1) (inserted key value ps)
+  next_at order i key value ps before e = one_more (λ k. rank_of order k < i + 1) key value ps (λ k h. let lt = before k h in omega (arith, lt)) (omega (arith, e))
