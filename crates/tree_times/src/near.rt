@@ -15,7 +15,7 @@ pub struct Near {
 }
 
 impl Near {
-    /// So many keys, where none comes before the first.
+    /// These numbers, with the farthest distance that is there where this one is farther.
     pub fn of(distance: u64, count: u64, late: u64) -> Near
         ensures far { result.distance ≤ result.count }
         ensures count { result.count ≡ count }
@@ -28,8 +28,8 @@ impl Near {
         }
     }
 
-    /// Puts them into an empty tree: even keys in order, and odd ones late. Late ones have a counter
-    /// of their own.
+    /// Puts them into an empty tree: even keys in order, and odd ones late. The combines of the late
+    /// ones are counted apart.
     pub fn fill<T: AggTree<Sum>, L>(
         self,
         tree: &mut T,
