@@ -1,6 +1,6 @@
 //! What the part of one window in the state of a key promises.
-ghost use Rattle.std.specs.Prelude.{◌≡◌, ◌≤◌, ◌<◌, ◌+◌, ◌-◌, ◌*◌, ◌++◌, [], ℕ, List, length, IfOk, OnOk, vec_len, vec_capacity};
-ghost use Rattle.stream_base.specs.declared.limits.TheConstants.{TIME_MAX};
+ghost use Rattle.std.specs.Prelude.{◌≡◌, ◌≢◌, ◌≤◌, ◌<◌, ◌+◌, ◌-◌, ◌*◌, ◌++◌, [], ℕ, List, length, IfOk, OnOk, vec_len, vec_capacity};
+ghost use Rattle.stream_base.specs.declared.limits.TheConstants.{FINAL, TIME_MAX};
 ghost use Rattle.stream_base.specs.Laws.{completions};
 ghost use Rattle.stream_base.specs.Model.Changes.{Moment, emissions, retractions};
 ghost use Rattle.window_laws.specs.After.{at_water, with_mark, with_tuple};
@@ -311,8 +311,8 @@ pub trait KeyPart: Drop {
             + row_work (window_at defs.now window).kind store.now.reach
             * (vec_len out.new - vec_len out.old)) };
 
-    /// A watermark up to which, without it, nothing becomes complete: a move to below it changes
-    /// nothing.
+    /// The first watermark at which something becomes complete: a move to below it changes nothing.
+    /// Later than the final one where nothing is left to become so.
     fn next_due<T: AggTree<Bundle>>(
         &self,
         defs: &Defs,
@@ -323,10 +323,14 @@ pub trait KeyPart: Drop {
         requires stands { (m : Moment) × (n : ℕ)
             × StandsAt stands defs.now window water store.now self.now m n }
         requires water { IsWater water }
-        ensures { (key : List ℕ) (m : Moment) (n new : ℕ)
+        ensures none_before { (key : List ℕ) (m : Moment) (n new : ℕ)
             → StandsAt stands defs.now window water store.now self.now m n
             → water ≤ new → new < result
-            → completions key m new (window, window_at defs.now window) ≡ [] };
+            → completions key m new (window, window_at defs.now window) ≡ [] }
+        ensures some_at { (key : List ℕ) (m : Moment) (n : ℕ)
+            → StandsAt stands defs.now window water store.now self.now m n
+            → result ≤ FINAL → (water < result)
+            × (completions key m result (window, window_at defs.now window) ≢ []) };
 
     /// From which time on tuples aren't settled in the window under a watermark, its own or a later
     /// one; later than any time where all are.

@@ -1,9 +1,9 @@
 //! What an engine for the windows of one key promises.
-ghost use Rattle.std.specs.Prelude.{◌≡◌, ◌≤◌, ◌<◌, ◌+◌, ◌-◌, ◌++◌, [], ℕ, List, length, IfOk, OnErr, vec_len, vec_capacity};
+ghost use Rattle.std.specs.Prelude.{◌≡◌, ◌≢◌, ◌≤◌, ◌<◌, ◌+◌, ◌-◌, ◌++◌, [], ℕ, List, length, IfOk, OnErr, vec_len, vec_capacity};
 ghost use Rattle.std.specs.BTreeSet.{insert_key};
 ghost use Rattle.std.specs.Ordering.{nat_cmp};
 ghost use Rattle.stream_base.specs.declared.kept.Kept.{Kept};
-ghost use Rattle.stream_base.specs.declared.limits.TheConstants.{JOURNAL_MAX, TIME_MAX};
+ghost use Rattle.stream_base.specs.declared.limits.TheConstants.{FINAL, JOURNAL_MAX, TIME_MAX};
 ghost use Rattle.stream_base.specs.Model.Journal.{put_in_order};
 ghost use Rattle.stream_base.specs.Model.Slices.{runs_of, unsettled};
 ghost use Rattle.key_windows.specs.Calls.{IsWater, changes_by_mark, changes_by_move, changes_by_put, kept_at, moment};
@@ -217,15 +217,20 @@ pub trait KeyWindows: Drop {
             + (move_work defs.now (moment kept marks old) (moment kept marks new)
             self.old self.new + catch_up defs.now old self.old) };
 
-    /// A watermark up to which, without it, nothing becomes complete: a move to below it changes nothing.
+    /// The first watermark at which something becomes complete: a move to below it changes nothing.
+    /// Later than the final one where nothing is left to become so.
     fn next_due(&self, defs: &Defs, water: u64) -> u64
         requires stands { (kept : List Kept) × (marks : List ℕ)
             × fits defs.now kept marks water self.now }
         requires water { IsWater water }
-        ensures { (kept : List Kept) (marks : List ℕ) (new : ℕ)
+        ensures none_before { (kept : List Kept) (marks : List ℕ) (new : ℕ)
             → fits defs.now kept marks water self.now
             → water ≤ new → new < result → changes_by_move defs.now
-            (key_of self.now) kept marks water new ≡ [] };
+            (key_of self.now) kept marks water new ≡ [] }
+        ensures some_at { (kept : List Kept) (marks : List ℕ)
+            → fits defs.now kept marks water self.now → result ≤ FINAL
+            → (water < result) × (changes_by_move defs.now
+            (key_of self.now) kept marks water result ≢ []) };
 
     /// How many slices its unsettled tuples have under a watermark, its own or a later one.
     fn slice_count(&self, defs: &Defs, water: u64) -> u64
