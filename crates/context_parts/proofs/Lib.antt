@@ -5,3 +5,4 @@ pub mod Settling
 pub mod SessionSettling
 pub mod Edges
 pub mod OfMarks
+pub mod Dues
