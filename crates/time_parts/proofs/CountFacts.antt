@@ -1,5 +1,5 @@
 -- What a mark changes of a window of event counts, and when its next instance is filled.
-use Rattle.std.proofs.Common.{◌≡◌, ◌∙◌, ℕ, ◌+◌, ◌-◌, ◌*◌, ◌/◌, ◌<◌, ◌≤◌, true, List, [], ◌++◌, ap, sym, refl, subst}
+use Rattle.std.proofs.Common.{◌≡◌, ◌∙◌, ℕ, ◌+◌, ◌-◌, ◌*◌, ◌/◌, ◌<◌, ◌≤◌, true, List, [], ◌++◌, ap, sym, refl}
 use Rattle.std.specs.Prelude.{nat_le, slice_get}
 use Rattle.std.specs.List.{All}
 use Rattle.std.specs.Option.{option_map_or}
@@ -12,10 +12,10 @@ use Rattle.stream_base.specs.declared.kept.Kept.{Kept}
 use Rattle.stream_base.specs.declared.kind.Kind.{Kind}
 use Rattle.stream_base.specs.declared.kind.Kind.TheVariants.{Tumbling, Sliding, Session, Marks, Events}
 use Rattle.stream_base.specs.declared.limits.TheConstants.{FINAL}
-use Rattle.stream_base.specs.Laws.{TimesDoNotFall, completions}
+use Rattle.stream_base.specs.Laws.{TimesDoNotFall}
 use Rattle.stream_base.specs.Model.Changes.{Moment, emissions, retractions}
 use Rattle.stream_base.specs.Model.Slices.{is_events}
-use Rattle.stream_base.specs.Model.Windows.{instances_of, standing_of}
+use Rattle.stream_base.specs.Model.Windows.{Instance, instances_of, standing_of}
 use Rattle.window_laws.specs.After.{with_mark}
 use Rattle.window_laws.specs.Due.{first_open}
 use Rattle.window_laws.specs.Counts as whole
@@ -26,7 +26,8 @@ use Rattle.key_parts.specs.Calls.{window_at}
 use Rattle.key_parts.specs.Work.{change_work, row_work}
 use Rattle.time_parts.specs.Counted.{CountsAt}
 use Rattle.time_parts.specs.Lanes.{kind_at}
-use Rattle.time_parts.proofs.LaneFacts.{none_due, nothing_changes}
+use Rattle.time_parts.proofs.DueFacts.{counts_early}
+use Rattle.time_parts.proofs.LaneFacts.{nothing_changes}
 use Rattle.time_parts.proofs.WindowFacts.{among, passes_at}
 
 -- ---- the window at the place
@@ -87,7 +88,10 @@ next_is_open count w m e some order =
     (sym (one_time_more (upper m.kept m.water / count) count) ∙ ap (λ u. (u / count + 1) * count) same)
     ∙ sym (next_of_counts count w m e some order)
 
-pub none_filled : (window : ℕ) (key : List ℕ) (w : Def) (m : Moment) (kept : List Kept) (water count new end : ℕ) → is_events w.kind ≡ true → IsKindWithin w.kind → TimesDoNotFall m.kept → count ≡ count_of w.kind → kept ≡ m.kept → m.water ≡ water → end ≡ next_filled count kept water → new < end → completions key m new (window, w) ≡ []
-none_filled window key w m kept water count new end t k order counts is at ends below =
-    none_due window key w m new k order
-    (subst (λ e. new < e) (ends ∙ (λ i. next_filled (counts i) (is i) (sym at i)) ∙ next_is_open (count_of w.kind) w m (counts_so_many w.kind t) (some_events w.kind t k) order) below)
+pub filled_is_open : (w : Def) (m : Moment) (kept : List Kept) (water count end : ℕ) → is_events w.kind ≡ true → IsKindWithin w.kind → TimesDoNotFall m.kept → count ≡ count_of w.kind → kept ≡ m.kept → m.water ≡ water → end ≡ next_filled count kept water → end ≡ first_open m w
+filled_is_open w m kept water count end t k order counts is at ends =
+    ends ∙ (λ i. next_filled (counts i) (is i) (sym at i)) ∙ next_is_open (count_of w.kind) w m (counts_so_many w.kind t) (some_events w.kind t k) order
+
+-- each instance is filled before the final time
+pub filled_early : (w : Def) (m : Moment) → is_events w.kind ≡ true → IsKindWithin w.kind → All (λ x. x.time < FINAL) m.kept → All (λ (i : Instance). i.bound < FINAL) (instances_of w.kind m.kept m.marks)
+filled_early w m t k early = counts_early w.kind (count_of w.kind) m.kept m.marks (counts_so_many w.kind t) (some_events w.kind t k) early

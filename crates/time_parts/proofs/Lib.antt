@@ -1,3 +1,4 @@
 pub mod WindowFacts
 pub mod LaneFacts
 pub mod CountFacts
+pub mod DueFacts

@@ -6,6 +6,7 @@ ghost use Rattle.count_shift.specs.Counting.{IsEvents, count_of};
 ghost use Rattle.key_parts.specs.Calls.{window_at};
 ghost use Rattle.time_parts.specs.Counted.{CountsAt};
 
+use crate::ends::end_or_never;
 use agg_laws::{AggTree, Bundle, Steps};
 use count_shift::CountLane;
 use key_parts::KeyPart;
@@ -194,7 +195,7 @@ impl KeyPart for CountPart {
         water: u64,
     ) -> u64 {
         let count = count_of(&window_at(defs, window).kind);
-        self.lane.next_filled(count, water)
+        end_or_never(self.lane.next_filled(count, water))
     }
 
     fn first_unsettled(&self, defs: &Defs, window: u32, water: u64) -> u64 {

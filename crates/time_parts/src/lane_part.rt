@@ -4,6 +4,7 @@ ghost use Rattle.stream_base.specs.declared.limits.TheConstants.{TIME_MAX};
 ghost use Rattle.key_windows.specs.Calls.{IsWater};
 ghost use Rattle.time_parts.specs.Lanes.{IsTimedAt, late_room};
 
+use crate::ends::end_or_never;
 use agg_laws::{AggQueue, AggTree, Bundle, Steps};
 use key_parts::KeyPart;
 use slice_store::SliceStore;
@@ -206,7 +207,7 @@ impl<Q: AggQueue<Bundle> + Drop> KeyPart for LanePart<Q> {
         store: &SliceStore<T>,
         water: u64,
     ) -> u64 {
-        self.lane.next_end(defs, window, store, water)
+        end_or_never(self.lane.next_end(defs, window, store, water))
     }
 
     fn first_unsettled(&self, defs: &Defs, window: u32, water: u64) -> u64 {

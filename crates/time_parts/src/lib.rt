@@ -7,6 +7,7 @@
 #![tactic(auto)]
 
 mod count_part;
+mod ends;
 mod lane_part;
 
 pub use count_part::CountPart;
