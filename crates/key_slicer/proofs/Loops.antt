@@ -1,6 +1,6 @@
 -- The loops over the parts of a key.
 use Rattle.std.proofs.Common.{◌≡◌, ◌∙◌, ◌≤◌, ◌<◌, ◌+◌, ◌*◌, ◌-◌, ℕ, zero, suc, List, [], ◌∷◌, ◌++◌, length, get_or, set, take, drop, ap, sym, refl, subst, arith, inl, inr, ⊎_elim, append_assoc}
-use Rattle.std.specs.Prelude.{◌⊎◌, min, sum_by}
+use Rattle.std.specs.Prelude.{◌≢◌, ◌⊎◌, min, sum_by}
 use Rattle.std.specs.List.{enumerate_from, flat_map}
 use Rattle.std.proofs.lemmas.Bool.{cases_eq, cases_lt}
 use Rattle.std.proofs.lemmas.List.{append-nil, drop_more, get_or_default, get_or-set_other, get_or-set_same, length-append, length-set, take_all, take_more}
@@ -137,6 +137,27 @@ none_more f xs i d l so_far more = given_more f xs i d l ∙ (λ k. so_far k ++ 
 
 pub none_all : {X Y : Type 0} (f : ℕ × X → List Y) (xs : List X) (i : ℕ) → length xs ≤ i → flat_map f (enumerate_from 0 (take i xs)) ≡ [] → flat_map f (enumerate_from 0 xs) ≡ []
 none_all f xs i l so_far = ap (λ ys. flat_map f (enumerate_from 0 ys)) (sym (take_all i xs l)) ∙ so_far
+
+-- of two lists that are nothing together, each is nothing
+none_first : {Y : Type 0} (xs ys : List Y) → xs ++ ys ≡ [] → xs ≡ []
+none_first [] ys e = refl
+none_first (x ∷ xs) ys e = cc
+
+none_second : {Y : Type 0} (xs ys : List Y) → xs ++ ys ≡ [] → ys ≡ []
+none_second [] ys e = e
+none_second (x ∷ xs) ys e = cc
+
+-- something is given so far, or by one element more
+pub some_more : {X Y : Type 0} (f : ℕ × X → List Y) (xs : List X) (i : ℕ) (d : X) → i < length xs → flat_map f (enumerate_from 0 (take i xs)) ≢ []
+    → flat_map f (enumerate_from 0 (take (i + 1) xs)) ≢ []
+some_more f xs i d l some none = some (none_first (flat_map f (enumerate_from 0 (take i xs))) (f (i, get_or xs i d)) (sym (given_more f xs i d l) ∙ none))
+
+pub some_here : {X Y : Type 0} (f : ℕ × X → List Y) (xs : List X) (i : ℕ) (d : X) → i < length xs → f (i, get_or xs i d) ≢ []
+    → flat_map f (enumerate_from 0 (take (i + 1) xs)) ≢ []
+some_here f xs i d l some none = some (none_second (flat_map f (enumerate_from 0 (take i xs))) (f (i, get_or xs i d)) (sym (given_more f xs i d l) ∙ none))
+
+pub some_all : {X Y : Type 0} (f : ℕ × X → List Y) (xs : List X) (i : ℕ) → length xs ≤ i → flat_map f (enumerate_from 0 (take i xs)) ≢ [] → flat_map f (enumerate_from 0 xs) ≢ []
+some_all f xs i l some none = some (ap (λ ys. flat_map f (enumerate_from 0 ys)) (take_all i xs l) ∙ none)
 
 -- what one element more adds to a sum
 pub summed_more : {X : Type 0} (f : ℕ × X → ℕ) (xs : List X) (i : ℕ) (d : X) → i < length xs

@@ -1,6 +1,7 @@
 //! The parts of a key's windows where the watermark moves.
-ghost use Rattle.std.specs.Prelude.{◌≡◌, ◌≤◌, ◌<◌, ◌+◌, ◌-◌, ◌++◌, [], ℕ, List, IfOk, OnOk, vec_len, vec_capacity};
+ghost use Rattle.std.specs.Prelude.{◌≡◌, ◌≢◌, ◌≤◌, ◌<◌, ◌+◌, ◌-◌, ◌++◌, [], ℕ, List, IfOk, OnOk, vec_len, vec_capacity};
 ghost use Rattle.std.specs.List.{enumerate_from, flat_map};
+ghost use Rattle.stream_base.specs.declared.limits.TheConstants.{FINAL};
 ghost use Rattle.stream_base.specs.Laws.{completions};
 ghost use Rattle.stream_base.specs.Model.Changes.{Moment};
 ghost use Rattle.window_laws.specs.After.{at_water};
@@ -102,7 +103,8 @@ impl<P: KeyPart> Parts<P> {
         }
     }
 
-    // A watermark up to which, without it, nothing becomes complete in any window.
+    // The first watermark at which something becomes complete in a window. Later than the final one
+    // where nothing is left to become so.
     pub fn next_due<T: AggTree<Bundle>>(
         &self,
         defs: &Defs,
@@ -112,10 +114,15 @@ impl<P: KeyPart> Parts<P> {
         requires stands { (m : Moment) × (n : ℕ)
             × AllStandAt P.stands defs.now water store.now self.now.list.items m n }
         requires water { IsWater water }
-        ensures { (key : List ℕ) (m : Moment) (n new : ℕ)
+        ensures none_before { (key : List ℕ) (m : Moment) (n new : ℕ)
             → AllStandAt P.stands defs.now water store.now self.now.list.items m n
             → water ≤ new → new < result
             → flat_map (completions key m new) (enumerate_from 0 (defs.now).windows) ≡ [] }
+        ensures some_at { (key : List ℕ) (m : Moment) (n : ℕ)
+            → AllStandAt P.stands defs.now water store.now self.now.list.items m n
+            → result ≤ FINAL → (water < result)
+            × (flat_map (completions key m result)
+            (enumerate_from 0 (defs.now).windows) ≢ []) }
     {
         let mut due = u64::MAX;
         for window in 0..window_count(defs) {
