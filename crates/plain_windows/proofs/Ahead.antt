@@ -1,25 +1,27 @@
 -- The least bound above the watermark is that of the first instance there.
-use Rattle.std.proofs.Common.{◌≡◌, ◌∙◌, ◌≤◌, ◌<◌, ◌+◌, ◌++◌, ℕ, Bool, true, false, cond, List, [], ◌∷◌, length, get_or, drop, map, ap, sym, refl, inl, inr, ⊎_elim, arith, None, Some}
+use Rattle.std.proofs.Common.{◌≡◌, ◌∙◌, ◌≤◌, ◌<◌, ◌+◌, ◌++◌, ℕ, Bool, true, false, cond, List, [], ◌∷◌, length, get_or, drop, map, ap, sym, refl, subst, inl, inr, ⊎_elim, arith, None, Some}
 use Rattle.std.specs.Prelude.{Option}
 use Rattle.std.specs.Option.{option_map}
-use Rattle.std.specs.Prelude.{◌⊎◌, ◌&&◌, min, nat_le, nat_lt}
+use Rattle.std.specs.Prelude.{◌≢◌, ◌⊎◌, ◌&&◌, min, nat_le, nat_lt}
 use Rattle.std.specs.List.{Contains, enumerate_from, filter, find, flat_map, fold}
-use Rattle.std.proofs.lemmas.Bool.{lt-ltb, ltb-true}
+use Rattle.std.proofs.lemmas.Bool.{cases_lt, le-leb, lt-ltb, ltb-true}
 use Rattle.std.proofs.lemmas.Bool.Decides.{nat_tests}
 use Rattle.std.proofs.lemmas.List.{drop_all, drop_more}
 use Rattle.stream_base.specs.declared.change.Change.TheVariants.{New}
 use Rattle.stream_base.specs.declared.def.Def.{Def}
 use Rattle.stream_base.specs.declared.kept.Kept.{Kept}
+use Rattle.stream_base.specs.declared.change.Change.{Change}
 use Rattle.stream_base.specs.declared.kind.Kind.{Kind}
+use Rattle.stream_base.specs.declared.limits.TheConstants.{FINAL}
 use Rattle.stream_base.specs.declared.kind.Kind.TheVariants.{Tumbling, Sliding}
 use Rattle.stream_base.specs.Laws.{becomes_complete, completions}
 use Rattle.stream_base.specs.Model.Changes.{Moment, row_of}
 use Rattle.stream_base.specs.Model.Journal.{put_in_order}
 use Rattle.stream_base.specs.Model.Windows.{Instance, instances_of, spans}
 use Rattle.stream_base.proofs.ChangeFacts.{enumerate_members, flat_map_none}
-use Rattle.stream_base.proofs.Members.{filter_has, filter_members, flat_map_has, map_has, map_members}
-use Rattle.stream_base.proofs.Rising.{none_in_nil, Contains-cons_cases, Contains-head, Contains-tail}
-use Rattle.plain_windows.specs.Changing.{BringsNoneBelow, HasBound, IsAhead, bounds_ahead}
+use Rattle.stream_base.proofs.Members.{filter_has, filter_members, flat_map_has, flat_map_members, map_has, map_members}
+use Rattle.stream_base.proofs.Rising.{none_in_nil, Contains-at_head, Contains-cons_cases, Contains-head, Contains-tail}
+use Rattle.plain_windows.specs.Changing.{BringsBound, BringsNoneBelow, HasBound, IsAhead, IsBound, IsDue, KeepsBounds, bounds_ahead}
 use Rattle.plain_windows.proofs.Bounds.{RunOn}
 use Rattle.plain_windows.proofs.Walks.{none_passes}
 
@@ -155,3 +157,93 @@ brings_less kind time bound less le h kept marks x i at c = ⊎_elim (λ old. in
 -- a move to below the least bound completes nothing
 pub nothing_due : (windows : List Def) (key : List ℕ) (m : Moment) (most new least : ℕ) → least ≡ fold min most (flat_map (bounds_ahead m) windows) → new < least → flat_map (completions key m new) (enumerate_from 0 windows) ≡ []
 nothing_due windows key m most new least e lt = nothing_ahead windows key m least new (ahead_of_least windows m most least e) lt
+
+-- the least is the first number or one of the others
+least_reached : (a : ℕ) (bs : List ℕ) → (fold min a bs ≡ a) ⊎ Contains bs (fold min a bs)
+least_reached a [] = inl refl
+least_reached a (b ∷ bs) =
+    ⊎_elim
+    (λ same. ⊎_elim
+    (λ (lt : a < b). inl (omega (arith, same)))
+    (λ (le : b ≤ a). let own : fold min (min a b) bs ≡ b = omega (arith, same) in inr (Contains-at_head b bs (fold min (min a b) bs) (sym own)))
+    (cases_lt a b))
+    (λ c. inr (Contains-tail b bs (fold min (min a b) bs) c))
+    (least_reached (min a b) bs)
+
+-- the least of the bounds ahead is one of them, unless it is a number that none is
+pub due_of_least : (windows : List Def) (m : Moment) (most least : ℕ) → FINAL < most → least ≡ fold min most (flat_map (bounds_ahead m) windows) → IsDue windows m.kept m.marks m.water least
+due_of_least windows m most least beyond e = record { ahead = ahead_of_least windows m most least e; reached = λ final. by final (least_reached most (flat_map (bounds_ahead m) windows)) }
+  where
+    by : least ≤ FINAL → (fold min most (flat_map (bounds_ahead m) windows) ≡ most) ⊎ Contains (flat_map (bounds_ahead m) windows) (fold min most (flat_map (bounds_ahead m) windows)) → (m.water < least) × IsBound windows m.kept m.marks least
+    by final (inl none) = absurd (omega (arith, e, none))
+    by final (inr c) =
+        let w : (def : Def) × Contains windows def × Contains (bounds_ahead m def) least = flat_map_members (bounds_ahead m) windows least (subst (Contains (flat_map (bounds_ahead m) windows)) (sym e) c) in
+        let bounds = map (λ (i : Instance). i.bound) (instances_of (w.0).kind m.kept m.marks) in
+        let f : Contains bounds least × (nat_lt m.water least ≡ true) = filter_members (λ bound. nat_lt m.water bound) bounds least w.2 in
+        (ltb-true m.water least f.1, record { def = w.0; of_window = w.1; has = map_members (λ (i : Instance). i.bound) (instances_of (w.0).kind m.kept m.marks) least f.0 })
+
+-- with a tuple more after the watermark, the less of the least bound and of the least that it brings is the least
+pub due_put : (windows : List Def) (time bound : ℕ) → ((def : Def) → Contains windows def → BringsNoneBelow def.kind time bound) → ((def : Def) → Contains windows def → KeepsBounds def.kind)
+    → (bound ≤ FINAL → (def : Def) × Contains windows def × BringsBound def.kind time bound)
+    → (kept : List Kept) (marks : List ℕ) (x : Kept) (water due : ℕ) → x.time ≡ time → water < time → IsDue windows kept marks water due → IsDue windows (put_in_order kept x) marks water (min due bound)
+due_put windows time bound brings keeps one kept marks x water due at late is = record {
+  ahead = ahead_put windows time bound brings kept marks x water due at is.ahead;
+  reached = λ final. ⊎_elim
+      (λ (lt : due < bound).
+      let same : due ≡ min due bound = omega arith in
+      let old = is.reached (omega arith) in
+      (omega (arith, old.0), subst (IsBound windows (put_in_order kept x) marks) same (stays due old.1)))
+      (λ (le : bound ≤ due).
+      let same : bound ≡ min due bound = omega arith in
+      let new : (def : Def) × Contains windows def × BringsBound def.kind time bound = one (omega arith) in
+      (omega (arith, new.2.later), subst (IsBound windows (put_in_order kept x) marks) same (record { def = new.0; of_window = new.1; has = new.2.brought kept marks x at })))
+      (cases_lt due bound);
+}
+  where
+    stays : (b : ℕ) → IsBound windows kept marks b → IsBound windows (put_in_order kept x) marks b
+    stays b was = record {
+      def = was.def;
+      of_window = was.of_window;
+      has = subst (HasBound (instances_of (was.def).kind (put_in_order kept x) marks)) was.has.2 (keeps was.def was.of_window kept marks x was.has.0 was.has.1);
+    }
+
+pub one_tumbling : (length time bound : ℕ) → time < bound → ((kept : List Kept) (x : Kept) → x.time ≡ time → HasBound (spans length length (put_in_order kept x)) bound) → BringsBound (Tumbling length) time bound
+unfolding instances_of
+one_tumbling length time bound later h = record { later = later; brought = λ kept marks x at. h kept x at }
+
+pub one_sliding : (length slide time bound : ℕ) → time < bound → ((kept : List Kept) (x : Kept) → x.time ≡ time → HasBound (spans length slide (put_in_order kept x)) bound) → BringsBound (Sliding length slide) time bound
+unfolding instances_of
+one_sliding length slide time bound later h = record { later = later; brought = λ kept marks x at. h kept x at }
+
+pub keeps_tumbling : (length : ℕ) → ((kept : List Kept) (x : Kept) (i : Instance) → Contains (spans length length kept) i → HasBound (spans length length (put_in_order kept x)) i.bound) → KeepsBounds (Tumbling length)
+unfolding instances_of
+keeps_tumbling length h kept marks x i c = h kept x i c
+
+pub keeps_sliding : (length slide : ℕ) → ((kept : List Kept) (x : Kept) (i : Instance) → Contains (spans length slide kept) i → HasBound (spans length slide (put_in_order kept x)) i.bound) → KeepsBounds (Sliding length slide)
+unfolding instances_of
+keeps_sliding length slide h kept marks x i c = h kept x i c
+
+-- a move to the least bound completes something
+numbered : {X : Type 0} (n : ℕ) (xs : List X) (x : X) → Contains xs x → (k : ℕ) × Contains (enumerate_from n xs) (k, x)
+numbered n [] x c = absurd (none_in_nil x c)
+numbered {X} n (y ∷ ys) x c =
+    ⊎_elim
+    (λ e. (n, Contains-at_head (n, y) (enumerate_from (n + 1) ys) (n, x) (ap (λ (z : X). (n, z)) e)))
+    (λ d. let m : (k : ℕ) × Contains (enumerate_from (n + 1) ys) (k, x) = numbered (n + 1) ys x d in (m.0, Contains-tail (n, y) (enumerate_from (n + 1) ys) (m.0, x) m.1))
+    (Contains-cons_cases y ys x c)
+
+completes : (water due : ℕ) (i : Instance) → water < due → i.bound ≡ due → becomes_complete water due i ≡ true
+completes water due i lt e = (λ k. nat_lt water (e k) && nat_le (e k) due) ∙ (λ k. lt-ltb water due lt k && le-leb due due (omega arith) k)
+
+pub something_due : (windows : List Def) (key : List ℕ) (m : Moment) (due : ℕ) → IsDue windows m.kept m.marks m.water due → due ≤ FINAL → flat_map (completions key m due) (enumerate_from 0 windows) ≢ []
+something_due windows key m due is final none =
+    let at = is.reached final in
+    let def = at.1.def in
+    let i = at.1.has.0 in
+    let w : (k : ℕ) × Contains (enumerate_from 0 windows) (k, def) = numbered 0 windows def at.1.of_window in
+    let instances = instances_of def.kind m.kept m.marks in
+    let row = λ (j : Instance). New (row_of w.0 key def.func j) in
+    let here : Contains (completions key m due (w.0, def)) (row i) =
+    map_has row (filter (becomes_complete m.water due) instances) i (filter_has (becomes_complete m.water due) instances i at.1.has.1 (completes m.water due i at.0 at.1.has.2)) in
+    let some : Contains (flat_map (completions key m due) (enumerate_from 0 windows)) (row i) = flat_map_has (completions key m due) (enumerate_from 0 windows) (w.0, def) (row i) w.1 here in
+    none_in_nil (row i) (subst (λ (cs : List Change). Contains cs (row i)) none some)

@@ -13,7 +13,7 @@ use Rattle.stream_base.specs.Laws.{RiseByStart, TimesDoNotFall}
 use Rattle.stream_base.specs.Model.Journal.{put_in_order}
 use Rattle.stream_base.specs.Model.Windows.{Instance, interval, starts_of, spans, instances_of}
 use Rattle.stream_base.proofs.Distinct.{instances_rise}
-use Rattle.stream_base.proofs.Members.{map_members, map_has}
+use Rattle.stream_base.proofs.Members.{Contains-insert_new, Contains-insert_old, map_members, map_has}
 use Rattle.stream_base.proofs.Spans.{starts_holding_members, starts_of_members, starts_of_has, starts_of_put_cases}
 use Rattle.plain_windows.specs.Changing.{HasBound}
 use Rattle.plain_windows.specs.Places.{IsPlaceOf}
@@ -186,3 +186,23 @@ module _ (long slide : ℕ) (moves : 1 ≤ slide) (overlaps : slide ≤ long) (k
     where
       alike : (low : ℕ) → nat_lt water (low + long) ≡ nat_le from low
       alike low = grind (arith, nat_tests)
+
+-- with a tuple more, the first interval that holds its time is there, and those that were there still are
+module _ (long slide : ℕ) (moves : 1 ≤ slide) (overlaps : slide ≤ long) where
+  pub holds_time : (time first : ℕ) → first ≡ (time + slide - long) / slide → (first * slide ≤ time) × (time < first * slide + long)
+  holds_time time first is =
+      let low : first * slide ≤ time + slide - long = quotient_times (time + slide - long) slide first (omega (arith, is)) in
+      let high : time + slide - long < (first + 1) * slide = above_quotient (time + slide - long) slide first moves (omega (arith, is)) in
+      (omega arith, omega arith)
+
+  pub span_brought : (kept : List Kept) (x : Kept) (first : ℕ) → first ≡ (x.time + slide - long) / slide → HasBound (spans long slide (put_in_order kept x)) (first * slide + long)
+  span_brought kept x first is =
+      let later = put_in_order kept x in
+      let holds = holds_time x.time first is in
+      (interval (first * slide) (first * slide + long) later, spans_has long slide moves overlaps later first x (Contains-insert_new kept _ x) holds.0 holds.1, refl)
+
+  pub span_stays : (kept : List Kept) (x : Kept) (i : Instance) → Contains (spans long slide kept) i → HasBound (spans long slide (put_in_order kept x)) i.bound
+  span_stays kept x i c =
+      let later = put_in_order kept x in
+      let s : IsSpan long slide moves overlaps kept i = spans_members long slide moves overlaps kept i c in
+      (interval (s.number * slide) (s.number * slide + long) later, spans_has long slide moves overlaps later s.number s.tuple (Contains-insert_old kept _ x s.tuple s.has) s.starts s.ends, ap (λ (j : Instance). j.bound) s.is)

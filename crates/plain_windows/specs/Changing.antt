@@ -6,6 +6,7 @@ use Rattle.stream_base.specs.declared.change.Change.{Change}
 use Rattle.stream_base.specs.declared.def.Def.{Def}
 use Rattle.stream_base.specs.declared.kept.Kept.{Kept}
 use Rattle.stream_base.specs.declared.kind.Kind.{Kind}
+use Rattle.stream_base.specs.declared.limits.TheConstants.{FINAL}
 use Rattle.stream_base.specs.Laws.{completions}
 use Rattle.stream_base.specs.Model.Changes.{Moment, emission, emissions, retraction, retractions, standing_at}
 use Rattle.stream_base.specs.Model.Journal.{put_in_order}
@@ -51,10 +52,30 @@ HasBound instances bound = (j : Instance) × Contains instances j × (j.bound �
 abbrev pub IsAhead : List Def → List Kept → List ℕ → ℕ → ℕ → Type 0
 IsAhead windows kept marks water due = (def : Def) (i : Instance) → Contains windows def → Contains (instances_of def.kind kept marks) i → water < i.bound → due ≤ i.bound
 
+-- some instance of some window has this bound
+pub record IsBound (windows : List Def) (kept : List Kept) (marks : List ℕ) (bound : ℕ) : Type 0 where
+  pub def : Def
+  pub of_window : Contains windows def
+  pub has : HasBound (instances_of def.kind kept marks) bound
+
+-- the least bound above the watermark: none lies between, and up to the final watermark it is the bound of an instance. Later than that where no bound is left
+pub record IsDue (windows : List Def) (kept : List Kept) (marks : List ℕ) (water due : ℕ) : Type 0 where
+  pub ahead : IsAhead windows kept marks water due
+  pub reached : due ≤ FINAL → (water < due) × IsBound windows kept marks due
+
 -- with a tuple more at a time, each bound of a window's instances is one that there was, or at least this number
 abbrev pub BringsNoneBelow : Kind → ℕ → ℕ → Type 0
 BringsNoneBelow kind time bound = (kept : List Kept) (marks : List ℕ) (x : Kept) (i : Instance) → x.time ≡ time → Contains (instances_of kind (put_in_order kept x) marks) i
     → HasBound (instances_of kind kept marks) i.bound ⊎ (bound ≤ i.bound)
+
+-- with a tuple more at a time, an instance of the window has this bound, which lies after the time
+pub record BringsBound (kind : Kind) (time bound : ℕ) : Type 0 where
+  pub later : time < bound
+  pub brought : (kept : List Kept) (marks : List ℕ) (x : Kept) → x.time ≡ time → HasBound (instances_of kind (put_in_order kept x) marks) bound
+
+-- with a tuple more, each bound of the window's instances is still one
+abbrev pub KeepsBounds : Kind → Type 0
+KeepsBounds kind = (kept : List Kept) (marks : List ℕ) (x : Kept) (i : Instance) → Contains (instances_of kind kept marks) i → HasBound (instances_of kind (put_in_order kept x) marks) i.bound
 
 -- the bounds of a window's instances that lie above the watermark
 abbrev pub bounds_ahead : Moment → Def → List ℕ

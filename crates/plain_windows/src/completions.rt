@@ -6,7 +6,7 @@ ghost use Rattle.stream_base.specs.declared.kept.Kept.{Kept};
 ghost use Rattle.stream_base.specs.Laws.{completions};
 ghost use Rattle.stream_base.specs.Limits.{IsKindWithin};
 ghost use Rattle.stream_base.specs.Model.Journal.{put_in_order};
-ghost use Rattle.plain_windows.specs.Changing.{BringsNoneBelow, IsAhead, all_completions, bounds_ahead, room, window_of};
+ghost use Rattle.plain_windows.specs.Changing.{BringsBound, BringsNoneBelow, IsAhead, IsDue, KeepsBounds, all_completions, bounds_ahead, room, window_of};
 ghost use Rattle.plain_windows.specs.Views.{AreWindows, IsMoment, seen};
 
 use crate::find::bound_above;
@@ -112,6 +112,10 @@ pub fn next_bound(windows: &[Def], view: &View) -> u64
     ensures ahead { IsAhead windows.now (seen view.now).kept (seen view.now).marks
         (seen view.now).water result }
 
+    // And up to the final watermark it is the bound of an instance.
+    ensures due { IsDue windows.now (seen view.now).kept (seen view.now).marks
+        (seen view.now).water result }
+
     // A move to below it completes nothing.
     ensures nothing { (key : List ℕ) (new : ℕ) → new < result
         → all_completions windows.now key (seen view.now) new ≡ [] }
@@ -142,9 +146,14 @@ fn next_of_window(def: &Def, view: &View, least: u64) -> u64
 pub fn bound_from(windows: &[Def], time: u64) -> Option<u64>
     requires windows { AreWindows windows.now }
     requires time { time ≤ TIME_MAX }
-    ensures { IfSome result (λ bound. (kept : List Kept) (marks : List ℕ) (x : Kept)
+    ensures ahead { IfSome result (λ bound. (kept : List Kept) (marks : List ℕ) (x : Kept)
         (water due : ℕ) → x.time ≡ time → IsAhead windows.now kept marks water due
         → IsAhead windows.now (put_in_order kept x) marks water (min due bound)) }
+
+    // And the less of the two is still the least bound, where the tuple comes after the watermark.
+    ensures due { IfSome result (λ bound. (kept : List Kept) (marks : List ℕ) (x : Kept)
+        (water due : ℕ) → x.time ≡ time → water < time → IsDue windows.now kept marks water due
+        → IsDue windows.now (put_in_order kept x) marks water (min due bound)) }
 {
     let mut least = u64::MAX;
     for def in windows {
@@ -158,7 +167,9 @@ pub fn bound_from(windows: &[Def], time: u64) -> Option<u64>
 fn bound_of(kind: &Kind, time: u64) -> Option<u64>
     requires kind { IsKindWithin kind.now }
     requires time { time ≤ TIME_MAX }
-    ensures { IfSome result (BringsNoneBelow kind.now time) }
+    ensures none_below { IfSome result (BringsNoneBelow kind.now time) }
+    ensures brought { IfSome result (BringsBound kind.now time) }
+    ensures stay { IfSome result (λ bound. KeepsBounds kind.now) }
 {
     match *kind {
         Kind::Tumbling { length } => Some(spans::bound_holding(length, length, time)),

@@ -1,5 +1,5 @@
 //! The instances of a tumbling or sliding window: intervals that start at multiples of the slide.
-ghost use Rattle.std.specs.Prelude.{◌≡◌, ◌≤◌, ◌+◌, ◌⊎◌, [], ℕ, List, IfSome, nat_le, nat_lt};
+ghost use Rattle.std.specs.Prelude.{◌≡◌, ◌<◌, ◌≤◌, ◌+◌, ◌⊎◌, [], ℕ, List, IfSome, nat_le, nat_lt};
 ghost use Rattle.std.specs.List.{Contains, find};
 ghost use Rattle.std.specs.Option.{option_map};
 ghost use Rattle.stream_base.specs.declared.kept.Kept.{Kept};
@@ -64,9 +64,15 @@ pub fn first_above(length: u64, slide: u64, kept: &[Kept], water: u64) -> Option
 pub fn bound_holding(length: u64, slide: u64, time: u64) -> u64
     requires kind { IsKindWithin (Sliding length slide) }
     requires time { time ≤ TIME_MAX }
-    ensures { (kept : List Kept) (x : Kept) (i : Instance) → x.time ≡ time
+    ensures none_below { (kept : List Kept) (x : Kept) (i : Instance) → x.time ≡ time
         → Contains (spans length slide (put_in_order kept x)) i
         → HasBound (spans length slide kept) i.bound ⊎ (result ≤ i.bound) }
+    ensures later { time < result }
+    ensures brought { (kept : List Kept) (x : Kept) → x.time ≡ time
+        → HasBound (spans length slide (put_in_order kept x)) result }
+    ensures stay { (kept : List Kept) (x : Kept) (i : Instance)
+        → Contains (spans length slide kept) i
+        → HasBound (spans length slide (put_in_order kept x)) i.bound }
 {
     let first = (time + slide).saturating_sub(length) / slide;
     first * slide + length

@@ -1,8 +1,8 @@
 -- Each window lowers the least to its own.
-use Rattle.std.proofs.Common.{◌∙◌, sym}
+use Rattle.std.proofs.Common.{◌∙◌, arith, sym}
 use Rattle.plain_windows.specs.Changing.{bounds_ahead}
 use Rattle.plain_windows.specs.Views.{seen}
-use Rattle.plain_windows.proofs.Ahead.{ahead_of_least, least_end, least_more, nothing_due}
+use Rattle.plain_windows.proofs.Ahead.{ahead_of_least, due_of_least, least_end, least_more, nothing_due}
 use Rattle.plain_windows.proofs.completions.next_bound.Goals as goal
 
 pub loop-def-preserved : goal.loop-def-preserved
@@ -14,6 +14,11 @@ pub returns-clause-ahead : goal.returns-clause-ahead
 returns-clause-ahead c =
     let f = bounds_ahead (seen c.args.view.now) in
     ahead_of_least c.args.windows.now (seen c.args.view.now) 18446744073709551615 c.loop-def.least (sym (least_end f c.loop-def.least c.args.windows.now c.loop-def.def-index c.loop-def-test.false) ∙ c.loop-def.invariant)
+
+pub returns-clause-due : goal.returns-clause-due
+returns-clause-due c =
+    let f = bounds_ahead (seen c.args.view.now) in
+    due_of_least c.args.windows.now (seen c.args.view.now) 18446744073709551615 c.loop-def.least (omega arith) (sym (least_end f c.loop-def.least c.args.windows.now c.loop-def.def-index c.loop-def-test.false) ∙ c.loop-def.invariant)
 
 pub returns-clause-nothing : goal.returns-clause-nothing
 returns-clause-nothing c = λ key new lt.

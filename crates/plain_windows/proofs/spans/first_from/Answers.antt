@@ -1,5 +1,4 @@
 -- The interval at the start that was found.
-use Rattle.std.proofs.Common.{◌∙◌, ap, Some}
 use Rattle.stream_base.proofs.EventOrder.{times_do_not_fall}
 use Rattle.plain_windows.proofs.spans.first_from.Goals as goal
 

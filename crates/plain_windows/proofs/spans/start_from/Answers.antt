@@ -1,5 +1,5 @@
 -- The first interval that holds the first tuple behind the start, or the start's own.
-use Rattle.std.proofs.Common.{◌∙◌, ◌/◌, max, ap, sym, arith, Some}
+use Rattle.std.proofs.Common.{◌∙◌, ◌/◌, max, ap, sym, arith}
 use Rattle.stream_base.specs.declared.limits.TheConstants.{TIME_MAX}
 use Rattle.stream_base.proofs.EventOrder.{times_do_not_fall}
 use Rattle.plain_windows.proofs.PlaceFacts.{some_tuple}
