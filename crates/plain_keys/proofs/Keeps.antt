@@ -10,7 +10,7 @@ use Rattle.std.proofs.lemmas.Map.Keys.{IsStrictlyIncreasing-from_sorted, sorted_
 use Rattle.std.proofs.lemmas.Map.Views.{All-insert_key}
 use Rattle.stream_base.specs.declared.def.Def.{Def}
 use Rattle.stream_base.specs.declared.kept.Kept.{Kept}
-use Rattle.stream_base.specs.declared.limits.TheConstants.{JOURNAL_MAX, TIME_MAX}
+use Rattle.stream_base.specs.declared.limits.TheConstants.{FINAL, JOURNAL_MAX, TIME_MAX}
 use Rattle.stream_base.specs.Laws.{completions}
 use Rattle.stream_base.specs.Limits.{AreWithinLimits, Definitions, IsKindWithin}
 use Rattle.stream_base.specs.Model.Journal.{put_in_order}
@@ -22,9 +22,9 @@ use Rattle.stream_base.specs.declared.kind.Kind.{Kind}
 use Rattle.stream_base.specs.declared.kind.Kind.TheVariants.{Tumbling, Sliding, Session, Marks, Events}
 use Rattle.stream_base.specs.Model.Windows.{Instance, instances_of, ranks}
 use Rattle.std.proofs.Math.Nat.{zero-div}
-use Rattle.plain_windows.specs.Changing.{IsAhead}
+use Rattle.plain_windows.specs.Changing.{IsDue}
 use Rattle.plain_windows.specs.Extents.{AreKeyLists}
-use Rattle.plain_windows.proofs.Ahead.{nothing_ahead}
+use Rattle.plain_windows.proofs.Ahead.{nothing_ahead, something_due}
 use Rattle.key_windows.specs.Calls.{changes_by_mark, changes_by_move, changes_by_put, kept_at, moment}
 use Rattle.plain_keys.specs.States.{Fits, IsMarked, IsOfSame, IsPut, IsReadyToMove, IsState, State, stand_in}
 use Rattle.plain_keys.proofs.After.{stands_after_mark, stands_after_put}
@@ -94,30 +94,30 @@ pub move_is : (d : Definitions) (key : List ℕ) (kept : List Kept) (marks : Lis
 move_is d key kept marks old new limits h le = changes_at_water d.windows key kept marks old new limits.kinds (times_do_not_fall kept h.in_order) le
 
 -- ---- bounds ahead
-pub ahead_same : (windows : List Def) (k k' : List Kept) (m m' : List ℕ) (water e e' : ℕ) → k' ≡ k → m' ≡ m → e' ≡ e → IsAhead windows k m water e → IsAhead windows k' m' water e'
-ahead_same windows k k' m m' water e e' ks ms es h =
-    subst (λ (l : List Kept). IsAhead windows l m' water e') (sym ks)
-    (subst (λ (l : List ℕ). IsAhead windows k l water e') (sym ms) (subst (λ (n : ℕ). IsAhead windows k m water n) (sym es) h))
+pub due_same : (windows : List Def) (k k' : List Kept) (m m' : List ℕ) (water e e' : ℕ) → k' ≡ k → m' ≡ m → e' ≡ e → IsDue windows k m water e → IsDue windows k' m' water e'
+due_same windows k k' m m' water e e' ks ms es h =
+    subst (λ (l : List Kept). IsDue windows l m' water e') (sym ks)
+    (subst (λ (l : List ℕ). IsDue windows k l water e') (sym ms) (subst (λ (n : ℕ). IsDue windows k m water n) (sym es) h))
 
 -- with a tuple more in its lists, where the due number follows
 pub fits_put : (d : Definitions) (kept : List Kept) (marks : List ℕ) (water time : ℕ) (s mid new : State) (x y : Kept) → Fits d kept marks water s → IsPut s x mid → IsOfSame mid new → x ≡ y → x.time ≡ time
-    → ((k : List Kept) (z : Kept) → z.time ≡ time → mid.kept ≡ put_in_order k z → IsAhead d.windows k mid.marks water mid.due → IsAhead d.windows new.kept new.marks water new.due)
+    → ((k : List Kept) (z : Kept) → z.time ≡ time → mid.kept ≡ put_in_order k z → IsDue d.windows k mid.marks water mid.due → IsDue d.windows new.kept new.marks water new.due)
     → Fits d (put_in_order kept y) marks water new
 fits_put d kept marks water time s mid new x y fits put same is at ahead =
     let k : mid.kept ≡ put_in_order kept x = put.kept ∙ ap (λ l. put_in_order l x) fits.0 in
     let m : mid.marks ≡ marks = put.marks ∙ fits.1 in
-    let there : IsAhead d.windows new.kept new.marks water new.due = ahead kept x at k (ahead_same d.windows kept kept marks mid.marks water s.due mid.due refl m put.due fits.2) in
+    let there : IsDue d.windows new.kept new.marks water new.due = ahead kept x at k (due_same d.windows kept kept marks mid.marks water s.due mid.due refl m put.due fits.2) in
     let ks : new.kept ≡ put_in_order kept y = same.kept ∙ k ∙ ap (put_in_order kept) is in
     let ms : new.marks ≡ marks = same.marks ∙ m in
-    (ks, ms, ahead_same d.windows new.kept (put_in_order kept y) new.marks marks water new.due new.due (sym ks) (sym ms) refl there)
+    (ks, ms, due_same d.windows new.kept (put_in_order kept y) new.marks marks water new.due new.due (sym ks) (sym ms) refl there)
 
 -- and with a mark more
-pub fits_mark : (d : Definitions) (kept : List Kept) (marks : List ℕ) (water time : ℕ) (s mid new : State) → Fits d kept marks water s → IsMarked s time mid → IsOfSame mid new → IsAhead d.windows new.kept new.marks water new.due
+pub fits_mark : (d : Definitions) (kept : List Kept) (marks : List ℕ) (water time : ℕ) (s mid new : State) → Fits d kept marks water s → IsMarked s time mid → IsOfSame mid new → IsDue d.windows new.kept new.marks water new.due
     → Fits d kept (insert_key nat_cmp marks time) water new
 fits_mark d kept marks water time s mid new fits marked same ahead =
     let ks : new.kept ≡ kept = same.kept ∙ marked.kept ∙ fits.0 in
     let ms : new.marks ≡ insert_key nat_cmp marks time = same.marks ∙ marked.marks ∙ ap (λ l. insert_key nat_cmp l time) fits.1 in
-    (ks, ms, ahead_same d.windows new.kept kept new.marks (insert_key nat_cmp marks time) water new.due new.due (sym ks) (sym ms) refl ahead)
+    (ks, ms, due_same d.windows new.kept kept new.marks (insert_key nat_cmp marks time) water new.due new.due (sym ks) (sym ms) refl ahead)
 
 -- empty lists have no instance
 no_instances : (kind : Kind) → instances_of kind [] [] ≡ []
@@ -128,14 +128,27 @@ no_instances (Session gap) = refl
 no_instances Marks = refl
 no_instances (Events count) = ap (λ n. map (ranks count []) (range_with_len 0 n)) (zero-div count)
 
-pub none_ahead : (windows : List Def) (water due : ℕ) → IsAhead windows [] [] water due
-none_ahead windows water due def i c d above = absurd (none_in_nil i (subst (λ (is : List Instance). Contains is i) (no_instances def.kind) d))
+pub none_ahead : (windows : List Def) (water due : ℕ) → FINAL < due → IsDue windows [] [] water due
+none_ahead windows water due beyond = record {
+  ahead = λ def i c d above. absurd (none_in_nil i (subst (λ (is : List Instance). Contains is i) (no_instances def.kind) d));
+  reached = λ final. absurd (omega (arith, beyond, final));
+}
 
 -- no move to below the due number changes anything
 pub not_due : (d : Definitions) (key : List ℕ) (s : State) (kept : List Kept) (marks : List ℕ) (water new : ℕ) → AreWithinLimits d → AreKeyLists s.kept s.marks → Fits d kept marks water s → water ≤ new → new < s.due → changes_by_move d key kept marks water new ≡ []
 not_due d key s kept marks water new limits lists fits le lt =
     move_is d key kept marks water new limits (subst (λ (ms : List ℕ). AreKeyLists kept ms) fits.1 (subst (λ (ks : List Kept). AreKeyLists ks s.marks) fits.0 lists)) le
-    ∙ nothing_ahead d.windows key (moment kept marks water) s.due new fits.2 lt
+    ∙ nothing_ahead d.windows key (moment kept marks water) s.due new fits.2.ahead lt
+
+-- a move to the due number changes something
+pub is_due : (d : Definitions) (key : List ℕ) (s : State) (kept : List Kept) (marks : List ℕ) (water : ℕ) → AreWithinLimits d → AreKeyLists s.kept s.marks → Fits d kept marks water s → s.due ≤ FINAL
+    → (water < s.due) × (changes_by_move d key kept marks water s.due ≢ [])
+is_due d key s kept marks water limits lists fits final =
+    let at = fits.2.reached final in (
+      at.0,
+      λ none. something_due d.windows key (moment kept marks water) s.due fits.2 final
+          (sym (move_is d key kept marks water s.due limits (subst (λ (ms : List ℕ). AreKeyLists kept ms) fits.1 (subst (λ (ks : List Kept). AreKeyLists ks s.marks) fits.0 lists)) (omega (arith, at.0))) ∙ none),
+    )
 
 -- a move for which room was made brings as many completions as were promised
 pub as_promised : (d : Definitions) (s : State) (old new : ℕ) (windows : List Def) (key : List ℕ) (kept : List Kept) (marks : List ℕ)

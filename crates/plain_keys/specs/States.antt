@@ -10,12 +10,12 @@ use Rattle.stream_base.specs.Limits.{Definitions}
 use Rattle.stream_base.specs.Model.Changes.{changes_between}
 use Rattle.stream_base.specs.Model.Journal.{put_in_order}
 use Rattle.window_laws.specs.Positions.{HaveDistinctPositions}
-use Rattle.plain_windows.specs.Changing.{IsAhead}
+use Rattle.plain_windows.specs.Changing.{IsDue}
 use Rattle.plain_windows.specs.Extents.{AreKeyLists}
 use Rattle.key_windows.specs.Calls.{Call, changes_by_mark, changes_by_move, changes_by_put, kept_at, moment}
 use Rattle.key_windows.specs.Calls.Call.{Put, Mark, Move}
 
--- what contracts see: the key and its lists, the position that the next tuple has at least, up to which watermark, without it, nothing becomes complete, what was promised to the call to come, and the drafts of its lists and room for one more in each
+-- what contracts see: the key and its lists, the position that the next tuple has at least, the first watermark at which something becomes complete, what was promised to the call to come, and the drafts of its lists and room for one more in each
 pub record State : Type 0 where
   pub key : List ℕ
   pub kept : List Kept
@@ -44,9 +44,9 @@ stand_in time = kept_at (2 ^ 64 - 1) time (pos 0)
 abbrev pub most_steps : ℕ
 most_steps = 2 ^ 64 - 1
 
--- its kept tuples and marks are these, and no bound lies between the watermark and its due number
+-- its kept tuples and marks are these, and its due number is their least bound above the watermark
 abbrev pub Fits : Definitions → List Kept → List ℕ → ℕ → State → Type 0
-Fits d kept marks water s = (s.kept ≡ kept) × (s.marks ≡ marks) × IsAhead d.windows kept marks water s.due
+Fits d kept marks water s = (s.kept ≡ kept) × (s.marks ≡ marks) × IsDue d.windows kept marks water s.due
 
 -- a tuple to come after the watermark has a place left; for an earlier one the list is drawn, with a stand-in, and as many changes promised as that causes
 pub record IsReadyToPut (d : Definitions) (time water : ℕ) (s : State) : Type 0 where

@@ -7,7 +7,7 @@ ghost use Rattle.stream_base.specs.declared.limits.TheConstants.{JOURNAL_MAX, TI
 ghost use Rattle.stream_base.specs.Laws.{completions};
 ghost use Rattle.stream_base.specs.Model.Changes.{changes_between, rows_at};
 ghost use Rattle.stream_base.specs.Model.Journal.{put_in_order};
-ghost use Rattle.plain_windows.specs.Changing.{IsAhead, room};
+ghost use Rattle.plain_windows.specs.Changing.{IsDue, room};
 ghost use Rattle.plain_windows.specs.Views.{AreWindows};
 ghost use Rattle.key_windows.specs.Calls.{kept_at, moment};
 ghost use Rattle.plain_keys.specs.States.{Fits, IsMarked, IsOfSame, IsPut, IsReady, IsState, Stays, by_one_mark, by_tuple, most_steps, stand_in};
@@ -29,7 +29,7 @@ use stream_base::{Change, Def, Defs, JOURNAL_MAX, Kept, KeyText, NoMemory, Row};
 /// old one when room is made, and both are compared.
 #[derive(Drop)]
 pub struct PlainKey {
-    /// No bound lies between the watermark and this number.
+    /// The least bound above the watermark. Later than the final one where no bound is.
     due: u64,
     /// The next tuple has at least this position.
     next: u64,
@@ -106,7 +106,7 @@ impl PlainKey {
 
     // The least bound above a watermark.
     fn bound_ahead(&self, defs: &Defs, water: u64) -> u64
-        ensures { IsAhead (defs.now).windows self.now.kept self.now.marks water result }
+        ensures { IsDue (defs.now).windows self.now.kept self.now.marks water result }
     {
         let view = View {
             kept: &self.kept,
@@ -127,21 +127,21 @@ impl PlainKey {
     // Waits for the least bound above a watermark.
     fn look_ahead(&mut self, defs: &Defs, water: u64)
         ensures same { IsOfSame self.old self.new }
-        ensures ahead { IsAhead (defs.now).windows self.new.kept self.new.marks water self.new.due }
+        ensures ahead { IsDue (defs.now).windows self.new.kept self.new.marks water self.new.due }
     {
         let due = self.bound_ahead(defs, water);
         self.wait_for(due);
     }
 
-    // Waits for no later watermark than the bounds that a tuple at a time brought, where the time
-    // alone tells them, and else looks for the least.
+    // Waits for the least bound with those that a tuple at a time after the watermark brought,
+    // where the time alone tells them, and else looks for it.
     fn look_behind(&mut self, defs: &Defs, time: u64, water: u64)
         requires { time ≤ TIME_MAX }
         ensures same { IsOfSame self.old self.new }
         ensures ahead { (kept : List Kept) (x : Kept) → x.time ≡ time
-            → self.old.kept ≡ put_in_order kept x
-            → IsAhead (defs.now).windows kept self.old.marks water self.old.due
-            → IsAhead (defs.now).windows self.new.kept self.new.marks water self.new.due }
+            → self.old.kept ≡ put_in_order kept x → water < time
+            → IsDue (defs.now).windows kept self.old.marks water self.old.due
+            → IsDue (defs.now).windows self.new.kept self.new.marks water self.new.due }
     {
         match bound_from(defs.windows(), time) {
             Some(bound) => self.wait_for(self.due.min(bound)),

@@ -152,7 +152,8 @@ pub fn bound_from(windows: &[Def], time: u64) -> Option<u64>
 
     // And the less of the two is still the least bound, where the tuple comes after the watermark.
     ensures due { IfSome result (λ bound. (kept : List Kept) (marks : List ℕ) (x : Kept)
-        (water due : ℕ) → x.time ≡ time → water < time → IsDue windows.now kept marks water due
+        (water due : ℕ) → x.time ≡ time → water < time
+        → IsDue windows.now kept marks water due
         → IsDue windows.now (put_in_order kept x) marks water (min due bound)) }
 {
     let mut least = u64::MAX;

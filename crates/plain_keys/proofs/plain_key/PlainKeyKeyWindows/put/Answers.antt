@@ -7,7 +7,7 @@ use Rattle.stream_base.specs.declared.limits.TheConstants.{JOURNAL_MAX}
 use Rattle.stream_base.specs.Model.Changes.{changes_between}
 use Rattle.stream_base.specs.Model.Journal.{put_in_order}
 use Rattle.key_windows.specs.Calls.{changes_by_put, kept_at, moment}
-use Rattle.plain_windows.specs.Changing.{IsAhead}
+use Rattle.plain_windows.specs.Changing.{IsDue}
 use Rattle.plain_keys.proofs.Keeps.{fits_put, put_count, put_nothing}
 use Rattle.plain_keys.proofs.plain_key.PlainKeyKeyWindows.put.Goals as goal
 
@@ -38,7 +38,7 @@ returns-then-water-time-clause-fits g c = λ kept marks fits.
     let y = kept_at c.args.pos c.args.time c.args.value in
     let is : x ≡ y = c.kept_at-x.ensures ∙ ap (kept_at c.args.pos c.args.time) (to_z-of_z w64 c.args.value c.ranges.value) in
     fits_put c.args.defs.now kept marks c.args.water c.args.time c.args.self.now c.put_ahead.new.self c.look_behind.new.self x y fits c.put_ahead.ensures c.look_behind.ensures.same is
-    (ap (λ (y : Kept). y.time) c.kept_at-x.ensures) c.look_behind.ensures.ahead
+    (ap (λ (y : Kept). y.time) c.kept_at-x.ensures) (λ k z at put. c.look_behind.ensures.ahead k z at put c.if-water-time.true)
 
 pub returns-else-water-time-clause-fits : goal.returns-else-water-time-clause-fits
 returns-else-water-time-clause-fits g c = λ kept marks fits.
@@ -51,4 +51,4 @@ returns-else-water-time-clause-fits g c = λ kept marks fits.
     let put = c.put_late.ensures.put in
     let ks : new.kept ≡ put_in_order kept y = same.kept ∙ put.kept ∙ (λ i. put_in_order (fits.0 i) (is i)) in
     let ms : new.marks ≡ marks = same.marks ∙ put.marks ∙ fits.1 in
-    (ks, ms, subst (λ (k : List Kept). IsAhead d.windows k marks c.args.water new.due) ks (subst (λ (m : List ℕ). IsAhead d.windows new.kept m c.args.water new.due) ms c.look_ahead.ensures.ahead))
+    (ks, ms, subst (λ (k : List Kept). IsDue d.windows k marks c.args.water new.due) ks (subst (λ (m : List ℕ). IsDue d.windows new.kept m c.args.water new.due) ms c.look_ahead.ensures.ahead))
