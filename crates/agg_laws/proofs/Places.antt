@@ -9,10 +9,8 @@ use Rattle.std.proofs.Math.Nat.{eq-or-lt_of_le}
 use Rattle.std.proofs.lemmas.Bool.Decides.{nat_tests}
 use Rattle.std.proofs.lemmas.List.{get_or-take, get_or-drop, length-take, length-drop, take-append-drop}
 use Rattle.std.proofs.lemmas.List.Elements.{All-weaker, All-head, All-cons}
-use Rattle.std.proofs.lemmas.List.Folds.{fold-map}
-use Rattle.std.proofs.lemmas.List.Sums.{fold_more, length-filter, count_by-le-length}
-use Rattle.agg_laws.specs.Laws.{total}
-use Rattle.agg_laws.specs.Pairs.{AreRising, StandsAt, has_key, pairs_below, pairs_from, within, replaced, without, value_at, values_of}
+use Rattle.std.proofs.lemmas.List.Sums.{length-filter, count_by-le-length}
+use Rattle.agg_laws.specs.Pairs.{AreRising, StandsAt, has_key, pairs_below, pairs_from, within, replaced, without, value_at}
 use Rattle.agg_laws.proofs.RisingPairs.{pairs_below-parts, pairs_from-parts, rising_below, rising_above, has_key-between, has_key-middle, value_at-middle, without-middle, replaced-middle, all_below, all_from}
 
 -- what holds of each element before a place holds of the front, and what holds from it on, of the rest
@@ -104,11 +102,6 @@ module _ {M : Type 0} (key at : ℕ) (ps : List (ℕ × M)) (p : ℕ × M) (risi
   pub found_replaced : (value : M) → replaced key value ps ≡ set ps at (key, value)
   found_replaced value =
       ap (replaced key value) parts ∙ replaced-middle key (take at ps) (drop (suc at) ps) lower upper p.1 value ∙ sym (split_at_written ps at (key, value) stands.within)
-
--- one value more, in the order of keys
-pub total_values_more : {M : Type 0} (empty : M) (op : M → M → M) (ps : List (ℕ × M)) (i : ℕ) (d : ℕ × M) → i < length ps → total empty op (values_of (take (i + 1) ps)) ≡ op (total empty op (values_of (take i ps))) (get_or ps i d).1
-total_values_more empty op ps i d l =
-    fold-map op (λ p. p.1) empty (take (i + 1) ps) ∙ fold_more (λ b p. op b p.1) empty ps i d l ∙ ap (λ b. op b (get_or ps i d).1) (sym (fold-map op (λ p. p.1) empty (take i ps)))
 
 -- one pair more of a nested filter
 nested_step : {X : Type 0} (a b : Bool) (x : X) (test : X → Bool) → test x ≡ a → (xs ys : List X) → filter test xs ≡ ys → filter test (cond b (x ∷ xs) xs) ≡ cond (a && b) (x ∷ ys) ys

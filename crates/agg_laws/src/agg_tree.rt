@@ -11,8 +11,8 @@ use stream_base::NoMemory;
 /// Partial aggregates under rising keys, which can fold any range of keys.
 ///
 /// Its work is bounded by its reach: each call makes at most `64 * (reach + 2)` steps, and a fold
-/// at most one for each pair in its range. The reach grows by at most 1 at an `insert` and at no
-/// other call, and it is bounded by the number of pairs. `probes` counts the nodes that a call looks
+/// at most half as many and at most one for each pair in its range. The reach grows by at most 1 at
+/// an `insert` and at no other call, and it is bounded by the number of pairs. `probes` counts the nodes that a call looks
 /// at, and doesn't fall.
 pub trait AggTree<M: Monoid> {
     // The pairs that the tree stands for, in the order of their keys.
@@ -88,7 +88,7 @@ pub trait AggTree<M: Monoid> {
         ensures rising { AreRising (pairs self.now) }
         ensures one_each { steps.new ≤ steps.old + length (within low high (pairs self.now)) }
         ensures probes { probes.old ≤ probes.new }
-        ensures cost { steps.new ≤ steps.old + 64 * (reach self.now + 2) };
+        ensures cost { steps.new ≤ steps.old + 32 * (reach self.now + 2) };
 
     /// How many pairs there are.
     fn len(&self) -> u64

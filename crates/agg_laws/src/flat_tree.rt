@@ -1,6 +1,5 @@
-ghost use Rattle.std.specs.Prelude.{◌≡◌, ◌≤◌, ◌<◌, ◌+◌, ◌^◌, [], IfSome, IfNone, length, take, drop, false};
-ghost use Rattle.agg_laws.specs.Laws.{total};
-ghost use Rattle.agg_laws.specs.Pairs.{AreRising, StandsAt, has_key, pairs_below, pairs_from, within, values_of};
+ghost use Rattle.std.specs.Prelude.{◌≡◌, ◌≤◌, ◌<◌, ◌+◌, ◌*◌, ◌^◌, ◌↔◌, [], None, IfSome, IfNone, IsTrue, length, take, drop, fold, false};
+ghost use Rattle.agg_laws.specs.Pairs.{AreRising, StandsAt, has_key, inserted, pairs_below, pairs_from, replaced, value_at, within, without, values_of};
 
 use crate::agg_tree::AggTree;
 use crate::monoid::Monoid;
@@ -29,6 +28,24 @@ impl<M> Model for FlatTree<M> {
     ghost invariant = { λ t. AreRising t.pairs.items };
 }
 
+impl<M: Monoid> FlatTree<M> {
+    /// The value under a key, if there is one.
+    pub fn get(&self, key: u64) -> Option<M>
+        ensures { result ≡ value_at key self.now.pairs }
+    {
+        let at = index_of(&self.pairs, key)?;
+        Some(self.pairs[at].1)
+    }
+
+    /// A sum with the values with `low <= key < high` behind it, in the order of keys.
+    pub fn fold_onto<L>(&self, sum: M, low: u64, high: u64, steps: &mut Steps<L>) -> M
+        ensures value { result ≡ fold M.op sum (values_of (within low high self.now.pairs)) }
+        ensures cost { steps.new ≤ steps.old + length (within low high self.now.pairs) }
+    {
+        fold_pairs(sum, range_of(&self.pairs, low, high), steps)
+    }
+}
+
 impl<M: Monoid> AggTree<M> for FlatTree<M> {
     ghost pairs = { λ t. t.pairs };
 
@@ -49,18 +66,51 @@ impl<M: Monoid> AggTree<M> for FlatTree<M> {
         Ok(())
     }
 
-    fn insert<L>(&mut self, key: u64, value: M, _probes: &mut Probes, _steps: &mut Steps<L>) {
+    /// Puts a value under a key that isn't there, behind those with lower keys. No step.
+    fn insert<L>(&mut self, key: u64, value: M, probes: &mut Probes, steps: &mut Steps<L>)
+        requires absent { has_key key self.old.pairs ≡ false }
+        requires room { 1 ≤ self.old.spare }
+        ensures inserted { self.new.pairs ≡ inserted key value self.old.pairs }
+        ensures rising { AreRising self.new.pairs }
+        ensures spare { self.new.spare + 1 ≡ self.old.spare }
+        ensures reach { length self.new.pairs ≤ length self.old.pairs + 1 }
+        ensures probes { probes.old ≤ probes.new }
+        ensures cost { steps.new ≤ steps.old + 64 * (length self.old.pairs + 2) }
+        ensures no_step { steps.new ≡ steps.old }
+    {
         let at = place_of(&self.pairs, key);
         self.pairs.insert(at, (key, value)).unwrap();
     }
 
-    fn set<L>(&mut self, key: u64, value: M, _probes: &mut Probes, _steps: &mut Steps<L>) {
+    /// Puts another value under a key that is there. No step.
+    fn set<L>(&mut self, key: u64, value: M, probes: &mut Probes, steps: &mut Steps<L>)
+        requires { IsTrue (has_key key self.old.pairs) }
+        ensures replaced { self.new.pairs ≡ replaced key value self.old.pairs }
+        ensures rising { AreRising self.new.pairs }
+        ensures spare { self.old.spare ≤ self.new.spare }
+        ensures reach { length self.new.pairs ≤ length self.old.pairs }
+        ensures probes { probes.old ≤ probes.new }
+        ensures cost { steps.new ≤ steps.old + 64 * (length self.old.pairs + 2) }
+        ensures no_step { steps.new ≡ steps.old }
+    {
         if let Some(at) = index_of(&self.pairs, key) {
             self.pairs[at] = (key, value);
         }
     }
 
-    fn remove<L>(&mut self, key: u64, _probes: &mut Probes, _steps: &mut Steps<L>) -> Option<M> {
+    /// Takes out the pair with this key and gives its value, `None` exactly where there is none. No
+    /// step.
+    fn remove<L>(&mut self, key: u64, probes: &mut Probes, steps: &mut Steps<L>) -> Option<M>
+        ensures value { result ≡ value_at key self.old.pairs }
+        ensures none { (result ≡ None) ↔ (has_key key self.old.pairs ≡ false) }
+        ensures rest { self.new.pairs ≡ without key self.old.pairs }
+        ensures rising { AreRising self.new.pairs }
+        ensures spare { self.old.spare ≤ self.new.spare }
+        ensures reach { length self.new.pairs ≤ length self.old.pairs }
+        ensures probes { probes.old ≤ probes.new }
+        ensures cost { steps.new ≤ steps.old + 64 * (length self.old.pairs + 2) }
+        ensures no_step { steps.new ≡ steps.old }
+    {
         let at = index_of(&self.pairs, key)?;
         Some(self.pairs.remove(at).1)
     }
@@ -70,7 +120,7 @@ impl<M: Monoid> AggTree<M> for FlatTree<M> {
     }
 
     fn fold_range<L>(&self, low: u64, high: u64, _probes: &mut Probes, steps: &mut Steps<L>) -> M {
-        fold_pairs(range_of(&self.pairs, low, high), steps)
+        fold_pairs(M::unit(), range_of(&self.pairs, low, high), steps)
     }
 
     fn len(&self) -> u64 {
@@ -120,12 +170,12 @@ fn range_of<M>(pairs: &[(u64, M)], low: u64, high: u64) -> &[(u64, M)]
     &below[place_of(below, low)..]
 }
 
-// The values combined in the order of keys, one step each.
-fn fold_pairs<M: Monoid, L>(pairs: &[(u64, M)], steps: &mut Steps<L>) -> M
-    ensures value { result ≡ total M.empty M.op (values_of pairs.now) }
+// A sum with the values behind it, in the order of keys, one step each.
+fn fold_pairs<M: Monoid, L>(sum: M, pairs: &[(u64, M)], steps: &mut Steps<L>) -> M
+    ensures value { result ≡ fold M.op sum (values_of pairs.now) }
     ensures cost { steps.new ≤ steps.old + length pairs.now }
 {
-    let mut sum = M::unit();
+    let mut sum = sum;
     for pair in pairs {
         sum = sum.combine(&pair.1, steps);
     }

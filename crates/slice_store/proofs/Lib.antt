@@ -13,4 +13,4 @@ pub mod FoldFacts
 pub mod SplitFacts
 pub mod MarkFacts
 pub mod LeaveFacts
-mod BesideFacts
+mod RowFacts

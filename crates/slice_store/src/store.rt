@@ -1,5 +1,5 @@
 //! The store of a key's slices.
-ghost use Rattle.std.specs.Prelude.{◌≡◌, ◌≤◌, ◌<◌, ◌+◌, ◌*◌, List, [], length, filter, find, map, max, nat_le, nat_lt, OnOk, All, FitsSigned, true};
+ghost use Rattle.std.specs.Prelude.{◌≡◌, ◌≤◌, ◌<◌, ◌+◌, ◌*◌, ℕ, List, [], length, filter, find, map, max, nat_le, nat_lt, OnOk, All, FitsSigned, true};
 ghost use Rattle.std.specs.Int.{w64};
 ghost use Rattle.std.specs.BTreeSet.{insert_key};
 ghost use Rattle.std.specs.List.{flat_map, list_any};
@@ -12,6 +12,7 @@ ghost use Rattle.stream_base.specs.Model.Journal.{put_in_order};
 ghost use Rattle.stream_base.specs.Model.Windows.{first_time, last_time, within};
 ghost use Rattle.agg_laws.specs.Bundled.{bundle_of};
 ghost use Rattle.window_laws.specs.Runs.{IsAligned, parted_at, runs_within};
+ghost use Rattle.slice_store.specs.Apart.{IsReachOver};
 ghost use Rattle.slice_store.specs.Entered.{IsPut, is_across, is_last, marks_left, placed_in, slices_from, slices_near};
 ghost use Rattle.slice_store.specs.Slices.{joined, kept_at, slice_of, values_of};
 ghost use Rattle.slice_store.specs.Stored.{IsAsBefore, IsSliced, IsStore, tuples_of};
@@ -30,9 +31,11 @@ use std::alloc::Global;
 use std::marker::Model;
 use stream_base::{Defs, Kept, NoMemory};
 
-/// The slices of one key, with a partial aggregate for each in a tree. Contracts see the slices as
-/// lists of tuples, the marks, up to which time slices were dropped, and for how many more tuples or
-/// marks there is room; they see what the bounds on steps go by, which is the reach of the tree.
+/// The slices of one key, with a partial aggregate for each: those of the newest slices in a row, and
+/// the others in a tree. Contracts see the slices as lists of tuples, the marks, up to which time
+/// slices were dropped, and for how many more tuples or marks there is room; they see what the bounds
+/// on steps go by, which is the reach of the tree, or that of a tree which folds as fast as the row,
+/// whichever is greater.
 ///
 /// The definitions that a call is handed are those of every call before it: that the slices are
 /// theirs is a condition of `put` and `mark`, and each of them says it again.
@@ -177,7 +180,9 @@ impl<T: AggTree<Bundle>> SliceStore<T> {
         ensures count { result ≡ length self.now.slices }
         ensures holds { IsStore self.now }
         ensures ends { All (λ run. last_time run ≤ TIME_MAX) self.now.slices }
+        ensures reach { IsReachOver T.bounded (length self.now.slices) self.now.reach }
     {
+        self.partials.vouch();
         self.runs.len() as u64
     }
 
