@@ -1,10 +1,10 @@
 -- How many tuples have a time at or before another: where that parts a list whose times don't fall.
-use Rattle.std.proofs.Common.{◌≡◌, ◌≢◌, ◌∙◌, ℕ, zero, suc, ◌+◌, ◌-◌, ◌<◌, ◌≤◌, Bool, true, false, cond, List, [], ◌∷◌, ◌++◌, length, take, drop, get_or, ap, sym, refl, arith, ⊎_elim}
+use Rattle.std.proofs.Common.{◌≡◌, ◌≢◌, ◌∙◌, ℕ, zero, suc, ◌+◌, ◌-◌, ◌<◌, ◌≤◌, Bool, true, false, cond, List, [], ◌∷◌, ◌++◌, length, take, drop, get_or, ap, sym, subst, refl, arith, ⊎_elim}
 use Rattle.std.specs.Prelude.{◌⊎◌, pos, nat_le, nat_lt, insert}
 use Rattle.std.specs.List.{All, position_or_len, remove}
 use Rattle.std.specs.List.Sorted.{IsPartitionPoint}
 use Rattle.std.proofs.lemmas.Bool.{leb-true, leb-false, lt-ltb, le-ltb, cases_lt, cases_eq}
-use Rattle.std.proofs.lemmas.List.{length-take-le, take_at, drop_at, drop-drop, take-append-drop}
+use Rattle.std.proofs.lemmas.List.{get_or-drop, get_or-take, get_or_default, length-drop, length-take, length-take-le, take_at, drop_at, drop-drop, take-append-drop}
 use Rattle.std.proofs.lemmas.List.Edits.{length-insert, get_or-insert_below, get_or-insert_at, get_or-insert_above}
 use Rattle.std.proofs.lemmas.List.Sums.{sum_by-cons, sum_by-insert, position_or_len_is}
 use Rattle.stream_base.specs.declared.kept.Kept.{Kept}
@@ -79,6 +79,109 @@ found_upper kept time n h le point =
     parts_once kept time n (upper kept time)
     (record { within = le; before = λ k d l. leb-true (get_or kept k d).time time (point.0 k d (omega arith) l); behind = λ k d le' l. leb-false (get_or kept k d).time time (point.1 k d le' l) })
     (parts_at_upper kept time h)
+
+-- times don't fall in a part of the list
+pub times_behind : (kept : List Kept) (far : ℕ) → TimesDoNotFall kept → TimesDoNotFall (drop far kept)
+times_behind kept far h i j d le l =
+    let short : far + j < length kept = omega (arith, length-drop far kept, l) in
+    rw (get_or-drop far kept i d, get_or-drop far kept j d) (h (far + i) (far + j) d (omega arith) short)
+
+pub times_before : (kept : List Kept) (far : ℕ) → TimesDoNotFall kept → TimesDoNotFall (take far kept)
+times_before kept far h i j d le l =
+    let short : (j < far) × (j < length kept) = short_take in
+    rw (get_or-take far kept i d (omega (arith, short.0)), get_or-take far kept j d short.0) (h i j d le short.1)
+  where
+    short_take : (j < far) × (j < length kept)
+    short_take = let e = length-take far kept in (omega (arith, e, l), omega (arith, e, l))
+
+-- where the last tuples begin at or before a time, it parts them, and all tuples so many places further on
+pub upper_near : (kept : List Kept) (time far : ℕ) (d : Kept) → TimesDoNotFall kept → far < length kept → (get_or kept far d).time ≤ time → far + upper (drop far kept) time ≡ upper kept time
+upper_near kept time far d h le early =
+    parts_once kept time (far + n) (upper kept time) (record { within = omega (arith, p.within, length-drop far kept); before = front; behind = back }) (parts_at_upper kept time h)
+  where
+    n : ℕ
+    n = upper (drop far kept) time
+
+    p : PartsAt (drop far kept) time (upper (drop far kept) time)
+    p = parts_at_upper (drop far kept) time (times_behind kept far h)
+
+    front : (k : ℕ) (d : Kept) → k < far + n → (get_or kept k d).time ≤ time
+    front k e l = ⊎_elim (λ lt. early_one lt) (λ ge. near_one ge) (cases_lt k far)
+      where
+        early_one : k < far → (get_or kept k e).time ≤ time
+        early_one lt =
+            let a : (get_or kept k e).time ≤ (get_or kept far e).time = h k far e (omega arith) le in
+            let same : get_or kept far e ≡ get_or kept far d = get_or_default kept far e d le in
+            let b : (get_or kept far e).time ≤ time = rw same early in
+            omega (arith, a, b)
+
+        near_one : far ≤ k → (get_or kept k e).time ≤ time
+        near_one ge =
+            let there : (get_or (drop far kept) (k - far) e).time ≤ time = p.before (k - far) e (omega arith) in
+            let at : far + (k - far) ≡ k = omega arith in
+            rw (← ap (λ m. get_or kept m e) at) (rw (← get_or-drop far kept (k - far) e) there)
+
+    back : (k : ℕ) (d : Kept) → far + n ≤ k → k < length kept → time < (get_or kept k d).time
+    back k e ge l =
+        let there : time < (get_or (drop far kept) (k - far) e).time = p.behind (k - far) e (omega arith) (omega (arith, length-drop far kept)) in
+        let at : far + (k - far) ≡ k = omega arith in
+        rw (← ap (λ m. get_or kept m e) at) (rw (← get_or-drop far kept (k - far) e) there)
+
+-- and where they begin behind it, it parts those before them
+pub upper_far : (kept : List Kept) (time far : ℕ) (d : Kept) → TimesDoNotFall kept → far ≤ length kept → (far < length kept → time < (get_or kept far d).time) → upper (take far kept) time ≡ upper kept time
+upper_far kept time far d h le late =
+    parts_once kept time n (upper kept time) (record { within = omega (arith, p.within, length-take-le far kept le); before = front; behind = back }) (parts_at_upper kept time h)
+  where
+    n : ℕ
+    n = upper (take far kept) time
+
+    len : length (take far kept) ≡ far
+    len = length-take-le far kept le
+
+    p : PartsAt (take far kept) time (upper (take far kept) time)
+    p = parts_at_upper (take far kept) time (times_before kept far h)
+
+    front : (k : ℕ) (d : Kept) → k < n → (get_or kept k d).time ≤ time
+    front k e l = rw (← get_or-take far kept k e (omega (arith, p.within, len))) (p.before k e l)
+
+    back : (k : ℕ) (d : Kept) → n ≤ k → k < length kept → time < (get_or kept k d).time
+    back k e ge l = ⊎_elim (λ lt. far_one lt) (λ ge. near_one ge) (cases_lt k far)
+      where
+        far_one : k < far → time < (get_or kept k e).time
+        far_one lt = rw (← get_or-take far kept k e lt) (p.behind k e ge (omega (arith, len)))
+
+        near_one : far ≤ k → time < (get_or kept k e).time
+        near_one past =
+            let there : far < length kept = omega arith in
+            let same : get_or kept far e ≡ get_or kept far d = get_or_default kept far e d there in
+            let a : time < (get_or kept far e).time = rw same (late there) in
+            let b : (get_or kept far e).time ≤ (get_or kept k e).time = h far k e past l in
+            omega (arith, a, b)
+
+-- the same of a list that is split in two
+pub upper_of_near : (kept near : List Kept) (time far n : ℕ) → TimesDoNotFall kept → near ≡ drop far kept → (0 < length near) × ((d : Kept) → (get_or near 0 d).time ≤ time) → n ≡ upper near time
+    → far + n ≡ upper kept time
+upper_of_near kept near time far n h is first value =
+    let none : Kept = kept_at 0 0 (pos 0) in
+    let some : 0 < length (drop far kept) = subst (λ l. 0 < length l) is first.0 in
+    let head : (get_or (drop far kept) 0 none).time ≤ time = subst (λ l. (get_or l 0 none).time ≤ time) is (first.1 none) in
+    let early : (get_or kept (far + 0) none).time ≤ time = subst (λ x. x.time ≤ time) (get_or-drop far kept 0 none) head in
+    let early' : (get_or kept far none).time ≤ time = subst (λ k. (get_or kept k none).time ≤ time) (omega arith) early in
+    ap (λ m. far + m) (value ∙ ap (λ l. upper l time) is) ∙ upper_near kept time far none h (omega (arith, some, length-drop far kept)) early'
+
+pub upper_of_far : (kept front near : List Kept) (time far n : ℕ) → TimesDoNotFall kept → far ≤ length kept → front ≡ take far kept → near ≡ drop far kept
+    → (0 < length near → (d : Kept) → time < (get_or near 0 d).time) → n ≡ upper front time → n ≡ upper kept time
+upper_of_far kept front near time far n h le is behind first value =
+    let none : Kept = kept_at 0 0 (pos 0) in
+    value ∙ ap (λ l. upper l time) is ∙ upper_far kept time far none h le (λ lt. late none lt)
+  where
+    late : (d : Kept) → far < length kept → time < (get_or kept far d).time
+    late d lt =
+        let some : 0 < length (drop far kept) = omega (arith, length-drop far kept) in
+        let some' : 0 < length near = subst (λ l. 0 < length l) (sym behind) some in
+        let head : time < (get_or (drop far kept) 0 d).time = subst (λ l. time < (get_or l 0 d).time) behind (first some' d) in
+        let there : time < (get_or kept (far + 0) d).time = subst (λ x. time < x.time) (get_or-drop far kept 0 d) head in
+        subst (λ k. time < (get_or kept k d).time) (omega arith) there
 
 -- a tuple is put there, behind those of its time
 pub rank_is_upper : (kept : List Kept) (x : Kept) → TimesDoNotFall kept → position_or_len (λ y. nat_lt x.time y.time) kept ≡ upper kept x.time

@@ -1,12 +1,43 @@
 //! Ranks of times among tuples in event order.
-ghost use Rattle.std.specs.Prelude.{◌≡◌, ◌≤◌, length};
+ghost use Rattle.std.specs.Prelude.{◌≡◌, ◌≤◌, ◌<◌, length, slice_index_or, true, false};
+ghost use Rattle.stream_base.specs.declared.kept.Kept.{Kept};
 ghost use Rattle.stream_base.specs.Laws.{TimesDoNotFall};
 ghost use Rattle.count_shift.specs.Counting.{upper, upper_after};
 
 use stream_base::Kept;
 
+// So many tuples at the end are searched by themselves: most searches lead there.
+const NEAR: usize = 64;
+
 // How many tuples have a time at or before this one, found by halves.
 pub fn upper(items: &[Kept], time: u64) -> usize
+    requires { TimesDoNotFall items.now }
+    ensures value { result ≡ upper items.now time }
+    ensures within { result ≤ length items.now }
+{
+    let far = items.len().saturating_sub(NEAR);
+    let (before, near) = items.split_at(far);
+    if starts_by(near, time) {
+        far + upper_by_halves(near, time)
+    } else {
+        upper_by_halves(before, time)
+    }
+}
+
+// Whether there is a first tuple, and it has a time at or before this one.
+fn starts_by(items: &[Kept], time: u64) -> bool
+    ensures yes { result ≡ true → (0 < length items.now)
+        × ((d : Kept) → (slice_index_or items.now 0 d).time ≤ time) }
+    ensures no { result ≡ false → 0 < length items.now
+        → (d : Kept) → time < (slice_index_or items.now 0 d).time }
+{
+    match items.first() {
+        Some(x) => x.time <= time,
+        None => false,
+    }
+}
+
+fn upper_by_halves(items: &[Kept], time: u64) -> usize
     requires { TimesDoNotFall items.now }
     ensures value { result ≡ upper items.now time }
     ensures within { result ≤ length items.now }

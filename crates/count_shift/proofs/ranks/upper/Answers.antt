@@ -1,15 +1,12 @@
--- The test of the search turns behind the last tuple at or before the time.
-use Rattle.std.proofs.Common.{rules}
-use Rattle.std.specs.Prelude.{nat_le}
-use Rattle.std.proofs.lemmas.List.Sorted.{IsPartitionPoint-from_clause, IsPartitionedBy-leb}
-use Rattle.count_shift.proofs.Upper.{found_upper}
+-- The last tuples are searched where they begin at or before the time, and else those before them.
+use Rattle.std.proofs.Common.{arith}
+use Rattle.count_shift.proofs.Upper.{upper_of_far, upper_of_near}
 use Rattle.count_shift.proofs.ranks.upper.Goals as goal
 
-pub returns-clause-value : goal.returns-clause-value
-returns-clause-value c =
-    let items = c.args.items.now in
-    let time = c.args.time in
-    let at = c.partition_point.result in
-    let parted = IsPartitionedBy-leb (λ x. x.time) items time c.requires in
-    let point = IsPartitionPoint-from_clause (λ x. nat_le x.time time) items at c.partition_point.ensures.partitioned parted (λ a r q k. search rules) in
-    found_upper items time at c.requires c.partition_point.ensures.bound point
+pub returns-then-starts_by-clause-value : goal.returns-then-starts_by-clause-value
+returns-then-starts_by-clause-value c =
+    upper_of_near c.args.items.now c.split_at.result.1.now c.args.time c.saturating_sub-far.result c.upper_by_halves.result c.requires c.split_at.ensures.back (c.starts_by.ensures.yes c.if-starts_by.true) c.upper_by_halves.ensures.value
+
+pub returns-else-starts_by-clause-value : goal.returns-else-starts_by-clause-value
+returns-else-starts_by-clause-value c =
+    upper_of_far c.args.items.now c.split_at.result.0.now c.split_at.result.1.now c.args.time c.saturating_sub-far.result c.upper_by_halves-else-starts_by.result c.requires (omega (arith, c.saturating_sub-far.ensures)) c.split_at.ensures.front c.split_at.ensures.back (c.starts_by.ensures.no c.if-starts_by.false) c.upper_by_halves-else-starts_by.ensures.value
