@@ -39,7 +39,7 @@ pub fn apply<M: Monoid, L>(
     ensures looks { probes.new ≤ probes.old + 12 * below + 1 }
     ensures cost { steps.new ≤ steps.old + 8 * below }
 {
-    let open = nodes.get(at, probes).opened();
+    let open = nodes.peek(at, probes).opened();
     if below == 0 {
         return leaf_applied(&open, &change);
     }
@@ -77,6 +77,37 @@ pub fn apply<M: Monoid, L>(
         open,
         taken: Some(old),
     }
+}
+
+/// Makes a change as `apply` does. A leaf is changed without the space on the stack that a way down
+/// takes, which is filled with zeros at each call.
+pub fn apply_low<M: Monoid, L>(
+    nodes: &mut Nodes<M>,
+    at: usize,
+    below: u32,
+    place: Place,
+    change: Change<M>,
+    probes: &mut Probes,
+    steps: &mut Steps<L>,
+) -> Applied<M>
+    requires { CanApply M.is_value M.empty M.op nodes.old at below place.left place.right change }
+    ensures applied { IsApplied M.is_value M.empty M.op nodes.old nodes.new at below
+        place.left place.right change result.taken (listed result.open.slots) result.open.last }
+    ensures some { 1 ≤ growth change → 1 ≤ length (listed result.open.slots) }
+    ensures spare { nodes.old.spare ≤ nodes.new.spare + below }
+    ensures grows { 1 ≤ growth change → nodes.new.spare ≤ nodes.old.spare }
+    ensures paid { IsPaid change (full_nodes nodes.old) (full_nodes nodes.new)
+        nodes.old.spare nodes.new.spare (held (look nodes.old at))
+        (length (listed result.open.slots)) }
+    ensures probes { probes.old ≤ probes.new }
+    ensures looks { probes.new ≤ probes.old + 12 * below + 1 }
+    ensures cost { steps.new ≤ steps.old + 8 * below }
+{
+    if below != 0 {
+        return apply(nodes, at, below, place, change, probes, steps);
+    }
+    let open = nodes.peek(at, probes).opened();
+    leaf_applied(&open, &change)
 }
 
 // The item at a place of a node that isn't a leaf, if the change is about it. The first item of

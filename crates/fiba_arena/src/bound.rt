@@ -33,7 +33,7 @@ impl Bound {
         ensures { IsPlace (is_under self) (listed slots.now) result }
     {
         for i in 0..slots.len() {
-            if !self.is_over(slots.get(i).item.key) {
+            if !self.is_over(slots.peek(i).item.key) {
                 return i;
             }
         }

@@ -16,7 +16,7 @@ pub fn rank<M: Copy>(slots: &Row<Slot<M>>, change: &Change<M>) -> usize
     ensures { IsRank change.now (listed slots.now) result }
 {
     for i in 0..slots.len() {
-        if !change.is_behind(slots.get(i).item.key) {
+        if !change.is_behind(slots.peek(i).item.key) {
             return i;
         }
     }
@@ -32,9 +32,9 @@ pub fn met<M: Copy>(slots: &Row<Slot<M>>, at: usize, change: &Change<M>) -> Opti
     if slots.len() <= at {
         return None;
     }
-    let item = slots.get(at).item;
-    if change.meets(item.key) {
-        Some(item)
+    let slot = slots.peek(at);
+    if change.meets(slot.item.key) {
+        Some(slot.item)
     } else {
         None
     }
@@ -71,20 +71,20 @@ fn leaf_with<M: Copy>(open: &Open<M>, at: usize, item: Option<Item<M>>, rest: us
     ensures { listed result.slots ≡ take at (listed open.now.slots) ++ leaf_slots item
         ++ drop rest (listed open.now.slots) }
 {
-    let front = with_item(open.slots.first(at), item);
+    let front = with_item(&open.slots.first(at), item);
     Open {
-        slots: front.joined(open.slots.rest(rest)),
+        slots: front.joined(&open.slots.rest(rest)),
         last: 0,
     }
 }
 
 // A row of a leaf, and an item behind it if there is one.
-fn with_item<M: Copy>(slots: Row<Slot<M>>, item: Option<Item<M>>) -> Row<Slot<M>>
-    requires { length (listed slots) ≤ 3 }
-    ensures { listed result ≡ listed slots ++ leaf_slots item }
+fn with_item<M: Copy>(slots: &Row<Slot<M>>, item: Option<Item<M>>) -> Row<Slot<M>>
+    requires { length (listed slots.now) ≤ 3 }
+    ensures { listed result ≡ listed slots.now ++ leaf_slots item }
 {
     match item {
         Some(item) => slots.pushed(Slot { kid: 0, item }),
-        None => slots,
+        None => *slots,
     }
 }

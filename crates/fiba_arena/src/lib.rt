@@ -36,7 +36,7 @@ mod tree;
 mod writing;
 
 pub use applied::Applied;
-pub use applying::apply;
+pub use applying::{apply, apply_low};
 pub use bound::Bound;
 pub use change::Change;
 pub use changed::Changed;

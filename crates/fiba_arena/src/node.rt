@@ -1,5 +1,6 @@
-ghost use Rattle.std.specs.Prelude.{◌≡◌, ◌≤◌, length};
+ghost use Rattle.std.specs.Prelude.{◌≡◌, ◌≤◌, ◌-◌, Some, length, slice_get};
 ghost use Rattle.fiba_arena.specs.Rows.{listed, slots_of, last_of, plain_node};
+ghost use Rattle.fiba_arena.specs.Kids.{kid_of};
 
 use crate::item::Item;
 use crate::open::Open;
@@ -31,24 +32,24 @@ impl<M: Copy> Node<M> {
             kid: self.kids[0],
             item: self.first,
         };
-        match (self.second, self.third) {
+        match (&self.second, &self.third) {
             (None, _) => Row::One(first),
             (Some(item), None) => Row::Two(
                 first,
                 Slot {
                     kid: self.kids[1],
-                    item,
+                    item: *item,
                 },
             ),
             (Some(item), Some(third)) => Row::Three(
                 first,
                 Slot {
                     kid: self.kids[1],
-                    item,
+                    item: *item,
                 },
                 Slot {
                     kid: self.kids[2],
-                    item: third,
+                    item: *third,
                 },
             ),
         }
@@ -59,11 +60,32 @@ impl<M: Copy> Node<M> {
         requires { length self.now.kids ≡ 4 }
         ensures { result ≡ last_of self.now }
     {
-        match (self.second, self.third) {
+        match (&self.second, &self.third) {
             (None, _) => self.kids[1],
             (Some(_), None) => self.kids[2],
             (Some(_), Some(_)) => self.kids[3],
         }
+    }
+
+    /// The last item, with the child before it.
+    pub fn last_slot(&self) -> Slot<M>
+        requires { length self.now.kids ≡ 4 }
+        ensures { slice_get (slots_of self.now) (length (slots_of self.now) - 1) ≡ Some result }
+    {
+        let (kid, item) = match (&self.second, &self.third) {
+            (None, _) => (self.kids[0], self.first),
+            (Some(item), None) => (self.kids[1], *item),
+            (Some(_), Some(item)) => (self.kids[2], *item),
+        };
+        Slot { kid, item }
+    }
+
+    /// The child before the first item.
+    pub fn first_kid(&self) -> usize
+        requires { length self.now.kids ≡ 4 }
+        ensures { result ≡ kid_of (slots_of self.now) (last_of self.now) 0 }
+    {
+        self.kids[0]
     }
 
     /// The node's items and children.
@@ -80,11 +102,11 @@ impl<M: Copy> Node<M> {
     }
 
     /// The node with these items and children.
-    pub fn made(slots: Row<Slot<M>>, last: usize, leaf: bool, up: Option<usize>, agg: M) -> Node<M>
-        requires some { 1 ≤ length (listed slots) }
-        requires few { length (listed slots) ≤ 3 }
+    pub fn made(slots: &Row<Slot<M>>, last: usize, leaf: bool, up: Option<usize>, agg: M) -> Node<M>
+        requires some { 1 ≤ length (listed slots.now) }
+        requires few { length (listed slots.now) ≤ 3 }
         ensures plain { plain_node result ≡ record {
-          slots = listed slots;
+          slots = listed slots.now;
           last = last;
           agg = agg;
           leaf = leaf;

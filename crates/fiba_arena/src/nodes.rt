@@ -1,6 +1,7 @@
 ghost use Rattle.std.specs.Prelude.{◌≡◌, ◌≤◌, ◌+◌, ℕ, OnOk, None, Some, IsSome, length};
 ghost use Rattle.agg_laws.specs.Counters.{next_count};
 ghost use Rattle.fiba_arena.specs.Stores.{Puts, look};
+ghost use Rattle.fiba_arena.specs.Links.{IsAdopted};
 
 use crate::node::Node;
 use agg_laws::Probes;
@@ -80,6 +81,21 @@ impl<M: Copy> Nodes<M> {
         node
     }
 
+    /// The node under a number, where it stands. One probe.
+    pub fn peek(&self, at: usize, probes: &mut Probes) -> &Node<M>
+        requires { IsSome (look self.now at) }
+        ensures found { look self.now at ≡ Some result.now }
+        ensures kids { length result.now.kids ≡ 4 }
+        ensures counted { probes.new ≡ next_count probes.old }
+        ensures rises { probes.old ≤ probes.new }
+        ensures looks { probes.new ≤ probes.old + 1 }
+    {
+        probes.look();
+        let node = &self.slab[at];
+        has_four(&node.kids);
+        node
+    }
+
     /// Another node under a number.
     pub fn set(&mut self, at: usize, node: Node<M>)
         requires { IsSome (look self.old at) }
@@ -87,6 +103,14 @@ impl<M: Copy> Nodes<M> {
         ensures spare { self.new.spare ≡ self.old.spare }
     {
         self.slab[at] = node;
+    }
+
+    /// Gives the node under a number another parent.
+    pub fn adopt(&mut self, kid: usize, at: usize)
+        requires { IsSome (look self.old kid) }
+        ensures { IsAdopted self.old self.new kid at }
+    {
+        self.slab[kid].up = Some(at);
     }
 
     /// Takes the node under a number out.

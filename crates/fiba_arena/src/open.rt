@@ -21,7 +21,7 @@ impl<M: Copy> Open<M> {
         ensures { result ≡ kid_of (listed self.now.slots) self.now.last at }
     {
         if at < self.slots.len() {
-            self.slots.get(at).kid
+            self.slots.peek(at).kid
         } else {
             self.last
         }
@@ -49,17 +49,17 @@ impl<M: Copy> Open<M> {
     {
         if self.slots.len() <= at {
             return Open {
-                slots: self.slots.joined(nodes.slots),
+                slots: self.slots.joined(&nodes.slots),
                 last: nodes.last,
             };
         }
         let behind = Slot {
             kid: nodes.last,
-            item: self.slots.get(at).item,
+            item: self.slots.peek(at).item,
         };
-        let front = self.slots.first(at).joined(nodes.slots);
+        let front = self.slots.first(at).joined(&nodes.slots);
         Open {
-            slots: front.pushed(behind).joined(self.slots.rest(at + 1)),
+            slots: front.pushed(behind).joined(&self.slots.rest(at + 1)),
             last: self.last,
         }
     }
@@ -70,7 +70,7 @@ impl<M: Copy> Open<M> {
         ensures slots { listed result.slots ≡ thinned (listed self.now.slots) at }
         ensures last { result.last ≡ thinned_last (listed self.now.slots) self.now.last at }
     {
-        let kid = self.slots.get(at).kid;
+        let kid = self.slots.peek(at).kid;
         let front = self.slots.first(at);
         if at + 1 == self.slots.len() {
             return Open {
@@ -78,11 +78,11 @@ impl<M: Copy> Open<M> {
                 last: kid,
             };
         }
-        let item = self.slots.get(at + 1).item;
+        let item = self.slots.peek(at + 1).item;
         Open {
             slots: front
                 .pushed(Slot { kid, item })
-                .joined(self.slots.rest(at + 2)),
+                .joined(&self.slots.rest(at + 2)),
             last: self.last,
         }
     }
@@ -93,13 +93,13 @@ impl<M: Copy> Open<M> {
         ensures slots { listed result.slots ≡ with_item (listed self.now.slots) at item }
         ensures last { result.last ≡ self.now.last }
     {
-        let kid = self.slots.get(at).kid;
+        let kid = self.slots.peek(at).kid;
         Open {
             slots: self
                 .slots
                 .first(at)
                 .pushed(Slot { kid, item })
-                .joined(self.slots.rest(at + 1)),
+                .joined(&self.slots.rest(at + 1)),
             last: self.last,
         }
     }

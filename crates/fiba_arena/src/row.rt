@@ -31,7 +31,15 @@ impl<T: Copy> Row<T> {
         requires { at < length (listed self.now) }
         ensures { slice_get (listed self.now) at ≡ Some result }
     {
-        match *self {
+        *self.peek(at)
+    }
+
+    /// The one at a place, where it stands.
+    pub fn peek(&self, at: usize) -> &T
+        requires { at < length (listed self.now) }
+        ensures { slice_get (listed self.now) at ≡ Some result.now }
+    {
+        match self {
             Row::Empty => unreachable!(),
             Row::One(a) => a,
             Row::Two(a, b) => { if at == 0 { a } else { b } }
@@ -50,75 +58,69 @@ impl<T: Copy> Row<T> {
     }
 
     /// The row with one more at its end.
-    pub fn pushed(self, last: T) -> Row<T>
-        requires { length (listed self) < 4 }
-        ensures { listed result ≡ listed self ++ last ∷ [] }
+    pub fn pushed(&self, last: T) -> Row<T>
+        requires { length (listed self.now) < 4 }
+        ensures { listed result ≡ listed self.now ++ last ∷ [] }
     {
         match self {
             Row::Empty => Row::One(last),
-            Row::One(a) => Row::Two(a, last),
-            Row::Two(a, b) => Row::Three(a, b, last),
-            Row::Three(a, b, c) => Row::Four(a, b, c, last),
+            Row::One(a) => Row::Two(*a, last),
+            Row::Two(a, b) => Row::Three(*a, *b, last),
+            Row::Three(a, b, c) => Row::Four(*a, *b, *c, last),
             Row::Four(..) => unreachable!(),
         }
     }
 
     /// The row and then another one.
-    pub fn joined(self, behind: Row<T>) -> Row<T>
-        requires { length (listed self) + length (listed behind) ≤ 4 }
-        ensures { listed result ≡ listed self ++ listed behind }
+    pub fn joined(&self, behind: &Row<T>) -> Row<T>
+        requires { length (listed self.now) + length (listed behind.now) ≤ 4 }
+        ensures { listed result ≡ listed self.now ++ listed behind.now }
     {
-        match behind {
-            Row::Empty => self,
-            Row::One(a) => self.pushed(a),
-            Row::Two(a, b) => self.pushed(a).pushed(b),
-            Row::Three(a, b, c) => self.pushed(a).pushed(b).pushed(c),
-            Row::Four(a, b, c, d) => self.pushed(a).pushed(b).pushed(c).pushed(d),
-        }
-    }
-
-    /// The row without its first one.
-    pub fn tail(self) -> Row<T>
-        ensures { listed result ≡ drop 1 (listed self) }
-    {
-        match self {
-            Row::Empty => Row::Empty,
-            Row::One(_) => Row::Empty,
-            Row::Two(_, b) => Row::One(b),
-            Row::Three(_, b, c) => Row::Two(b, c),
-            Row::Four(_, b, c, d) => Row::Three(b, c, d),
+        match (self, behind) {
+            (Row::Empty, _) => *behind,
+            (_, Row::Empty) => *self,
+            (Row::One(a), Row::One(b)) => Row::Two(*a, *b),
+            (Row::One(a), Row::Two(b, c)) => Row::Three(*a, *b, *c),
+            (Row::One(a), Row::Three(b, c, d)) => Row::Four(*a, *b, *c, *d),
+            (Row::Two(a, b), Row::One(c)) => Row::Three(*a, *b, *c),
+            (Row::Two(a, b), Row::Two(c, d)) => Row::Four(*a, *b, *c, *d),
+            (Row::Three(a, b, c), Row::One(d)) => Row::Four(*a, *b, *c, *d),
+            _ => unreachable!(),
         }
     }
 
     /// The first few of the row.
-    pub fn first(self, count: usize) -> Row<T>
-        ensures { listed result ≡ take count (listed self) }
+    pub fn first(&self, count: usize) -> Row<T>
+        ensures { listed result ≡ take count (listed self.now) }
     {
         match (self, count) {
             (Row::Empty, _) => Row::Empty,
             (_, 0) => Row::Empty,
-            (Row::One(a), _) => Row::One(a),
-            (Row::Two(a, _), 1) => Row::One(a),
-            (Row::Two(a, b), _) => Row::Two(a, b),
-            (Row::Three(a, _, _), 1) => Row::One(a),
-            (Row::Three(a, b, _), 2) => Row::Two(a, b),
-            (Row::Three(a, b, c), _) => Row::Three(a, b, c),
-            (Row::Four(a, _, _, _), 1) => Row::One(a),
-            (Row::Four(a, b, _, _), 2) => Row::Two(a, b),
-            (Row::Four(a, b, c, _), 3) => Row::Three(a, b, c),
-            (Row::Four(a, b, c, d), _) => Row::Four(a, b, c, d),
+            (Row::One(a), _) => Row::One(*a),
+            (Row::Two(a, _), 1) => Row::One(*a),
+            (Row::Two(a, b), _) => Row::Two(*a, *b),
+            (Row::Three(a, _, _), 1) => Row::One(*a),
+            (Row::Three(a, b, _), 2) => Row::Two(*a, *b),
+            (Row::Three(a, b, c), _) => Row::Three(*a, *b, *c),
+            (Row::Four(a, _, _, _), 1) => Row::One(*a),
+            (Row::Four(a, b, _, _), 2) => Row::Two(*a, *b),
+            (Row::Four(a, b, c, _), 3) => Row::Three(*a, *b, *c),
+            (Row::Four(a, b, c, d), _) => Row::Four(*a, *b, *c, *d),
         }
     }
 
     /// The row from a place on.
-    pub fn rest(self, from: usize) -> Row<T>
-        ensures { listed result ≡ drop from (listed self) }
+    pub fn rest(&self, from: usize) -> Row<T>
+        ensures { listed result ≡ drop from (listed self.now) }
     {
-        match from {
-            0 => self,
-            1 => self.tail(),
-            2 => self.tail().tail(),
-            3 => self.tail().tail().tail(),
+        match (self, from) {
+            (_, 0) => *self,
+            (Row::Two(_, b), 1) => Row::One(*b),
+            (Row::Three(_, b, c), 1) => Row::Two(*b, *c),
+            (Row::Three(_, _, c), 2) => Row::One(*c),
+            (Row::Four(_, b, c, d), 1) => Row::Three(*b, *c, *d),
+            (Row::Four(_, _, c, d), 2) => Row::Two(*c, *d),
+            (Row::Four(_, _, _, d), 3) => Row::One(*d),
             _ => Row::Empty,
         }
     }

@@ -144,9 +144,10 @@ fn with_next<M: Monoid>(
     ensures probes { probes.old ≤ probes.new }
     ensures looks { probes.new ≤ probes.old + 1 }
 {
-    let item = nest.row.slots.get(nest.at).item;
+    let item = nest.row.slots.peek(nest.at).item;
     let next = nest.row.kid(nest.at + 1);
-    let node = nodes.get(next, probes);
+    let node = nodes.peek(next, probes);
+    let (behind, last) = (node.slots(), node.last());
     nodes.free(next);
     let kid = nest.child.last;
     let front = nest.child.slots.pushed(Slot { kid, item });
@@ -154,8 +155,8 @@ fn with_next<M: Monoid>(
         row: nest.row.thinned(nest.at),
         at: nest.at,
         child: Open {
-            slots: front.joined(node.slots()),
-            last: node.last(),
+            slots: front.joined(&behind),
+            last,
         },
     }
 }
@@ -187,16 +188,16 @@ fn with_previous<M: Monoid>(
     ensures looks { probes.new ≤ probes.old + 1 }
 {
     let at = nest.at - 1;
-    let item = nest.row.slots.get(at).item;
-    let node = nodes.get(nest.row.kid(at), probes);
-    nodes.free(nest.row.kid(nest.at));
+    let item = nest.row.slots.peek(at).item;
+    let node = nodes.peek(nest.row.kid(at), probes);
     let kid = node.last();
     let front = node.slots().pushed(Slot { kid, item });
+    nodes.free(nest.row.kid(nest.at));
     Nest {
         row: nest.row.thinned(at),
         at,
         child: Open {
-            slots: front.joined(nest.child.slots),
+            slots: front.joined(&nest.child.slots),
             last: nest.child.last,
         },
     }

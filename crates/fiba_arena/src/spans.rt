@@ -36,7 +36,7 @@ pub fn fold_span<M: Monoid, L>(
     if height == 0 {
         return sum;
     }
-    let node = nodes.get(at, probes);
+    let node = nodes.peek(at, probes);
     if spans_all(low, high) {
         sum.vouch();
         return sum.combine(&node.agg, steps);
@@ -107,9 +107,9 @@ fn fold_between<M: Monoid, L>(
     ensures probes { probes.old ≤ probes.new }
     ensures cost { steps.new ≤ steps.old + 5 }
 {
-    let mut sum = sum.combine(&open.slots.get(i).item.value, steps);
+    let mut sum = sum.combine(&open.slots.peek(i).item.value, steps);
     for k in i + 1..j {
-        let slot = open.slots.get(k);
+        let slot = open.slots.peek(k);
         let inner = Place {
             left: false,
             right: false,

@@ -33,7 +33,7 @@ pub fn total_of<M: Monoid, L>(
     let mut sum = M::unit();
     let mut left = place.left;
     for i in 0..slots.len() {
-        let slot = slots.get(i);
+        let slot = slots.peek(i);
         let inner = Place { left, right: false };
         sum = with_kid(nodes, slot.kid, height, inner, sum, probes, steps).combine(
             &slot.item.value,
@@ -71,5 +71,5 @@ pub(crate) fn with_kid<M: Monoid, L>(
         return sum;
     }
     sum.vouch();
-    sum.combine(&nodes.get(kid, probes).agg, steps)
+    sum.combine(&nodes.peek(kid, probes).agg, steps)
 }

@@ -20,9 +20,8 @@ fn adopt<M: Copy>(nodes: &mut Nodes<M>, kid: usize, at: usize, probes: &mut Prob
     ensures probes { probes.old ≤ probes.new }
     ensures looks { probes.new ≤ probes.old + 1 }
 {
-    let mut node = nodes.get(kid, probes);
-    node.up = Some(at);
-    nodes.set(kid, node);
+    probes.look();
+    nodes.adopt(kid, at);
 }
 
 // Another parent for all children of a row.
@@ -45,7 +44,7 @@ fn adopt_all<M: Monoid>(
         return;
     }
     for i in 0..open.slots.len() {
-        adopt(nodes, open.slots.get(i).kid, at, probes);
+        adopt(nodes, open.slots.peek(i).kid, at, probes);
     }
     adopt(nodes, open.last, at, probes);
 }
@@ -84,7 +83,7 @@ pub fn write<M: Monoid, L>(
 {
     let agg = total_of(nodes, &open.slots, open.last, height, place, probes, steps);
     adopt_all(nodes, open, height, place, at, probes);
-    nodes.set(at, Node::made(open.slots, open.last, height == 0, up, agg));
+    nodes.set(at, Node::made(&open.slots, open.last, height == 0, up, agg));
 }
 
 /// A node over these items and children under a number that wasn't there. Uses one spare. At most
@@ -116,7 +115,7 @@ pub fn create<M: Monoid, L>(
     ensures looks { probes.new ≤ probes.old + 2 * length (listed open.now.slots) + 2 }
     ensures cost { steps.new ≤ steps.old + 2 * length (listed open.now.slots) + 1 }
 {
-    let blank = Node::made(open.slots, open.last, height == 0, None, M::unit());
+    let blank = Node::made(&open.slots, open.last, height == 0, None, M::unit());
     let at = nodes.add(blank);
     write(nodes, at, open, height, place, None, probes, steps);
     at

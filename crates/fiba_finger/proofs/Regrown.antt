@@ -44,7 +44,7 @@ module _ {M : Type 0} (IsValue : M → Type 0) (empty : M) (op : M → M → M) 
       ap (λ ps. cond l [] ps ++ pair_of x.item ∷ shown false true (pairs_at new h) xs last) t.pairs ∙ ap (λ ps. cond l [] (pairs_at old h x.kid) ++ pair_of x.item ∷ ps) rest
 
 module _ {M : Type 0} (old new : Store M) where
-  up_stays : (h at k : ℕ) → (0 < h → look new k ≡ look old k) → HasUp old h at k → HasUp new h at k
+  pub up_stays : (h at k : ℕ) → (0 < h → look new k ≡ look old k) → HasUp old h at k → HasUp new h at k
   up_stays zero at k same u = tt
   up_stays (suc h) at k same u = ap (option_map (λ n. n.up)) (same (omega arith)) ∙ u
 

@@ -1,3 +1,4 @@
 pub mod Edges
 pub mod Climbs
 pub mod Fingers
+pub mod Pulls

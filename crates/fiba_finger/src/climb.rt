@@ -29,9 +29,8 @@ pub fn climb<M: Monoid>(
     if from.below + 1 == root.height {
         return from;
     }
-    let parent = nodes.get(from.at, probes).up.unwrap();
-    let slots = nodes.get(parent, probes).slots();
-    if slots.get(slots.len() - 1).item.key < key {
+    let parent = nodes.peek(from.at, probes).up.unwrap();
+    if nodes.peek(parent, probes).last_slot().item.key < key {
         return from;
     }
     let next = Climbed {

@@ -32,7 +32,7 @@ pub fn rightmost<M: Monoid>(
     if below == 0 {
         return at;
     }
-    let last = nodes.get(at, probes).last();
+    let last = nodes.peek(at, probes).last();
     rightmost(nodes, last, below - 1, false, probes)
 }
 
@@ -53,6 +53,6 @@ pub fn leftmost<M: Monoid>(
     if below == 0 {
         return at;
     }
-    let slot = nodes.get(at, probes).slots().get(0);
-    leftmost(nodes, slot.kid, below - 1, place.front(), probes)
+    let kid = nodes.peek(at, probes).first_kid();
+    leftmost(nodes, kid, below - 1, place.front(), probes)
 }

@@ -15,9 +15,11 @@ mod climb;
 mod climbed;
 mod edge;
 mod grown;
+mod pull;
 mod put;
 mod raise;
 mod raised;
+mod take;
 mod tree;
 
 pub use grown::Grown;

@@ -7,7 +7,7 @@ use crate::climbed::Climbed;
 use crate::edge::right_place;
 use crate::raised::Raised;
 use agg_laws::{Monoid, Probes, Steps};
-use fiba_arena::{Change, Nest, Nodes, Open, Root, apply, plant, settle, write};
+use fiba_arena::{Change, Nest, Nodes, Open, Root, apply_low, plant, settle, write};
 
 /// Lets an item into the tree of a node on the right edge, and closes that node again: it is
 /// written where it isn't split, else its parent is opened. At most eight steps a level below the
@@ -35,9 +35,9 @@ pub fn raise<M: Monoid, L>(
     ensures cost { steps.new ≤ steps.old + 8 * from.below + 8 + 11 * result.splits }
 {
     let spare = nodes.spare();
-    let mut up = nodes.get(from.at, probes).up;
+    let mut up = nodes.peek(from.at, probes).up;
     let place = right_place(from.below + 1 == root.height);
-    let applied = apply(nodes, from.at, from.below, place, change, probes, steps);
+    let applied = apply_low(nodes, from.at, from.below, place, change, probes, steps);
     let inner = spare.saturating_sub(nodes.spare()) as u32;
     let mut at = from.at;
     let mut open = applied.open;
@@ -50,8 +50,8 @@ pub fn raise<M: Monoid, L>(
             return Raised { root, top, splits };
         }
         let parent = up.unwrap();
-        let node = nodes.get(parent, probes);
-        let row = node.opened();
+        let node = nodes.peek(parent, probes);
+        let (row, next) = (node.opened(), node.up);
         let nest = Nest {
             row,
             at: row.slots.len(),
@@ -60,7 +60,7 @@ pub fn raise<M: Monoid, L>(
         let place = right_place(below + 2 == root.height);
         open = settle(nodes, &nest, below, place, Some(parent), probes, steps);
         at = parent;
-        up = node.up;
+        up = next;
     }
     let below = root.height - 1;
     let grown = plant(nodes, at, below, right_place(true), &open, probes, steps);

@@ -6,6 +6,7 @@ ghost use Rattle.fiba_finger.specs.Climbs.{distance};
 use crate::edge::right_place;
 use crate::grown::Grown;
 use crate::put::{end_of, put_near, start_of};
+use crate::take::take;
 use agg_laws::{AggTree, Monoid, Probes, Steps};
 use fiba_arena::{Bound, Change, Item, Nodes, Root, change_root, fold_span};
 use std::alloc::Global;
@@ -194,9 +195,8 @@ impl<M: Monoid> AggTree<M> for FingerTree<M> {
         ensures probes { probes.old ≤ probes.new }
         ensures cost { steps.new ≤ steps.old + 64 * (self.old.height + 2) }
     {
-        let change = Change::Remove(key);
-        let place = right_place(true);
-        let changed = change_root(&mut self.nodes, self.root, place, change, probes, steps);
+        let (root, front) = (self.root, self.front);
+        let changed = take(&mut self.nodes, root, front, key, probes, steps);
         self.root = changed.root;
         self.front = start_of(&self.nodes, self.root, probes);
         self.finger = end_of(&self.nodes, self.root, probes);
@@ -215,7 +215,7 @@ impl<M: Monoid> AggTree<M> for FingerTree<M> {
             return None;
         }
         let mut probes = Probes::new();
-        Some(self.nodes.get(self.front, &mut probes).first.key)
+        Some(self.nodes.peek(self.front, &mut probes).first.key)
     }
 
     /// The values with `low <= key < high` combined in the order of keys, from the unit. At most

@@ -7,8 +7,8 @@ use Rattle.fiba_arena.proofs.totals.total_of.Goals as goal
 
 pub with_kid-requires : goal.with_kid-requires
 with_kid-requires g c =
-    first_kid g.M.Monoid.is_value g.M.Monoid.empty g.M.Monoid.op (plain c.args.nodes.now) c.args.height c.args.place.left c.args.place.right (listed c.args.slots.now) c.args.last c.loop-i.left c.loop-i.i c.get-slot.result c.loop-i.sum c.get-slot.ensures c.loop-i.invariant.0
+    first_kid g.M.Monoid.is_value g.M.Monoid.empty g.M.Monoid.op (plain c.args.nodes.now) c.args.height c.args.place.left c.args.place.right (listed c.args.slots.now) c.args.last c.loop-i.left c.loop-i.i c.peek-slot.result.now c.loop-i.sum c.peek-slot.ensures c.loop-i.invariant.0
 
 pub loop-i-preserved : goal.loop-i-preserved
 loop-i-preserved g c =
-    (summed_more g.M.Monoid.is_value g.M.Monoid.empty g.M.Monoid.op (plain c.args.nodes.now) c.args.height c.args.place.left c.args.place.right (listed c.args.slots.now) c.args.last c.loop-i.left c.loop-i.i c.get-slot.result c.loop-i.sum c.with_kid.result c.combine-sum.result c.get-slot.ensures c.loop-i.invariant.0 c.with_kid.ensures.value c.combine-sum.ensures.value, omega arith, omega arith, omega arith)
+    (summed_more g.M.Monoid.is_value g.M.Monoid.empty g.M.Monoid.op (plain c.args.nodes.now) c.args.height c.args.place.left c.args.place.right (listed c.args.slots.now) c.args.last c.loop-i.left c.loop-i.i c.peek-slot.result.now c.loop-i.sum c.with_kid.result c.combine-sum.result c.peek-slot.ensures c.loop-i.invariant.0 c.with_kid.ensures.value c.combine-sum.ensures.value, omega arith, omega arith, omega arith)

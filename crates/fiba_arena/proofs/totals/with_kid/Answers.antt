@@ -13,13 +13,13 @@ returns-then-place-clause-value g c =
       | then-place-via-else-place+else-place-2+then-height-eq0 w ↦ rw (w.if-place.false, w.if-place-2.false, no_pairs (plain c.args.nodes.now) c.args.height c.args.kid w.if-height-eq0.true) refl
     ]
 
-pub get-requires : goal.get-requires
-get-requires g c =
+pub peek-requires : goal.peek-requires
+peek-requires g c =
     is_there g.M.Monoid.is_value g.M.Monoid.empty g.M.Monoid.op c.args.nodes.now c.args.height c.args.place.left c.args.place.right c.args.kid (omega arith) c.requires
 
 pub returns-clause-value : goal.returns-clause-value
 returns-clause-value g c =
-    rw (c.if-place.false, c.if-place-2.false) (c.combine.ensures.value ∙ combined g.met.M.Monoid.laws c.args.nodes.now c.args.height c.args.kid c.get.result c.args.sum c.args.place.left c.args.place.right (omega arith) c.get.ensures.found c.vouch.ensures c.if-place.false c.if-place-2.false c.requires)
+    rw (c.if-place.false, c.if-place-2.false) (c.combine.ensures.value ∙ combined g.met.M.Monoid.laws c.args.nodes.now c.args.height c.args.kid c.peek.result.now c.args.sum c.args.place.left c.args.place.right (omega arith) c.peek.ensures.found c.vouch.ensures c.if-place.false c.if-place-2.false c.requires)
 
 pub returns-clause-one_each : goal.returns-clause-one_each
 returns-clause-one_each g c =

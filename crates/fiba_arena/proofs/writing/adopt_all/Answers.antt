@@ -6,11 +6,11 @@ use Rattle.fiba_arena.proofs.writing.adopt_all.Goals as goal
 
 pub adopt-requires : goal.adopt-requires
 adopt-requires g c =
-    kid_there g.M.Monoid.is_value g.M.Monoid.empty g.M.Monoid.op c.args.nodes.now c.loop-i.nodes c.args.height c.args.place.left c.args.place.right (listed c.args.open.now.slots) c.args.open.now.last c.args.at c.loop-i.i c.get.result (omega arith) c.requires c.loop-i.invariant.0 c.get.ensures
+    kid_there g.M.Monoid.is_value g.M.Monoid.empty g.M.Monoid.op c.args.nodes.now c.loop-i.nodes c.args.height c.args.place.left c.args.place.right (listed c.args.open.now.slots) c.args.open.now.last c.args.at c.loop-i.i c.peek.result.now (omega arith) c.requires c.loop-i.invariant.0 c.peek.ensures
 
 pub loop-i-preserved : goal.loop-i-preserved
 loop-i-preserved g c =
-    (adopting_more c.args.nodes.now c.loop-i.nodes c.adopt.new.nodes (listed c.args.open.now.slots) c.args.open.now.last c.args.at c.loop-i.i c.get.result c.get.ensures c.loop-i.invariant.0 c.adopt.ensures.adopted, omega arith, omega arith)
+    (adopting_more c.args.nodes.now c.loop-i.nodes c.adopt.new.nodes (listed c.args.open.now.slots) c.args.open.now.last c.args.at c.loop-i.i c.peek.result.now c.peek.ensures c.loop-i.invariant.0 c.adopt.ensures.adopted, omega arith, omega arith)
 
 pub adopt-requires-2 : goal.adopt-requires-2
 adopt-requires-2 g c =

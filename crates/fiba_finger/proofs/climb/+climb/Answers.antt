@@ -1,6 +1,6 @@
 -- The parent's last item tells whether the key lies in the tree of the node.
-use Rattle.std.proofs.Common.{◌≡◌, ◌≤◌, ◌<◌, ◌-◌, ◌+◌, ◌∙◌, suc, true, IsSome, length, subst, sym, arith, refl}
-use Rattle.fiba_arena.specs.Rows.{listed}
+use Rattle.std.proofs.Common.{◌≡◌, ◌<◌, ◌-◌, ◌+◌, ◌∙◌, suc, true, IsSome, length, subst, sym, arith, refl}
+use Rattle.fiba_arena.specs.Rows.{slots_of}
 use Rattle.fiba_arena.specs.Stores.{look}
 use Rattle.fiba_arena.proofs.Opened.{is_there}
 use Rattle.fiba_finger.proofs.Edges.{left_at}
@@ -12,8 +12,8 @@ returns-then-from-root-clause-climbed g t c =
     let m = g.M.Monoid in
     climbed_root m.is_value m.empty m.op c.args.nodes.now c.args.root c.args.key c.args.from.at c.args.from.below c.requires.tree c.requires.rising c.requires.absent c.requires.reached c.if-from-root.true
 
-pub get-requires : goal.get-requires
-get-requires g t c =
+pub peek-requires : goal.peek-requires
+peek-requires g t c =
     let m = g.M.Monoid in
     is_there m.is_value m.empty m.op c.args.nodes.now (suc c.args.from.below) (left_at true (c.args.root.height - 1 - c.args.from.below)) true c.args.from.at (omega arith) (here m.is_value m.empty m.op c.args.nodes.now c.args.root c.args.key c.args.from.at c.args.from.below c.requires.tree c.requires.rising c.requires.absent c.requires.reached)
 
@@ -21,32 +21,32 @@ pub unwrap-parent-requires : goal.unwrap-parent-requires
 unwrap-parent-requires g t c =
     let m = g.M.Monoid in
     let inner : c.args.from.below + 1 < c.args.root.height = omega (arith, c.requires.reached.edge.within, c.if-from-root.false) in
-    let up = up_of m.is_value m.empty m.op c.args.nodes.now c.args.root c.args.key c.args.from.at c.args.from.below c.requires.tree c.requires.rising c.requires.absent c.requires.reached inner c.get.result c.get.ensures.found in
+    let up = up_of m.is_value m.empty m.op c.args.nodes.now c.args.root c.args.key c.args.from.at c.args.from.below c.requires.tree c.requires.rising c.requires.absent c.requires.reached inner c.peek.result.now c.peek.ensures.found in
     subst (λ o. IsSome o) (sym up) refl
 
-pub get-requires-2 : goal.get-requires-2
-get-requires-2 g t c =
+pub peek-requires-2 : goal.peek-requires-2
+peek-requires-2 g t c =
     let m = g.M.Monoid in
     let inner : c.args.from.below + 1 < c.args.root.height = omega (arith, c.requires.reached.edge.within, c.if-from-root.false) in
-    let up = up_of m.is_value m.empty m.op c.args.nodes.now c.args.root c.args.key c.args.from.at c.args.from.below c.requires.tree c.requires.rising c.requires.absent c.requires.reached inner c.get.result c.get.ensures.found in
+    let up = up_of m.is_value m.empty m.op c.args.nodes.now c.args.root c.args.key c.args.from.at c.args.from.below c.requires.tree c.requires.rising c.requires.absent c.requires.reached inner c.peek.result.now c.peek.ensures.found in
     let same : c.unwrap-parent.result ≡ parent_of m.is_value m.empty m.op c.args.nodes.now c.args.root c.args.key c.args.from.at c.args.from.below c.requires.tree c.requires.rising c.requires.absent c.requires.reached = let e = sym c.unwrap-parent.ensures ∙ up in cc in
     subst (λ k. IsSome (look c.args.nodes.now k)) (sym same) (is_there m.is_value m.empty m.op c.args.nodes.now (suc (c.args.from.below + 1)) (left_at true (c.args.root.height - 1 - (c.args.from.below + 1))) true (parent_of m.is_value m.empty m.op c.args.nodes.now c.args.root c.args.key c.args.from.at c.args.from.below c.requires.tree c.requires.rising c.requires.absent c.requires.reached) (omega arith) (parent_here m.is_value m.empty m.op c.args.nodes.now c.args.root c.args.key c.args.from.at c.args.from.below c.requires.tree c.requires.rising c.requires.absent c.requires.reached inner))
 
-pub returns-then-get-key-clause-climbed : goal.returns-then-get-key-clause-climbed
-returns-then-get-key-clause-climbed g t c =
+pub returns-then-last_slot-key-clause-climbed : goal.returns-then-last_slot-key-clause-climbed
+returns-then-last_slot-key-clause-climbed g t c =
     let m = g.M.Monoid in
     let inner : c.args.from.below + 1 < c.args.root.height = omega (arith, c.requires.reached.edge.within, c.if-from-root.false) in
-    let up = up_of m.is_value m.empty m.op c.args.nodes.now c.args.root c.args.key c.args.from.at c.args.from.below c.requires.tree c.requires.rising c.requires.absent c.requires.reached inner c.get.result c.get.ensures.found in
+    let up = up_of m.is_value m.empty m.op c.args.nodes.now c.args.root c.args.key c.args.from.at c.args.from.below c.requires.tree c.requires.rising c.requires.absent c.requires.reached inner c.peek.result.now c.peek.ensures.found in
     let same : c.unwrap-parent.result ≡ parent_of m.is_value m.empty m.op c.args.nodes.now c.args.root c.args.key c.args.from.at c.args.from.below c.requires.tree c.requires.rising c.requires.absent c.requires.reached = let e = sym c.unwrap-parent.ensures ∙ up in cc in
-    let some : 1 ≤ length (listed c.slots-slots.result) = rw c.slots-slots.ensures.slots (omega arith) in
-    climbed_below m.is_value m.empty m.op c.args.nodes.now c.args.root c.args.key c.args.from.at c.args.from.below c.requires.tree c.requires.rising c.requires.absent c.requires.reached inner c.unwrap-parent.result same c.get-2.result c.get-2.ensures.found (listed c.slots-slots.result) 0 c.slots-slots.ensures.slots (c.len.result - 1) (omega (arith, c.len.ensures.len)) some c.get-3.result c.get-3.ensures c.if-get-key.true
+    let slots = slots_of c.peek-2.result.now in
+    climbed_below m.is_value m.empty m.op c.args.nodes.now c.args.root c.args.key c.args.from.at c.args.from.below c.requires.tree c.requires.rising c.requires.absent c.requires.reached inner c.unwrap-parent.result same c.peek-2.result.now c.peek-2.ensures.found slots 0 refl (length slots - 1) (omega arith) (omega arith) c.last_slot.result c.last_slot.ensures c.if-last_slot-key.true
 
 pub climb-requires : goal.climb-requires
 climb-requires g t c =
     let m = g.M.Monoid in
     let inner : c.args.from.below + 1 < c.args.root.height = omega (arith, c.requires.reached.edge.within, c.if-from-root.false) in
-    let up = up_of m.is_value m.empty m.op c.args.nodes.now c.args.root c.args.key c.args.from.at c.args.from.below c.requires.tree c.requires.rising c.requires.absent c.requires.reached inner c.get.result c.get.ensures.found in
+    let up = up_of m.is_value m.empty m.op c.args.nodes.now c.args.root c.args.key c.args.from.at c.args.from.below c.requires.tree c.requires.rising c.requires.absent c.requires.reached inner c.peek.result.now c.peek.ensures.found in
     let same : c.unwrap-parent.result ≡ parent_of m.is_value m.empty m.op c.args.nodes.now c.args.root c.args.key c.args.from.at c.args.from.below c.requires.tree c.requires.rising c.requires.absent c.requires.reached = let e = sym c.unwrap-parent.ensures ∙ up in cc in
-    let some : 1 ≤ length (listed c.slots-slots.result) = rw c.slots-slots.ensures.slots (omega arith) in
-    let next = reached_parent m.is_value m.empty m.op c.args.nodes.now c.args.root c.args.key c.args.from.at c.args.from.below c.requires.tree c.requires.rising c.requires.absent c.requires.reached inner c.unwrap-parent.result same c.get-2.result c.get-2.ensures.found (listed c.slots-slots.result) 0 c.slots-slots.ensures.slots (c.len.result - 1) (omega (arith, c.len.ensures.len)) some c.get-3.result c.get-3.ensures c.if-get-key.false in
+    let slots = slots_of c.peek-2.result.now in
+    let next = reached_parent m.is_value m.empty m.op c.args.nodes.now c.args.root c.args.key c.args.from.at c.args.from.below c.requires.tree c.requires.rising c.requires.absent c.requires.reached inner c.unwrap-parent.result same c.peek-2.result.now c.peek-2.ensures.found slots 0 refl (length slots - 1) (omega arith) (omega arith) c.last_slot.result c.last_slot.ensures c.if-last_slot-key.false in
     λ κs w. (omega arith, (w, (c.requires.tree, (c.requires.rising, (c.requires.absent, next)))))

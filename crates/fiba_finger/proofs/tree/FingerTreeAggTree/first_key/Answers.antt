@@ -17,8 +17,8 @@ returns-then-self-eq0-clause-none g c =
     let e : c.args.self.now.pairs ≡ [] = sym (ap (λ v. v.pairs) c.self.view_is) ∙ no_pairs (plain c.self.inside.nodes) c.self.inside.root.height c.self.inside.root.at c.if-self-eq0.true in
     (λ x. e, λ x. refl)
 
-pub get-requires : goal.get-requires
-get-requires g c =
+pub peek-requires : goal.peek-requires
+peek-requires g c =
     let m = g.M.Monoid in
     let nodes = c.self.inside.nodes in
     let root = c.self.inside.root in
@@ -35,9 +35,9 @@ returns-clause-least g c =
     let high : root.height ≡ suc (root.height - 1) = omega arith in
     let sound : IsAt m.is_value m.empty m.op (plain nodes) (suc (root.height - 1)) true true root.at = subst (λ h. IsAt m.is_value m.empty m.op (plain nodes) h true true root.at) high c.self.invariant.arena.tree.sound in
     let here : IsLeast (plain nodes) c.self.inside.front (pairs_at (plain nodes) (suc (root.height - 1)) root.at) = subst (λ k. IsLeast (plain nodes) k (pairs_at (plain nodes) (suc (root.height - 1)) root.at)) (sym (c.self.invariant.first (root.height - 1) high)) (left_least m.is_value m.empty m.op (plain nodes) (root.height - 1) true true root.at sound) in
-    let first : slice_get (pairs_at (plain nodes) (suc (root.height - 1)) root.at) 0 ≡ Some (pair_of c.get.result.first) = least_of nodes c.self.inside.front (pairs_at (plain nodes) (suc (root.height - 1)) root.at) c.get.result here c.get.ensures.found in
+    let first : slice_get (pairs_at (plain nodes) (suc (root.height - 1)) root.at) 0 ≡ Some (pair_of c.peek.result.now.first) = least_of nodes c.self.inside.front (pairs_at (plain nodes) (suc (root.height - 1)) root.at) c.peek.result.now here c.peek.ensures.found in
     let same : pairs_at (plain nodes) (suc (root.height - 1)) root.at ≡ c.args.self.now.pairs = ap (λ h. pairs_at (plain nodes) h root.at) (sym high) ∙ ap (λ v. v.pairs) c.self.view_is in
-    let key = key_of_first c.args.self.now.pairs c.get.result.first (subst (λ ps. slice_get ps 0 ≡ Some (pair_of c.get.result.first)) same first) in
+    let key = key_of_first c.args.self.now.pairs c.peek.result.now.first (subst (λ ps. slice_get ps 0 ≡ Some (pair_of c.peek.result.now.first)) same first) in
     key.0
 
 pub returns-clause-none : goal.returns-clause-none
@@ -48,7 +48,7 @@ returns-clause-none g c =
     let high : root.height ≡ suc (root.height - 1) = omega arith in
     let sound : IsAt m.is_value m.empty m.op (plain nodes) (suc (root.height - 1)) true true root.at = subst (λ h. IsAt m.is_value m.empty m.op (plain nodes) h true true root.at) high c.self.invariant.arena.tree.sound in
     let here : IsLeast (plain nodes) c.self.inside.front (pairs_at (plain nodes) (suc (root.height - 1)) root.at) = subst (λ k. IsLeast (plain nodes) k (pairs_at (plain nodes) (suc (root.height - 1)) root.at)) (sym (c.self.invariant.first (root.height - 1) high)) (left_least m.is_value m.empty m.op (plain nodes) (root.height - 1) true true root.at sound) in
-    let first : slice_get (pairs_at (plain nodes) (suc (root.height - 1)) root.at) 0 ≡ Some (pair_of c.get.result.first) = least_of nodes c.self.inside.front (pairs_at (plain nodes) (suc (root.height - 1)) root.at) c.get.result here c.get.ensures.found in
+    let first : slice_get (pairs_at (plain nodes) (suc (root.height - 1)) root.at) 0 ≡ Some (pair_of c.peek.result.now.first) = least_of nodes c.self.inside.front (pairs_at (plain nodes) (suc (root.height - 1)) root.at) c.peek.result.now here c.peek.ensures.found in
     let same : pairs_at (plain nodes) (suc (root.height - 1)) root.at ≡ c.args.self.now.pairs = ap (λ h. pairs_at (plain nodes) h root.at) (sym high) ∙ ap (λ v. v.pairs) c.self.view_is in
-    let key = key_of_first c.args.self.now.pairs c.get.result.first (subst (λ ps. slice_get ps 0 ≡ Some (pair_of c.get.result.first)) same first) in
+    let key = key_of_first c.args.self.now.pairs c.peek.result.now.first (subst (λ ps. slice_get ps 0 ≡ Some (pair_of c.peek.result.now.first)) same first) in
     (λ x. cc, λ e. absurd (key.1 e))

@@ -9,10 +9,10 @@ use Rattle.fiba_finger.proofs.tree.FingerTreeAggTree.remove.Goals as goal
 pub invariant_of-self : goal.invariant_of-self
 invariant_of-self g c =
     let m = g.M.Monoid in
-    let changed = rw (c.right_place-place.ensures.left, c.right_place-place.ensures.right) at c.change_root-changed.ensures.changed in
-    let none : c.change_root-changed.result.taken ≡ None = search rules in
-    let zero : length (pairs_of c.change_root-changed.result.taken) ≡ 0 = ap (λ o. length (pairs_of o)) none in
-    record { arena = arena_removed m.is_value m.empty m.op true true c.self.inside.nodes c.change_root-changed.new.nodes c.self.inside.root c.change_root-changed.result.root c.self.inside.count c.self.inside.limit c.self.invariant.arena (omega (arith, c.self.ranges)) c.args.key c.change_root-changed.result.taken c.self.inside.count (omega (arith, zero)) changed; first = c.start_of-self-inside.ensures.front; last = c.end_of-self-inside.ensures.finger }
+    let changed = c.take-changed.ensures.changed in
+    let none : c.take-changed.result.taken ≡ None = search rules in
+    let zero : length (pairs_of c.take-changed.result.taken) ≡ 0 = ap (λ o. length (pairs_of o)) none in
+    record { arena = arena_removed m.is_value m.empty m.op true true c.self.inside.nodes c.take-changed.new.nodes c.self.inside.root c.take-changed.result.root c.self.inside.count c.self.inside.limit c.self.invariant.arena (omega (arith, c.self.ranges)) c.args.key c.take-changed.result.taken c.self.inside.count (omega (arith, zero)) changed; first = c.start_of-self-inside.ensures.front; last = c.end_of-self-inside.ensures.finger }
 
 pub returns-in_err-item-clause-bounded : goal.returns-in_err-item-clause-bounded
 returns-in_err-item-clause-bounded g c = let a = invariant_of-self g c in a.arena.tall
@@ -20,55 +20,55 @@ returns-in_err-item-clause-bounded g c = let a = invariant_of-self g c in a.aren
 pub invariant_of-self-2 : goal.invariant_of-self-2
 invariant_of-self-2 g c =
     let m = g.M.Monoid in
-    let changed = rw (c.right_place-place.ensures.left, c.right_place-place.ensures.right) at c.change_root-changed.ensures.changed in
-    let some : c.change_root-changed.result.taken ≡ Some c.in_ok-item.item = search rules in
-    let done = removed_of m.is_value m.empty m.op true true c.self.inside.nodes c.change_root-changed.new.nodes c.self.inside.root c.change_root-changed.result.root c.self.inside.count c.self.inside.limit c.self.invariant.arena (omega (arith, c.self.ranges)) c.args.key c.change_root-changed.result.taken changed in
-    let one : length (pairs_of c.change_root-changed.result.taken) ≡ 1 = ap (λ o. length (pairs_of o)) some in
-    record { arena = arena_removed m.is_value m.empty m.op true true c.self.inside.nodes c.change_root-changed.new.nodes c.self.inside.root c.change_root-changed.result.root c.self.inside.count c.self.inside.limit c.self.invariant.arena (omega (arith, c.self.ranges)) c.args.key c.change_root-changed.result.taken (c.self.inside.count - 1) (omega (arith, one, done.fewer, c.self.invariant.arena.counted)) changed; first = c.start_of-self-inside.ensures.front; last = c.end_of-self-inside.ensures.finger }
+    let changed = c.take-changed.ensures.changed in
+    let some : c.take-changed.result.taken ≡ Some c.in_ok-item.item = search rules in
+    let done = removed_of m.is_value m.empty m.op true true c.self.inside.nodes c.take-changed.new.nodes c.self.inside.root c.take-changed.result.root c.self.inside.count c.self.inside.limit c.self.invariant.arena (omega (arith, c.self.ranges)) c.args.key c.take-changed.result.taken changed in
+    let one : length (pairs_of c.take-changed.result.taken) ≡ 1 = ap (λ o. length (pairs_of o)) some in
+    record { arena = arena_removed m.is_value m.empty m.op true true c.self.inside.nodes c.take-changed.new.nodes c.self.inside.root c.take-changed.result.root c.self.inside.count c.self.inside.limit c.self.invariant.arena (omega (arith, c.self.ranges)) c.args.key c.take-changed.result.taken (c.self.inside.count - 1) (omega (arith, one, done.fewer, c.self.invariant.arena.counted)) changed; first = c.start_of-self-inside.ensures.front; last = c.end_of-self-inside.ensures.finger }
 
 pub returns-in_err-item-clause-value : goal.returns-in_err-item-clause-value
 returns-in_err-item-clause-value g c =
     let m = g.M.Monoid in
     let view = ap (λ v. v.pairs) c.self.view_is in
-    let changed = rw (c.right_place-place.ensures.left, c.right_place-place.ensures.right) at c.change_root-changed.ensures.changed in
-    let none : c.change_root-changed.result.taken ≡ None = search rules in
+    let changed = c.take-changed.ensures.changed in
+    let none : c.take-changed.result.taken ≡ None = search rules in
     let answer : c.from_residual.result ≡ None = search rules in
-    let done = removed_of m.is_value m.empty m.op true true c.self.inside.nodes c.change_root-changed.new.nodes c.self.inside.root c.change_root-changed.result.root c.self.inside.count c.self.inside.limit c.self.invariant.arena (omega (arith, c.self.ranges)) c.args.key c.change_root-changed.result.taken changed in
+    let done = removed_of m.is_value m.empty m.op true true c.self.inside.nodes c.take-changed.new.nodes c.self.inside.root c.take-changed.result.root c.self.inside.count c.self.inside.limit c.self.invariant.arena (omega (arith, c.self.ranges)) c.args.key c.take-changed.result.taken changed in
     answer ∙ sym (ap (option_map (λ x. x.value)) none) ∙ done.value ∙ ap (value_at c.args.key) view
 
 pub returns-in_err-item-clause-none : goal.returns-in_err-item-clause-none
 returns-in_err-item-clause-none g c =
     let m = g.M.Monoid in
     let view = ap (λ v. v.pairs) c.self.view_is in
-    let changed = rw (c.right_place-place.ensures.left, c.right_place-place.ensures.right) at c.change_root-changed.ensures.changed in
-    let none : c.change_root-changed.result.taken ≡ None = search rules in
+    let changed = c.take-changed.ensures.changed in
+    let none : c.take-changed.result.taken ≡ None = search rules in
     let answer : c.from_residual.result ≡ None = search rules in
-    let done = removed_of m.is_value m.empty m.op true true c.self.inside.nodes c.change_root-changed.new.nodes c.self.inside.root c.change_root-changed.result.root c.self.inside.count c.self.inside.limit c.self.invariant.arena (omega (arith, c.self.ranges)) c.args.key c.change_root-changed.result.taken changed in
+    let done = removed_of m.is_value m.empty m.op true true c.self.inside.nodes c.take-changed.new.nodes c.self.inside.root c.take-changed.result.root c.self.inside.count c.self.inside.limit c.self.invariant.arena (omega (arith, c.self.ranges)) c.args.key c.take-changed.result.taken changed in
     (λ e. sym (ap (has_key c.args.key) view) ∙ done.none.0 none, λ e. answer)
 
 pub returns-in_err-item-clause-rest : goal.returns-in_err-item-clause-rest
 returns-in_err-item-clause-rest g c =
     let m = g.M.Monoid in
     let view = ap (λ v. v.pairs) c.self.view_is in
-    let changed = rw (c.right_place-place.ensures.left, c.right_place-place.ensures.right) at c.change_root-changed.ensures.changed in
-    let done = removed_of m.is_value m.empty m.op true true c.self.inside.nodes c.change_root-changed.new.nodes c.self.inside.root c.change_root-changed.result.root c.self.inside.count c.self.inside.limit c.self.invariant.arena (omega (arith, c.self.ranges)) c.args.key c.change_root-changed.result.taken changed in
+    let changed = c.take-changed.ensures.changed in
+    let done = removed_of m.is_value m.empty m.op true true c.self.inside.nodes c.take-changed.new.nodes c.self.inside.root c.take-changed.result.root c.self.inside.count c.self.inside.limit c.self.invariant.arena (omega (arith, c.self.ranges)) c.args.key c.take-changed.result.taken changed in
     done.rest ∙ ap (without c.args.key) view
 
 pub returns-clause-value : goal.returns-clause-value
 returns-clause-value g c =
     let m = g.M.Monoid in
     let view = ap (λ v. v.pairs) c.self.view_is in
-    let changed = rw (c.right_place-place.ensures.left, c.right_place-place.ensures.right) at c.change_root-changed.ensures.changed in
-    let some : c.change_root-changed.result.taken ≡ Some c.in_ok-item.item = search rules in
-    let done = removed_of m.is_value m.empty m.op true true c.self.inside.nodes c.change_root-changed.new.nodes c.self.inside.root c.change_root-changed.result.root c.self.inside.count c.self.inside.limit c.self.invariant.arena (omega (arith, c.self.ranges)) c.args.key c.change_root-changed.result.taken changed in
+    let changed = c.take-changed.ensures.changed in
+    let some : c.take-changed.result.taken ≡ Some c.in_ok-item.item = search rules in
+    let done = removed_of m.is_value m.empty m.op true true c.self.inside.nodes c.take-changed.new.nodes c.self.inside.root c.take-changed.result.root c.self.inside.count c.self.inside.limit c.self.invariant.arena (omega (arith, c.self.ranges)) c.args.key c.take-changed.result.taken changed in
     sym (ap (option_map (λ x. x.value)) some) ∙ done.value ∙ ap (value_at c.args.key) view
 
 pub returns-clause-rest : goal.returns-clause-rest
 returns-clause-rest g c =
     let m = g.M.Monoid in
     let view = ap (λ v. v.pairs) c.self.view_is in
-    let changed = rw (c.right_place-place.ensures.left, c.right_place-place.ensures.right) at c.change_root-changed.ensures.changed in
-    let done = removed_of m.is_value m.empty m.op true true c.self.inside.nodes c.change_root-changed.new.nodes c.self.inside.root c.change_root-changed.result.root c.self.inside.count c.self.inside.limit c.self.invariant.arena (omega (arith, c.self.ranges)) c.args.key c.change_root-changed.result.taken changed in
+    let changed = c.take-changed.ensures.changed in
+    let done = removed_of m.is_value m.empty m.op true true c.self.inside.nodes c.take-changed.new.nodes c.self.inside.root c.take-changed.result.root c.self.inside.count c.self.inside.limit c.self.invariant.arena (omega (arith, c.self.ranges)) c.args.key c.take-changed.result.taken changed in
     done.rest ∙ ap (without c.args.key) view
 
 pub returns-clause-rising : goal.returns-clause-rising

@@ -1,0 +1,84 @@
+ghost use Rattle.std.specs.Prelude.{◌≡◌, ◌≤◌, ◌<◌, ◌+◌, ◌*◌, ◌^◌, true, Some, slice_get};
+ghost use Rattle.fiba_arena.specs.Arena.{pairs_in};
+ghost use Rattle.fiba_arena.specs.Stores.{full_nodes};
+ghost use Rattle.fiba_arena.specs.Trees.{pair_of};
+ghost use Rattle.fiba_arena.specs.Roots.{CanChange, IsChanged};
+ghost use Rattle.fiba_arena.specs.declared.change.Change.TheVariants.{Remove};
+ghost use Rattle.fiba_finger.specs.Fingers.{IsFront};
+
+use crate::edge::right_place;
+use crate::pull::pull;
+use agg_laws::{Monoid, Probes, Steps};
+use fiba_arena::{Change, Changed, Item, Nodes, Open, Root, Row, change_root, plant};
+
+/// Takes the item with a key out of a tree, if there is one: along the left edge where it is the
+/// first item, and else on the way from the root. At most 16 steps a level, and 16.
+pub fn take<M: Monoid, L>(
+    nodes: &mut Nodes<M>,
+    root: Root,
+    front: usize,
+    key: u64,
+    probes: &mut Probes,
+    steps: &mut Steps<L>,
+) -> Changed<M>
+    requires can { CanChange M.is_value M.empty M.op nodes.old root true true (Remove key) }
+    requires front { IsFront nodes.old root front }
+    requires levels { root.height + 1 < 2 ^ 32 }
+    ensures changed { IsChanged M.is_value M.empty M.op nodes.old nodes.new root result.root
+        true true (Remove key) result.taken }
+    ensures full { full_nodes nodes.new ≤ full_nodes nodes.old }
+    ensures probes { probes.old ≤ probes.new }
+    ensures cost { steps.new ≤ steps.old + 16 * root.height + 16 }
+{
+    let change = Change::Remove(key);
+    let place = right_place(true);
+    if root.height == 0 {
+        return change_root(nodes, root, place, change, probes, steps);
+    }
+    let first = nodes.peek(front, probes).first;
+    if first.key != key {
+        return change_root(nodes, root, place, change, probes, steps);
+    }
+    take_first(nodes, root, first, probes, steps)
+}
+
+// Takes the first item out of a tree.
+fn take_first<M: Monoid, L>(
+    nodes: &mut Nodes<M>,
+    root: Root,
+    first: Item<M>,
+    probes: &mut Probes,
+    steps: &mut Steps<L>,
+) -> Changed<M>
+    requires can { CanChange M.is_value M.empty M.op nodes.old root true true (Remove first.key) }
+    requires some { 1 ≤ root.height }
+    requires first { slice_get (pairs_in nodes.old root) 0 ≡ Some (pair_of first) }
+    requires levels { root.height + 1 < 2 ^ 32 }
+    ensures changed { IsChanged M.is_value M.empty M.op nodes.old nodes.new root result.root
+        true true (Remove first.key) result.taken }
+    ensures full { full_nodes nodes.new ≤ full_nodes nodes.old }
+    ensures probes { probes.old ≤ probes.new }
+    ensures cost { steps.new ≤ steps.old + 16 * root.height + 16 }
+{
+    let below = root.height - 1;
+    let taken = Some(first);
+    let Some(last) = pull(nodes, root.at, below, true, probes, steps) else {
+        return Changed { root, taken };
+    };
+    let bare = Open {
+        slots: Row::Empty,
+        last,
+    };
+    Changed {
+        root: plant(
+            nodes,
+            root.at,
+            below,
+            right_place(true),
+            &bare,
+            probes,
+            steps,
+        ),
+        taken,
+    }
+}
