@@ -6,3 +6,4 @@ pub mod SessionSettling
 pub mod Edges
 pub mod OfMarks
 pub mod Dues
+pub mod Begun

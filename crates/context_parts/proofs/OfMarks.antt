@@ -5,7 +5,7 @@ use Rattle.std.specs.List.{All, Contains, filter}
 use Rattle.std.specs.List.Sorted.{IsStrictlyIncreasing, IsStrictlySortedBy}
 use Rattle.std.specs.Ordering.{nat_cmp}
 use Rattle.std.proofs.lemmas.Cmp.{nat_cmp_total}
-use Rattle.std.proofs.lemmas.List.Elements.{All-cons, All-filter, All-head, All-tail, All-weaker, Contains-append_cases}
+use Rattle.std.proofs.lemmas.List.Elements.{All-cons, All-contains, All-filter, All-head, All-tail, All-weaker, Contains-append_cases}
 use Rattle.std.proofs.lemmas.Map.Keys.{sorted_tail}
 use Rattle.stream_base.specs.declared.def.Def.{Def}
 use Rattle.stream_base.specs.declared.kept.Kept.{Kept}
@@ -85,7 +85,7 @@ between_apart (a ∷ b ∷ times) kept s =
       between_apart (b ∷ times) kept (sorted_tail nat_cmp a (b ∷ times) s),
     )
 
-filter_apart : (p : Instance → Bool) (is : List Instance) → AreApart (map span_of is) → AreApart (map span_of (filter p is))
+pub filter_apart : (p : Instance → Bool) (is : List Instance) → AreApart (map span_of is) → AreApart (map span_of (filter p is))
 filter_apart p [] a = tt
 filter_apart p (i ∷ is) a = by (p i) (filter_apart p is a.2)
   where
@@ -128,9 +128,21 @@ stretches_edged marks kept time =
 pub spans_edged : (marks : List ℕ) (kept : List Kept) (s : Marked) → FollowsMarks marks kept s → AreEdged marks s.spans
 spans_edged marks kept s f = subst (AreEdged marks) (sym f.spans) (stretches_edged marks kept s.forgotten)
 
+pub spans_apart : (marks : List ℕ) (kept : List Kept) (s : Marked) → FollowsMarks marks kept s → AreApart s.spans
+spans_apart marks kept s f = subst AreApart (sym f.spans) (filter_apart (λ (i : Instance). nat_lt s.forgotten i.high) (stretches marks kept) (stretches_lie_apart marks kept))
+
+-- none ends later than the final time
+pub spans_bounded : (marks : List ℕ) (kept : List Kept) (s : Marked) → FollowsMarks marks kept s → All (λ mark. mark ≤ TIME_MAX) marks → All (λ (t : Span). t.high ≤ FINAL) s.spans
+spans_bounded marks kept s f times = All-weaker (λ (t : Span). IsEdge marks t.low × IsEdge marks t.high) (λ t. t.high ≤ FINAL) (λ t e. ends t.high e.1) s.spans (spans_edged marks kept s f)
+  where
+    ends : (e : ℕ) → IsEdge marks e → e ≤ FINAL
+    ends e (inl z) = omega arith
+    ends e (inr (inl c)) = let l : e ≤ TIME_MAX = All-contains (λ mark. mark ≤ TIME_MAX) marks e times c in omega arith
+    ends e (inr (inr z)) = omega arith
+
 pub are_intervals : (marks : List ℕ) (kept : List Kept) (s : Marked) → FollowsMarks marks kept s → IsStrictlyIncreasing marks → All (λ mark. mark ≤ TIME_MAX) marks → AreIntervals s.spans s.marks
 are_intervals marks kept s f r t = record {
-  apart = subst AreApart (sym f.spans) (filter_apart (λ (i : Instance). nat_lt s.forgotten i.high) (stretches marks kept) (stretches_lie_apart marks kept));
+  apart = spans_apart marks kept s f;
   rising = subst IsStrictlyIncreasing (sym f.known) r;
   in_time = subst (All (λ mark. mark ≤ TIME_MAX)) (sym f.known) t;
   edges = subst (λ ms. AreEdged ms s.spans) (sym f.known) (spans_edged marks kept s f);

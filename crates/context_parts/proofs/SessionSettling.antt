@@ -1,26 +1,33 @@
 -- Up to which time tuples are settled in a session window.
-use Rattle.std.proofs.Common.{◌∙◌, ℕ, ◌+◌, ◌-◌, ◌≤◌, List, [], ◌∷◌, drop, map, ap, sym, subst, arith}
+use Rattle.std.proofs.Common.{◌≡◌, ◌∙◌, ℕ, ◌+◌, ◌-◌, ◌≤◌, List, [], ◌∷◌, drop, map, ap, sym, subst, arith}
 use Rattle.std.specs.Prelude.{nat_le, nat_lt}
-use Rattle.std.specs.List.{All, filter}
-use Rattle.std.proofs.lemmas.List.Elements.{All-weaker}
+use Rattle.std.specs.List.{All, Contains, filter}
+use Rattle.std.proofs.lemmas.List.Elements.{All-contains, All-filter, All-weaker}
 use Rattle.stream_base.specs.declared.kept.Kept.{Kept}
+use Rattle.stream_base.specs.declared.kind.Kind.{Kind}
+use Rattle.stream_base.specs.declared.kind.Kind.TheVariants.{Tumbling, Sliding, Session, Marks, Events}
 use Rattle.stream_base.specs.declared.limits.TheConstants.{TIME_MAX}
 use Rattle.stream_base.specs.Laws.{TimesDoNotFall}
 use Rattle.stream_base.specs.Limits.{Definitions}
 use Rattle.stream_base.specs.Model.Changes.{Moment}
-use Rattle.stream_base.specs.Model.Windows.{Instance, first_time, last_time, pieces_of, session, sessions}
+use Rattle.stream_base.specs.Model.Windows.{Instance, first_time, is_within, last_time, pieces_of, session, sessions, within}
+use Rattle.stream_base.proofs.Distinct.{All_from_members}
+use Rattle.stream_base.proofs.Members.{filter_members}
 use Rattle.window_laws.specs.After.{at_water}
 use Rattle.window_laws.specs.Runs.{AreParted}
 use Rattle.window_laws.specs.Settled.{MayLeave, without_first}
-use Rattle.window_laws.proofs.InstanceFacts.{gap_cut, session_far, session_near, session_runs}
+use Rattle.window_laws.proofs.InstanceFacts.{gap_cut, session_far, session_near, session_runs, sessions_select}
 use Rattle.window_laws.proofs.Order.{All-map_of, IsApart, IsNear, run_spans, runs_behind}
+use Rattle.window_laws.proofs.SettledMoves.{session_last}
+use Rattle.context_windows.specs.declared.span.Span.{Span}
 use Rattle.context_windows.specs.Ahead.{start_after}
-use Rattle.context_windows.specs.Spanned.{Spanned, gap_at, window_at}
+use Rattle.context_windows.specs.Spanned.{Follows, IsSession, Spanned, gap_at, gap_of, sessions_after, window_at}
 use Rattle.context_windows.specs.Spans.{AreApart, span_of}
 use Rattle.context_windows.proofs.Following.{gap_some}
 use Rattle.key_parts.specs.Moves.{SettlesUpTo}
 use Rattle.context_parts.specs.SessionsStand.{DoStand}
 use Rattle.context_parts.proofs.OfSessions.{no_events, sessions_are}
+use Rattle.context_parts.proofs.OfMarks.{filter_apart}
 use Rattle.context_parts.proofs.Rest.{is_window, rest_is_kept}
 use Rattle.context_parts.proofs.Settling.{settles_up_to}
 
@@ -47,3 +54,30 @@ sessions_settle d window m n water p rises may times st =
     settles_up_to d m n water w may (is_window d window st.session.within) (no_events w.kind session) rises times p.forgotten st.bounded p.spans
     (st.follows.spans ∙ ap (λ l. map span_of (filter (λ (i : Instance). nat_lt p.forgotten i.high) l)) (sym (sessions_are w.kind m.kept m.marks session)))
     (subst (λ l. AreApart (map span_of l)) (sym (sessions_are w.kind (drop n m.kept) m.marks session)) (sessions_lie_apart (gap_at d window) (drop n m.kept) (gap_some w.kind session) (rest_is_kept n m.kept may.kept).in_order))
+
+pub gap_few : (kind : Kind) → IsSession kind → gap_of kind ≤ TIME_MAX
+gap_few (Tumbling length) h = absurd h
+gap_few (Sliding length slide) h = absurd h
+gap_few (Session gap) h = h.1
+gap_few Marks h = absurd h
+gap_few (Events count) h = absurd h
+
+-- ---- the spans that are kept
+pub spans_apart : (gap : ℕ) (kept : List Kept) (p : Spanned) → 1 ≤ gap → Follows gap kept p → AreApart p.spans
+spans_apart gap kept p some f = subst AreApart (sym f.spans) (filter_apart (λ (i : Instance). nat_lt p.forgotten i.high) (sessions gap kept) (sessions_lie_apart gap kept some f.in_order))
+
+-- none ends later than the gap behind the last time
+session_bounded : (gap most : ℕ) (kept : List Kept) (i : Instance) → 1 ≤ gap → TimesDoNotFall kept → All (λ (x : Kept). x.time ≤ most) kept → Contains (sessions gap kept) i → i.high ≤ most + gap
+session_bounded gap most kept i some h times c =
+    let w = session_last gap kept i some h c in
+    let chosen = All-contains (λ (i : Instance). i.chosen ≡ within i.low i.high kept) (sessions gap kept) i (sessions_select gap kept some h) c in
+    let m = filter_members (is_within i.low i.high) kept w.0 (subst (λ l. Contains l w.0) chosen w.1) in
+    let t : (w.0).time ≤ most = All-contains (λ (x : Kept). x.time ≤ most) kept w.0 times m.0 in
+    omega (arith, t, w.2)
+
+pub spans_bounded : (gap most : ℕ) (kept : List Kept) (p : Spanned) → 1 ≤ gap → All (λ (x : Kept). x.time ≤ most) kept → Follows gap kept p → All (λ (s : Span). s.high ≤ most + gap) p.spans
+spans_bounded gap most kept p some times f =
+    subst (All (λ (s : Span). s.high ≤ most + gap)) (sym f.spans)
+    (All-map_of (λ (s : Span). s.high ≤ most + gap) span_of (sessions_after gap p.forgotten kept)
+    (All-filter (λ (i : Instance). nat_lt p.forgotten i.high) (λ i. i.high ≤ most + gap) (sessions gap kept)
+    (All_from_members (λ (i : Instance). i.high ≤ most + gap) (sessions gap kept) (λ i c. session_bounded gap most kept i some f.in_order times c))))

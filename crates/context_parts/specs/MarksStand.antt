@@ -3,8 +3,10 @@ use Rattle.std.specs.Prelude.{◌≡◌, ◌≤◌, ◌<◌, ◌-◌, ℕ, drop,
 use Rattle.stream_base.specs.Limits.{Definitions}
 use Rattle.stream_base.specs.declared.kind.Kind.TheVariants.{Marks}
 use Rattle.stream_base.specs.Model.Changes.{Moment}
+use Rattle.window_laws.specs.After.{at_water}
 use Rattle.context_windows.specs.Marked.{FollowsMarks, Marked, RemembersHolder}
 use Rattle.context_windows.specs.Spanned.{window_at}
+use Rattle.context_windows.proofs.Lasts.{stays_before}
 
 -- one of the definitions is this window between marks
 pub record IsMarksAt (d : Definitions) (window : ℕ) : Type 0 where
@@ -21,3 +23,12 @@ pub record DoStandBetween (d : Definitions) (window : ℕ) (m : Moment) (n : ℕ
 -- of the interval that a tuple at a time may change is kept what it shows
 pub record RemembersHolderAt (d : Definitions) (window : ℕ) (m : Moment) (time : ℕ) (s : Marked) : Type 0 where
   pub remembers : RemembersHolder (window_at d window).func time m.water m.marks m.kept s
+
+-- at a later watermark they stand on
+pub do_stand_between_on : (d : Definitions) (window : ℕ) (m : Moment) (n : ℕ) (s : Marked) (new : ℕ) → DoStandBetween d window m n s → m.water ≤ new → DoStandBetween d window (at_water m new) n s
+do_stand_between_on d window m n s new stood rises = record {
+  marks = stood.marks;
+  follows = stood.follows;
+  left = stood.left;
+  bounded = stays_before s.forgotten m.water new d.lateness stood.bounded rises;
+}

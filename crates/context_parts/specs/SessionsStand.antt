@@ -2,7 +2,9 @@
 use Rattle.std.specs.Prelude.{◌≤◌, ◌-◌, ℕ, drop}
 use Rattle.stream_base.specs.Limits.{Definitions}
 use Rattle.stream_base.specs.Model.Changes.{Moment}
+use Rattle.window_laws.specs.After.{at_water}
 use Rattle.context_windows.specs.Spanned.{Follows, HasAsked, IsSessionAt, Remembers, Spanned, gap_at, window_at}
+use Rattle.context_windows.proofs.Lasts.{stays_before}
 
 -- they are the sessions of all that is kept of a key, and of what is left of it without so many first tuples, but for some that end by the watermark minus the lateness
 pub record DoStand (d : Definitions) (window : ℕ) (m : Moment) (n : ℕ) (s : Spanned) : Type 0 where
@@ -15,3 +17,12 @@ pub record DoStand (d : Definitions) (window : ℕ) (m : Moment) (n : ℕ) (s : 
 pub record AreAsked (d : Definitions) (window : ℕ) (m : Moment) (time : ℕ) (s : Spanned) : Type 0 where
   pub asked : HasAsked (gap_at d window) time m.water s
   pub remembers : Remembers (window_at d window) time m.water m.kept s
+
+-- at a later watermark they stand on
+pub do_stand_on : (d : Definitions) (window : ℕ) (m : Moment) (n : ℕ) (s : Spanned) (new : ℕ) → DoStand d window m n s → m.water ≤ new → DoStand d window (at_water m new) n s
+do_stand_on d window m n s new stood rises = record {
+  session = stood.session;
+  follows = stood.follows;
+  left = stood.left;
+  bounded = stays_before s.forgotten m.water new d.lateness stood.bounded rises;
+}

@@ -8,6 +8,7 @@
 
 mod mark_part;
 mod session_part;
+mod settled;
 
 pub use mark_part::MarkPart;
 pub use session_part::SessionPart;

@@ -2,6 +2,7 @@
 ghost use Rattle.std.specs.Prelude.{◌≡◌, ◌<◌, length};
 ghost use Rattle.context_windows.specs.Spanned.{window_at};
 
+use crate::settled::settled_with;
 use agg_laws::{AggTree, Bundle, Steps};
 use context_windows::MarkWindows;
 use key_parts::KeyPart;
@@ -27,7 +28,7 @@ fn func_at(defs: &Defs, window: u32) -> Func
 
 impl KeyPart for MarkPart {
     ghost use Rattle.std.proofs.Common.{◌≤◌, ◌-◌, length, zero-le};
-    ghost use Rattle.context_parts.specs.MarksStand.{DoStandBetween, IsMarksAt, RemembersHolderAt};
+    ghost use Rattle.context_parts.specs.MarksStand.{DoStandBetween, IsMarksAt, RemembersHolderAt, do_stand_between_on};
     ghost use Rattle.context_windows.specs.Ahead.{start_after};
     ghost use Rattle.context_windows.specs.Marked.{holder_in, most_changes};
     ghost use Rattle.context_windows.specs.Spans.{due_of};
@@ -68,6 +69,9 @@ impl KeyPart for MarkPart {
     ghost stands_with_room = { λ d window m n s more part same stood. stood };
 
     ghost ahead_with_room = { λ d window water s more part same ahead. ahead };
+
+    ghost waits = { λ d window key m n s part new at rises none.
+        do_stand_between_on d window m n part.windows new at.stood rises };
 
     ghost complete_in_time = { λ d window water. zero-le };
 
@@ -196,6 +200,11 @@ impl KeyPart for MarkPart {
         let _ = window;
         self.windows
             .first_open(water.saturating_sub(defs.lateness()))
+    }
+
+    fn settled_by(&self, defs: &Defs, window: u32, time: u64) -> u64 {
+        let _ = window;
+        settled_with(self.windows.end_of_last_begun(time), defs.lateness())
     }
 
     fn drop_settled(&mut self, defs: &Defs, window: u32, water: u64) {

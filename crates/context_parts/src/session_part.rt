@@ -1,6 +1,7 @@
 //! The part of a session window in the state of a key.
 ghost use Rattle.std.specs.Prelude.{◌≡◌, ◌≤◌, ◌-◌, ℕ, length};
 
+use crate::settled::settled_with;
 use agg_laws::{AggTree, Bundle, Steps};
 use context_windows::Sessions;
 use key_parts::KeyPart;
@@ -17,7 +18,7 @@ pub struct SessionPart {
 
 impl KeyPart for SessionPart {
     ghost use Rattle.std.proofs.Common.{◌≤◌, ◌-◌, length, zero-le};
-    ghost use Rattle.context_parts.specs.SessionsStand.{AreAsked, DoStand};
+    ghost use Rattle.context_parts.specs.SessionsStand.{AreAsked, DoStand, do_stand_on};
     ghost use Rattle.context_windows.specs.Ahead.{start_after};
     ghost use Rattle.context_windows.specs.Spanned.{IsSessionAt, gap_at};
     ghost use Rattle.context_windows.specs.Spans.{due_of, put_changes};
@@ -57,6 +58,9 @@ impl KeyPart for SessionPart {
     ghost stands_with_room = { λ d window m n s more part same stood. stood };
 
     ghost ahead_with_room = { λ d window water s more part same ahead. ahead };
+
+    ghost waits = { λ d window key m n s part new at rises none.
+        do_stand_on d window m n part.sessions new at.stood rises };
 
     ghost complete_in_time = { λ d window water. zero-le };
 
@@ -179,6 +183,11 @@ impl KeyPart for SessionPart {
         let _ = window;
         self.sessions
             .first_open(water.saturating_sub(defs.lateness()))
+    }
+
+    fn settled_by(&self, defs: &Defs, window: u32, time: u64) -> u64 {
+        let _ = window;
+        settled_with(self.sessions.end_of_last_begun(time), defs.lateness())
     }
 
     fn drop_settled(&mut self, defs: &Defs, window: u32, water: u64) {

@@ -15,3 +15,4 @@ pub mod Owed
 pub mod Marking
 pub mod Aligning
 pub mod Firsts
+pub mod Lasts

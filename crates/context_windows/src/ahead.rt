@@ -1,9 +1,9 @@
-//! The first span that ends after a time.
+//! The first span that ends after a time, and the last that starts by one.
 ghost use Rattle.std.specs.Prelude.{◌≡◌, ℕ};
-ghost use Rattle.context_windows.specs.Ahead.{end_after, first_after, start_after};
+ghost use Rattle.context_windows.specs.Ahead.{end_after, end_of_last_begun, first_after, start_after};
 ghost use Rattle.context_windows.specs.Spans.{AreApart};
 
-use crate::near::ended_by;
+use crate::near::{begun_by, ended_by};
 use crate::span::Span;
 
 // When it ends, and the greatest number where there is none.
@@ -38,4 +38,13 @@ fn first_after(spans: &[Span], time: u64) -> Option<Span>
     } else {
         None
     }
+}
+
+// When the last span ends that starts at or before a time, and 0 where there is none.
+pub fn end_of_last_begun(spans: &[Span], time: u64) -> u64
+    requires { AreApart spans.now }
+    ensures { result ≡ end_of_last_begun time spans.now }
+{
+    let place = begun_by(spans, time);
+    if place > 0 { spans[place - 1].high } else { 0 }
 }

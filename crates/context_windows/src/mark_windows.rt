@@ -8,13 +8,13 @@ ghost use Rattle.stream_base.specs.Laws.{completions};
 ghost use Rattle.stream_base.specs.Model.Changes.{Moment};
 ghost use Rattle.stream_base.specs.Model.Journal.{put_in_order};
 ghost use Rattle.window_laws.specs.After.{with_mark, with_tuple};
-ghost use Rattle.context_windows.specs.Ahead.{end_after, start_after};
+ghost use Rattle.context_windows.specs.Ahead.{end_after, end_of_last_begun, start_after};
 ghost use Rattle.context_windows.specs.Held.{AreAlignedWith};
 ghost use Rattle.context_windows.specs.Marked.{FollowsMarks, HoldsStretches, IsMarkedAsBefore, RemembersHolder, asked_at, entered_at, holder_in, marks_window, most_changes, parted_of, with_parts};
 ghost use Rattle.context_windows.specs.Spanned.{changes_of};
 ghost use Rattle.context_windows.specs.Spans.{due_of};
 
-use crate::ahead::{end_after, start_after};
+use crate::ahead::{end_after, end_of_last_begun, start_after};
 use crate::edges::{add_mark, holder};
 use crate::joining::replace;
 use crate::near::{between, due, first_asked, first_before, first_or, near};
@@ -298,6 +298,13 @@ impl MarkWindows {
         ensures { result ≡ start_after time self.now.spans }
     {
         start_after(&self.spans, time)
+    }
+
+    /// When the last interval ends that starts at or before a time, and 0 where there is none.
+    pub fn end_of_last_begun(&self, time: u64) -> u64
+        ensures { result ≡ end_of_last_begun time self.now.spans }
+    {
+        end_of_last_begun(&self.spans, time)
     }
 
     /// Forgets the intervals that end at or before a time. No tuple and no mark comes at an earlier

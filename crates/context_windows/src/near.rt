@@ -56,6 +56,14 @@ fn begun_before(spans: &[Span], time: u64) -> usize
     spans.partition_point(|s| s.low < time)
 }
 
+// How many sessions begin at or before a time.
+pub fn begun_by(spans: &[Span], time: u64) -> usize
+    requires { AreApart spans.now }
+    ensures { IsPlaceOf (λ s. nat_le s.low time) spans.now result }
+{
+    spans.partition_point(|s| s.low <= time)
+}
+
 // The first two of some sessions, as far as they stand.
 pub fn first_standing(near: &[Span], water: u64) -> (Option<Span>, Option<Span>)
     requires { AreApart near.now }

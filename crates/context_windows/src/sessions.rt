@@ -6,12 +6,12 @@ ghost use Rattle.stream_base.specs.Laws.{completions};
 ghost use Rattle.stream_base.specs.Model.Changes.{Moment};
 ghost use Rattle.stream_base.specs.Model.Journal.{put_in_order};
 ghost use Rattle.window_laws.specs.After.{with_tuple};
-ghost use Rattle.context_windows.specs.Ahead.{end_after, start_after};
+ghost use Rattle.context_windows.specs.Ahead.{end_after, end_of_last_begun, start_after};
 ghost use Rattle.context_windows.specs.Held.{AreAlignedWith, HoldsSessions};
 ghost use Rattle.context_windows.specs.Spanned.{Follows, HasAsked, IsAsBefore, IsSessionAt, Remembers, changes_of, gap_at, window_at};
 ghost use Rattle.context_windows.specs.Spans.{asked_of, due_of, put_changes, spans_with, told_at};
 
-use crate::ahead::{end_after, start_after};
+use crate::ahead::{end_after, end_of_last_begun, start_after};
 use crate::joining::{changes_of_joining, joined, replace};
 use crate::near::{between, due, first_standing, near};
 use crate::span::Span;
@@ -256,6 +256,13 @@ impl Sessions {
         ensures { result ≡ start_after time self.now.spans }
     {
         start_after(&self.spans, time)
+    }
+
+    /// When the last session ends that starts at or before a time, and 0 where there is none.
+    pub fn end_of_last_begun(&self, time: u64) -> u64
+        ensures { result ≡ end_of_last_begun time self.now.spans }
+    {
+        end_of_last_begun(&self.spans, time)
     }
 
     /// Forgets the sessions that end at or before a time. No tuple comes at an earlier time.

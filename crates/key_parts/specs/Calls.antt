@@ -1,5 +1,5 @@
 -- What a part of a key meets at each call: for which lists it stands, and what became of the store.
-use Rattle.std.specs.Prelude.{◌≡◌, ◌≤◌, ℕ}
+use Rattle.std.specs.Prelude.{◌≡◌, ℕ}
 use Rattle.std.specs.List.{slice_index_or}
 use Rattle.stream_base.specs.Limits.{Definitions}
 use Rattle.stream_base.specs.declared.def.Def.{Def}

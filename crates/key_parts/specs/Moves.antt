@@ -1,5 +1,5 @@
 -- What becomes of the store of a key where a tuple or a mark comes, and where settled slices leave.
-use Rattle.std.specs.Prelude.{◌≡◌, ◌≤◌, ◌<◌, ◌+◌, ◌-◌, ℕ, true, false, List, [], length, All}
+use Rattle.std.specs.Prelude.{◌≡◌, ◌≤◌, ◌<◌, ◌+◌, ◌-◌, ℕ, true, false, [], length, All}
 use Rattle.std.specs.BTreeSet.{insert_key}
 use Rattle.std.specs.List.{Contains, flat_map, list_all}
 use Rattle.std.specs.List.Sorted.{IsStrictlyIncreasing}
@@ -11,10 +11,8 @@ use Rattle.stream_base.specs.declared.limits.TheConstants.{JOURNAL_MAX, TIME_MAX
 use Rattle.stream_base.specs.Model.Changes.{Moment}
 use Rattle.stream_base.specs.Model.Journal.{put_in_order}
 use Rattle.stream_base.specs.Model.Slices.{is_events, is_settled_in}
-use Rattle.window_laws.specs.After.{with_mark, with_tuple}
 use Rattle.window_laws.specs.Positions.{AreKept}
 use Rattle.window_laws.specs.Runs.{parted_at}
-use Rattle.window_laws.specs.Settled.{without_first}
 use Rattle.slice_store.specs.Entered.{IsPut, slices_from}
 use Rattle.slice_store.specs.Stored.{IsSliced, IsStore, Stored, tuples_of}
 use Rattle.key_parts.specs.Held.{IsHeld}

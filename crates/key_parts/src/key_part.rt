@@ -24,10 +24,13 @@ use stream_base::{Change, Defs, KeyText, NoMemory};
 /// The definitions and the window that a call is handed are those of every call before it. A clause
 /// that speaks of what is known of the key holds for all that the part stands for.
 pub trait KeyPart: Drop {
-    ghost use Rattle.std.specs.Prelude.{◌≤◌, ℕ};
+    ghost use Rattle.std.specs.Prelude.{◌≡◌, ◌≤◌, [], ℕ, List};
     ghost use Rattle.stream_base.specs.Limits.{Definitions};
+    ghost use Rattle.stream_base.specs.Laws.{completions};
     ghost use Rattle.stream_base.specs.Model.Changes.{Moment};
+    ghost use Rattle.window_laws.specs.After.{at_water};
     ghost use Rattle.slice_store.specs.Stored.{IsAsBefore, Stored};
+    ghost use Rattle.key_parts.specs.Calls.{StandsAt, window_at};
 
     /// The window at a place of the definitions is of the kind that it is for.
     ghost is_for: { Definitions → ℕ → Type 0 };
@@ -344,6 +347,20 @@ pub trait KeyPart: Drop {
             → SettlesUpTo (defs.now).lateness (at_water (without_first n m) water)
             (window_at defs.now window) result };
 
+    /// By which watermark tuples at a time are settled in the window, and by none before.
+    fn settled_by(&self, defs: &Defs, window: u32, time: u64) -> u64
+        requires stands { (m : Moment) × (n : ℕ) × (s : Stored) × (w : ℕ)
+            × StandsAt stands defs.now window w s self.now m n }
+        requires time { time ≤ TIME_MAX }
+        ensures before { (water : ℕ) → water < result
+            → settles_at defs.now window water self.now ≤ time }
+        ensures by_then { (water : ℕ) → result ≤ water
+            → time < settles_at defs.now window water self.now }
+        ensures settles { (m : Moment) (n : ℕ) (s : Stored) (w water : ℕ) → w ≤ water
+            → IsWater water → StandsAt stands defs.now window w s self.now m n
+            → SettlesUpTo (defs.now).lateness (at_water (without_first n m) water)
+            (window_at defs.now window) (settles_at defs.now window water self.now) };
+
     /// Forgets what has ended by the watermark minus the lateness, where settled slices have left
     /// the store.
     fn drop_settled(&mut self, defs: &Defs, window: u32, water: u64)
@@ -366,6 +383,12 @@ pub trait KeyPart: Drop {
     /// And neither has what it missed.
     ghost ahead_with_room: { (d : Definitions) (window water : ℕ) (s more : Stored) (part : Self)
         → IsAsBefore s more → is_ahead d window water s part → is_ahead d window water more part };
+
+    /// Up to a later watermark at which nothing becomes complete it stands for the same.
+    ghost waits: { (d : Definitions) (window : ℕ) (key : List ℕ) (m : Moment) (n : ℕ) (s : Stored)
+        (part : Self) (new : ℕ) → StandsAt stands d window m.water s part m n → m.water ≤ new
+        → completions key m new (window, window_at d window) ≡ []
+        → stands d window (at_water m new) n s part };
 
     /// What is complete at a watermark ends by it.
     ghost complete_in_time: { (d : Definitions) (window water : ℕ)

@@ -274,7 +274,8 @@ fn a_late_tuple_alone_in_an_interval_is_new(rt: HostRuntime) -> Result<(), Fail>
 }
 
 // Of the two intervals that hold 15, [0, 20) and [10, 30), those count that end at or before the
-// watermark; 5 lies in [0, 20) alone, and [20, 40) is the first that holds 30.
+// watermark; 5 lies in [0, 20) alone, and [20, 40) is the first that holds 30. The last one that
+// holds 15 ends at 30.
 #[test]
 fn late_tuples_count_the_complete_intervals_that_hold_them(rt: HostRuntime) -> Result<(), Fail> {
     let steps: Steps<Work> = Steps::start(&rt);
@@ -299,6 +300,7 @@ fn late_tuples_count_the_complete_intervals_that_hold_them(rt: HostRuntime) -> R
         let found = window.lane.late_count(&window.defs, 0, time, water);
         assert_eq!(rt; found, count, "{time} at {water}");
     }
+    assert_eq!(rt; window.lane.last_end_holding(&window.defs, 0, 15), 30);
     Ok(())
 }
 

@@ -239,6 +239,7 @@ fn a_mark_behind_the_watermark_completes_the_first_part(rt: HostRuntime) -> Resu
 // With a mark at 20 the interval [0, 20) stands with the tuples at 2 and 12. A late mark at 10 takes
 // it back, and tells [0, 10) and [10, 20). One at 15 takes the latter back and tells [10, 15), since
 // no tuple lies behind. Marks at 0, 10 and 20 split nothing: intervals start and end there already.
+// Of the two that are left [0, 10) is the last that begins by 9, and [10, 15) by any time from 10 on.
 #[test]
 fn a_late_mark_takes_an_interval_back_for_its_parts(rt: HostRuntime) -> Result<(), Fail> {
     let script = [
@@ -267,6 +268,8 @@ fn a_late_mark_takes_an_interval_back_for_its_parts(rt: HostRuntime) -> Result<(
     )?;
     window.follow(&rt, &script)?;
     assert_eq!(rt; window.changes.as_slice(), told.as_slice());
+    assert_eq!(rt; window.between.end_of_last_begun(9), 10);
+    assert_eq!(rt; window.between.end_of_last_begun(17), 15);
     Ok(())
 }
 

@@ -236,7 +236,8 @@ fn a_session_that_grows_past_the_watermark_is_taken_back(rt: HostRuntime) -> Res
 }
 
 // Of [0, 5) and [8, 13) the first is forgotten at 5. A late tuple at 5 is just 5 away from 0 and 3
-// from 8: only [8, 13) is taken back, and [5, 13) is new with 2 + 4. One at 6 changes that.
+// from 8: only [8, 13) is taken back, and [5, 13) is new with 2 + 4. One at 6 changes that. By 4 no
+// session that is left has begun.
 #[test]
 fn a_late_tuple_behind_a_purge_joins_what_is_left(rt: HostRuntime) -> Result<(), Fail> {
     let script = [
@@ -262,5 +263,7 @@ fn a_late_tuple_behind_a_purge_joins_what_is_left(rt: HostRuntime) -> Result<(),
     )?;
     window.follow(&rt, &script)?;
     assert_eq!(rt; window.changes.as_slice(), told.as_slice());
+    assert_eq!(rt; window.sessions.end_of_last_begun(4), 0);
+    assert_eq!(rt; window.sessions.end_of_last_begun(6), 13);
     Ok(())
 }

@@ -8,3 +8,4 @@ pub mod WalkFacts
 pub mod MoveFacts
 pub mod AdvanceFacts
 pub mod StayFacts
+pub mod WaitFacts

@@ -11,6 +11,7 @@ ghost use Rattle.stream_base.specs.Laws.{completions};
 ghost use Rattle.stream_base.specs.Model.Changes.{Moment, emissions};
 ghost use Rattle.window_laws.specs.After.{with_tuple};
 ghost use Rattle.window_laws.specs.Due.{first_open};
+ghost use Rattle.window_laws.specs.Settled.{last_end_of as last_end_holding_of};
 ghost use Rattle.window_laws.specs.Walk.{next_start_of};
 ghost use Rattle.slice_store.specs.Stored.{IsSliced, Stored, tuples_of};
 ghost use Rattle.time_lanes.specs.Lane.{IsAsBefore, IsSameUpTo, Knows, KnowsAll, fresh_partials, fresh_to};
@@ -309,6 +310,18 @@ impl<Q: AggQueue<Bundle>> Lane<Q> {
     {
         let def = window_at(defs, window);
         Span::of(&def.kind).next_start(time)
+    }
+
+    /// The end of the last interval that holds a time: tuples at it lie in none that ends later.
+    pub fn last_end_holding(&self, defs: &Defs, window: u32, time: u64) -> u64
+        requires served { is_served defs.now.windows window ≡ true }
+        requires time { time ≤ TIME_MAX }
+        ensures end { (def : Def) → IsWindowAt defs.now.windows window def
+            → result ≡ last_end_holding_of def.kind time }
+        ensures within { result ≤ TIME_MAX + TIME_MAX }
+    {
+        let def = window_at(defs, window);
+        Span::of(&def.kind).last_end_holding(time)
     }
 
     /// Tells the lane that a slice which holds a time was changed other than at its end, as by a

@@ -1,16 +1,17 @@
 //! What a lane knows of its store's slices after a call on the store, each as the contract of a
 //! function that does nothing.
-ghost use Rattle.std.specs.Prelude.{◌≡◌, ◌≤◌, List, ℕ, true, All};
-ghost use Rattle.std.specs.List.{flat_map};
+ghost use Rattle.std.specs.Prelude.{◌≡◌, ◌≤◌, List, [], ℕ, true, All};
+ghost use Rattle.std.specs.List.{Contains, flat_map};
 ghost use Rattle.stream_base.specs.declared.def.Def.{Def};
 ghost use Rattle.stream_base.specs.declared.kept.Kept.{Kept};
 ghost use Rattle.stream_base.specs.declared.kind.Kind.{Kind};
-ghost use Rattle.stream_base.specs.Laws.{is_timed};
+ghost use Rattle.stream_base.specs.Laws.{completions, is_timed};
 ghost use Rattle.stream_base.specs.Limits.{IsKindWithin};
+ghost use Rattle.stream_base.specs.Model.Changes.{Moment};
 ghost use Rattle.window_laws.specs.Runs.{parted_at};
 ghost use Rattle.window_laws.specs.Walk.{next_start_of};
 ghost use Rattle.slice_store.specs.Entered.{IsPut, slices_from};
-ghost use Rattle.slice_store.specs.Stored.{IsSliced, IsStore, Stored};
+ghost use Rattle.slice_store.specs.Stored.{IsSliced, IsStore, Stored, tuples_of};
 ghost use Rattle.time_lanes.specs.Lane.{IsAsBefore, IsSameUpTo, Knows, KnowsAll, Laned};
 ghost use Rattle.time_lanes.specs.Spans.{IsWindowAt};
 
@@ -53,4 +54,14 @@ pub fn lane_with_more_room_knows_the_same()
         → IsAsBefore old new → Knows kind water s old → Knows kind water s new }
     ensures knows_all { (kind : Kind) (water : ℕ) (s : Stored) (old new : Laned)
         → IsAsBefore old new → KnowsAll kind water s old → KnowsAll kind water s new }
+{}
+
+/// Where a move of the watermark completes no interval, a lane that isn't told of it knows the slices
+/// at the new watermark too.
+pub fn lane_knows_where_nothing_completes()
+    ensures { (window : ℕ) (def : Def) (key : List ℕ) (m : Moment) (new : ℕ) (s : Stored)
+        (lane : Laned) → is_timed def.kind ≡ true → IsKindWithin def.kind → IsStore s
+        → All (Contains m.kept) (tuples_of s) → m.water ≤ new
+        → completions key m new (window, def) ≡ [] → Knows def.kind m.water s lane
+        → Knows def.kind new s lane }
 {}

@@ -21,9 +21,10 @@ use Rattle.stream_base.specs.Model.Slices.{is_settled, is_settled_in}
 use Rattle.stream_base.specs.Model.Windows.{is_within, starts_holding, within}
 use Rattle.stream_base.proofs.Distinct.{All_from_members}
 use Rattle.stream_base.proofs.Spans.{starts_holding_members}
+use Rattle.window_laws.specs.After.{at_water}
 use Rattle.window_laws.specs.Late.{length_of, slide_of}
 use Rattle.window_laws.specs.Positions.{AreKept, HaveDistinctPositions}
-use Rattle.window_laws.specs.Settled.{MayLeave, last_end_of}
+use Rattle.window_laws.specs.Settled.{MayLeave, last_end_of, without_first}
 use Rattle.window_laws.specs.Walk.{next_start}
 use Rattle.window_laws.proofs.LeaveFacts.{not_within}
 use Rattle.window_laws.proofs.Order.{filter_none}
@@ -123,21 +124,21 @@ module _ (d : Definitions) (window : ℕ) (m : Moment) (n : ℕ) (t : IsTimedAt 
 
 -- ---- up to when tuples are settled
 module _ (length slide : ℕ) (span : IsSpan length slide) (lateness water : ℕ) where
-  settled_is_before : (time : ℕ) → time / slide * slide + length + lateness ≤ water → time < next_start length slide (water - lateness)
+  pub settled_is_before : (time : ℕ) → time / slide * slide + length + lateness ≤ water → time < next_start length slide (water - lateness)
   settled_is_before time h =
       let d : time / slide * slide + _ ≡ time = div-add-mod' time slide in
       let r = mod_below time slide span.moves in
       let b : time / slide * slide + slide ≤ next_start length slide (water - lateness) = start_behind length slide (time / slide) (water - lateness) span.moves (omega arith) in
       omega (arith, d, r)
 
-  before_is_settled : (time : ℕ) → time < next_start length slide (water - lateness) → time / slide * slide + length + lateness ≤ water
+  pub before_is_settled : (time : ℕ) → time < next_start length slide (water - lateness) → time / slide * slide + length + lateness ≤ water
   before_is_settled time h = elim (cases_lt (water - lateness) (time / slide * slide + length)) [
     | inl l ↦ absurd (let f : next_start length slide (water - lateness) ≤ time / slide * slide = from_next length slide span.moves span.overlaps (water - lateness) (time / slide) l in omega (arith, div-add-mod' time slide))
     | inr l ↦ omega (arith, span.moves, span.overlaps)
   ]
 
 -- before the first interval that ends after the watermark minus the lateness
-pub settles_up_to : (d : Definitions) (window : ℕ) (m : Moment) → IsTimedAt d window → All (λ w. IsKindWithin w.kind) d.windows → AreKept m.kept → SettlesUpTo d.lateness m (window_at d window) (open_from d window m.water)
+settles_up_to : (d : Definitions) (window : ℕ) (m : Moment) → IsTimedAt d window → All (λ w. IsKindWithin w.kind) d.windows → AreKept m.kept → SettlesUpTo d.lateness m (window_at d window) (open_from d window m.water)
 settles_up_to d window m t kinds k = record { before = before; behind = behind }
   where
     span : IsSpan (length_of (kind_at d window)) (slide_of (kind_at d window))
@@ -153,3 +154,7 @@ settles_up_to d window m t kinds k = record { before = before; behind = behind }
       | inr f ↦ f
       | inl s ↦ absurd (let b : x.time < open_from d window m.water = settled_is_before (length_of (kind_at d window)) (slide_of (kind_at d window)) span d.lateness m.water x.time ((timed_settles d.lateness m x (window_at d window) k (within_at d window t kinds) (timed_at d window t) c).0 s) in omega arith)
     ]
+
+-- at any watermark, of the tuples that are left
+pub rest_settles : (d : Definitions) (window : ℕ) (m : Moment) (n water : ℕ) → IsTimedAt d window → MayLeave d m n → SettlesUpTo d.lateness (at_water (without_first n m) water) (window_at d window) (open_from d window water)
+rest_settles d window m n water t may = settles_up_to d window (at_water (without_first n m) water) t may.kinds (kept_without n m.kept may.kept)

@@ -4,6 +4,7 @@ use Rattle.std.specs.Option.{option_map_or}
 use Rattle.stream_base.specs.Limits.{Definitions}
 use Rattle.stream_base.specs.Model.Changes.{Moment}
 use Rattle.stream_base.specs.Model.Slices.{is_events}
+use Rattle.window_laws.specs.After.{at_water}
 use Rattle.count_shift.specs.Counting.{count_of, move_changes, put_changes}
 use Rattle.count_shift.specs.Lane.{Laned}
 use Rattle.time_parts.specs.Lanes.{kind_at}
@@ -25,3 +26,7 @@ shift_room d window time water lane = put_changes (count_of (kind_at d window)) 
 -- how many instances a move completes
 abbrev pub fill_room : Definitions → ℕ → ℕ → ℕ → Laned → ℕ
 fill_room d window old new lane = move_changes (count_of (kind_at d window)) lane.kept old new
+
+-- the watermark makes no difference
+pub counts_on : (d : Definitions) (window : ℕ) (m : Moment) (new : ℕ) (lane : Laned) → Counts d window m lane → Counts d window (at_water m new) lane
+counts_on d window m new lane stood = record { counts = stood.counts; tuples = stood.tuples }

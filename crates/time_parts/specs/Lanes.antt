@@ -1,18 +1,24 @@
 -- What the part of a tumbling or sliding window is in contracts, and what it promises.
-use Rattle.std.proofs.Common.{◌≡◌, ◌∙◌, ◌≤◌, ◌-◌, ℕ, true, List, length, Option, ap, subst, sym}
+use Rattle.std.proofs.Common.{◌≡◌, ◌∙◌, ◌≤◌, ◌-◌, ℕ, true, List, [], length, Option, ap, subst, sym}
 use Rattle.stream_base.specs.Limits.{Definitions}
 use Rattle.stream_base.specs.declared.former.Former.{Former}
+use Rattle.stream_base.specs.declared.func.Func.TheVariants.{Count}
 use Rattle.stream_base.specs.declared.kind.Kind.{Kind}
+use Rattle.stream_base.specs.declared.kind.Kind.TheVariants.{Marks}
+use Rattle.stream_base.specs.Laws.{completions}
 use Rattle.stream_base.specs.Model.Changes.{Moment}
+use Rattle.window_laws.specs.After.{at_water}
 use Rattle.window_laws.specs.Runs.{runs_within}
 use Rattle.window_laws.specs.Walk.{next_start_of}
-use Rattle.slice_store.specs.Stored.{IsAsBefore, Stored, tuples_of}
+use Rattle.slice_store.specs.Stored.{IsAsBefore, IsStore, Stored, tuples_of}
 use Rattle.time_lanes.specs.Lane.{Knows, KnowsAll, Laned, partials_of}
 use Rattle.time_lanes.specs.Late.{complete_holding, formers_of}
 use Rattle.time_lanes.specs.Moves.{completed_starts, slices_between, slices_due, slices_in_last}
 use Rattle.time_lanes.specs.Spans.{is_served, last_end_of}
 use Rattle.time_lanes.proofs.StayFacts.{last_by}
+use Rattle.time_lanes.proofs.WaitFacts.{serves_on as lane_serves_on}
 use Rattle.key_parts.specs.Calls.{window_at}
+use Rattle.key_parts.specs.Held.{IsHeld}
 
 -- the lane of a window, what it has told of what stands before a tuple comes, and for how much of that there is room
 pub record Timed : Type 0 where
@@ -90,3 +96,10 @@ misses_with_room d window water s more lane same ahead = record {
 -- what is complete at a watermark ends by it
 pub complete_in_time : (d : Definitions) (window water : ℕ) → complete_up_to d window water ≤ water
 complete_in_time d window water = last_by (kind_at d window) water
+
+-- up to a later watermark at which nothing becomes complete it serves on
+pub serves_on : (d : Definitions) (window : ℕ) (key : List ℕ) (m : Moment) (n : ℕ) (s : Stored) (lane : Laned) (new : ℕ) → IsStore s → IsHeld d m n s → Serves d window m s lane → m.water ≤ new → completions key m new (window, window_at d window) ≡ [] → Serves d window (at_water m new) s lane
+serves_on d window key m n s lane new store held stood rises none = record {
+  timed = stood.timed;
+  knows = lane_serves_on d.windows window (record { kind = Marks; func = Count }) key m n new s lane stood.timed held.may_leave.kinds store held.tuples rises none stood.knows;
+}

@@ -54,7 +54,7 @@ fn count_of(kind: &Kind) -> u64
 impl KeyPart for CountPart {
     ghost use Rattle.std.proofs.Common.{◌≤◌, zero-le};
     ghost use Rattle.stream_base.specs.declared.limits.TheConstants.{FINAL};
-    ghost use Rattle.time_parts.specs.Counted.{Counts, CountsAt, fill_room, shift_room};
+    ghost use Rattle.time_parts.specs.Counted.{Counts, CountsAt, counts_on, fill_room, shift_room};
 
     ghost is_for = { CountsAt };
 
@@ -89,6 +89,9 @@ impl KeyPart for CountPart {
     ghost stands_with_room = { λ d window m n s more part same stood. stood };
 
     ghost ahead_with_room = { λ d window water s more part same ahead. ahead };
+
+    ghost waits = { λ d window key m n s part new at rises none.
+        counts_on d window m new part at.stood };
 
     ghost complete_in_time = { λ d window water. zero-le };
 
@@ -200,6 +203,11 @@ impl KeyPart for CountPart {
 
     fn first_unsettled(&self, defs: &Defs, window: u32, water: u64) -> u64 {
         FINAL
+    }
+
+    // Every tuple is settled at once.
+    fn settled_by(&self, defs: &Defs, window: u32, time: u64) -> u64 {
+        0
     }
 
     fn drop_settled(&mut self, defs: &Defs, window: u32, water: u64) {}

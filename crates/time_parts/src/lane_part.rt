@@ -60,7 +60,7 @@ impl<Q: AggQueue<Bundle>> LanePart<Q> {
 
 impl<Q: AggQueue<Bundle> + Drop> KeyPart for LanePart<Q> {
     ghost use Rattle.std.specs.Prelude.{length};
-    ghost use Rattle.time_parts.specs.Lanes.{CanMove, HasTold, IsTimedAt, MissesNone, Serves, complete_in_time, complete_up_to, late_room, misses_with_room, open_from, rows_due, serves_with_room, slices_completed, slices_of_last};
+    ghost use Rattle.time_parts.specs.Lanes.{CanMove, HasTold, IsTimedAt, MissesNone, Serves, complete_in_time, complete_up_to, late_room, misses_with_room, open_from, rows_due, serves_on, serves_with_room, slices_completed, slices_of_last};
 
     ghost is_for = { IsTimedAt };
 
@@ -97,6 +97,9 @@ impl<Q: AggQueue<Bundle> + Drop> KeyPart for LanePart<Q> {
 
     ghost ahead_with_room = { λ d window water s more part same ahead.
         misses_with_room d window water s more part.lane same ahead };
+
+    ghost waits = { λ d window key m n s part new at rises none.
+        serves_on d window key m n s part.lane new at.store at.held at.stood rises none };
 
     ghost complete_in_time = { complete_in_time };
 
@@ -213,6 +216,10 @@ impl<Q: AggQueue<Bundle> + Drop> KeyPart for LanePart<Q> {
     fn first_unsettled(&self, defs: &Defs, window: u32, water: u64) -> u64 {
         let settled_by = water.saturating_sub(defs.lateness());
         self.lane.next_start(defs, window, settled_by)
+    }
+
+    fn settled_by(&self, defs: &Defs, window: u32, time: u64) -> u64 {
+        self.lane.last_end_holding(defs, window, time) + defs.lateness()
     }
 
     fn drop_settled(&mut self, defs: &Defs, window: u32, water: u64) {}

@@ -1,17 +1,20 @@
 -- What the part of a window of any kind is in contracts, by the part of its kind.
-use Rattle.std.specs.Prelude.{◌≤◌, ◌-◌, ℕ, length}
+use Rattle.std.specs.Prelude.{◌≡◌, ◌≤◌, ◌-◌, ℕ, List, [], length}
 use Rattle.stream_base.specs.declared.limits.TheConstants.{FINAL}
+use Rattle.stream_base.specs.Laws.{completions}
 use Rattle.stream_base.specs.Limits.{Definitions}
 use Rattle.stream_base.specs.Model.Changes.{Moment}
+use Rattle.window_laws.specs.After.{at_water}
 use Rattle.slice_store.specs.Stored.{IsAsBefore, Stored}
 use Rattle.context_windows.specs.Ahead.{start_after}
 use Rattle.context_windows.specs.Marked.{holder_in, most_changes}
 use Rattle.context_windows.specs.Spanned.{gap_at}
 use Rattle.context_windows.specs.Spans.{due_of, put_changes}
-use Rattle.context_parts.specs.MarksStand.{DoStandBetween, RemembersHolderAt}
-use Rattle.context_parts.specs.SessionsStand.{AreAsked, DoStand}
-use Rattle.time_parts.specs.Lanes.{CanMove, HasTold, MissesNone, Serves, late_room, misses_with_room, open_from, rows_due, serves_with_room}
-use Rattle.time_parts.specs.Counted.{Counts, fill_room, shift_room}
+use Rattle.key_parts.specs.Calls.{StandsAt, window_at}
+use Rattle.context_parts.specs.MarksStand.{DoStandBetween, RemembersHolderAt, do_stand_between_on}
+use Rattle.context_parts.specs.SessionsStand.{AreAsked, DoStand, do_stand_on}
+use Rattle.time_parts.specs.Lanes.{CanMove, HasTold, MissesNone, Serves, late_room, misses_with_room, open_from, rows_due, serves_on, serves_with_room}
+use Rattle.time_parts.specs.Counted.{Counts, counts_on, fill_room, shift_room}
 use Rattle.window_parts.specs.declared.window_part.WindowPart.{WindowPart}
 use Rattle.window_parts.specs.declared.window_part.WindowPart.TheVariants.{Intervals, Sessions, Marks, Events}
 
@@ -104,3 +107,10 @@ ahead_with_room_any d window water s more (Intervals p) same ahead = misses_with
 ahead_with_room_any d window water s more (Sessions p) same ahead = ahead
 ahead_with_room_any d window water s more (Marks p) same ahead = ahead
 ahead_with_room_any d window water s more (Events p) same ahead = ahead
+
+-- up to a later watermark at which nothing becomes complete it stands for the same
+pub waits_any : {Q : Type 0} → (d : Definitions) (window : ℕ) (key : List ℕ) (m : Moment) (n : ℕ) (s : Stored) (part : WindowPart Q) (new : ℕ) → StandsAt stands_any d window m.water s part m n → m.water ≤ new → completions key m new (window, window_at d window) ≡ [] → stands_any d window (at_water m new) n s part
+waits_any d window key m n s (Intervals p) new at rises none = serves_on d window key m n s p.lane new at.store at.held at.stood rises none
+waits_any d window key m n s (Sessions p) new at rises none = do_stand_on d window m n p.sessions new at.stood rises
+waits_any d window key m n s (Marks p) new at rises none = do_stand_between_on d window m n p.windows new at.stood rises
+waits_any d window key m n s (Events p) new at rises none = counts_on d window m new p at.stood

@@ -27,7 +27,7 @@ impl<Q: AggQueue<Bundle> + Drop> AnyPart for WindowPart<Q> {
 impl<Q: AggQueue<Bundle> + Drop> KeyPart for WindowPart<Q> {
     ghost use Rattle.std.specs.Prelude.{◌<◌, length};
     ghost use Rattle.time_parts.specs.Lanes.{complete_in_time, complete_up_to, slices_completed, slices_of_last};
-    ghost use Rattle.window_parts.specs.Any.{ahead_any, ahead_with_room_any, asked_any, can_move_any, credit_any, mark_room_any, move_room_any, owed_any, put_room_any, ready_any, settles_any, stands_any, stands_with_room_any};
+    ghost use Rattle.window_parts.specs.Any.{ahead_any, ahead_with_room_any, asked_any, can_move_any, credit_any, mark_room_any, move_room_any, owed_any, put_room_any, ready_any, settles_any, stands_any, stands_with_room_any, waits_any};
 
     ghost is_for = { λ d window. window < length d.windows };
 
@@ -63,6 +63,8 @@ impl<Q: AggQueue<Bundle> + Drop> KeyPart for WindowPart<Q> {
     ghost stands_with_room = { stands_with_room_any };
 
     ghost ahead_with_room = { ahead_with_room_any };
+
+    ghost waits = { waits_any };
 
     ghost complete_in_time = { complete_in_time };
 
@@ -239,6 +241,15 @@ impl<Q: AggQueue<Bundle> + Drop> KeyPart for WindowPart<Q> {
             WindowPart::Sessions(part) => part.first_unsettled(defs, window, water),
             WindowPart::Marks(part) => part.first_unsettled(defs, window, water),
             WindowPart::Events(part) => part.first_unsettled(defs, window, water),
+        }
+    }
+
+    fn settled_by(&self, defs: &Defs, window: u32, time: u64) -> u64 {
+        match self {
+            WindowPart::Intervals(part) => part.settled_by(defs, window, time),
+            WindowPart::Sessions(part) => part.settled_by(defs, window, time),
+            WindowPart::Marks(part) => part.settled_by(defs, window, time),
+            WindowPart::Events(part) => part.settled_by(defs, window, time),
         }
     }
 

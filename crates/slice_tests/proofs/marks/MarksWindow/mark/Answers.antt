@@ -1,5 +1,5 @@
 -- The slices of the store part at the interval that the mark parts, and at the mark.
-use Rattle.std.proofs.Common.{◌≤◌, ◌∙◌, length, sym, subst, arith}
+use Rattle.std.proofs.Common.{◌≤◌, length, sym, subst, arith}
 use Rattle.std.specs.BTreeSet.{insert_key}
 use Rattle.std.specs.Ordering.{nat_cmp}
 use Rattle.slice_store.specs.Stored.{tuples_of}
