@@ -59,3 +59,9 @@ none_unsettled d m e = filter_none (λ x. not (is_settled d m x)) m.kept (All_fr
 
 pub no_slices : (d : Definitions) (m : Moment) → all_count_events d → runs_of d.windows m.marks (unsettled d m) ≡ []
 no_slices d m e = ap (runs_of d.windows m.marks) (none_unsettled d m e)
+
+-- from the time on up to which tuples are settled the store holds the unsettled ones
+pub unsettled_from : (d : Definitions) (m : Moment) (n time : ℕ) (s : Stored) → IsHeld d m n s → IsStore s → IsSettledUpTo d (without_first n m) time → unsettled d m ≡ joined (slices_from time s.slices)
+unsettled_from d m n time s h o u =
+    let p = place_among time s.slices (o.slices).ordered in
+    unsettled_are d m n time s h o u p.0 p.1 ∙ ap joined (sym (from_place s.slices time p.0 p.1))

@@ -5,3 +5,4 @@ pub mod PurgeFacts
 pub mod SettleFacts
 pub mod CountFacts
 pub mod PartFacts
+pub mod OpenFacts

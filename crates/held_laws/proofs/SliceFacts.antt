@@ -62,7 +62,7 @@ module _ (d : Definitions) (m : Moment) (n : ℕ) (s : Stored) (h : IsHeld d m n
       let p : (nat_lt a mark ≡ true) × (nat_le mark b ≡ true) = and_parts (nat_lt a mark) (nat_le mark b) passes in
       any_from_member (λ k. nat_lt a k && nat_le k b) those mark (f mark (omega (arith, ltb-true a mark p.0)) (k, lt, at)) passes
 
-  same_marks : (a b : ℕ) → s.dropped ≤ a → list_any (λ k. nat_lt a k && nat_le k b) m.marks ≡ list_any (λ k. nat_lt a k && nat_le k b) s.marks
+  pub same_marks : (a b : ℕ) → s.dropped ≤ a → list_any (λ k. nat_lt a k && nat_le k b) m.marks ≡ list_any (λ k. nat_lt a k && nat_le k b) s.marks
   same_marks a b l = same_truth _ _ (any_of m.marks s.marks (h.marks).back a b l) (any_of s.marks m.marks (h.marks).there a b l)
 
   module _ (o : IsStore s) where

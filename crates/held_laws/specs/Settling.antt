@@ -1,10 +1,11 @@
 -- Up to which time the tuples of a key are settled.
-use Rattle.std.specs.Prelude.{◌≡◌, ◌≤◌, ◌<◌, ◌-◌, ◌⊎◌, ℕ, true, false, length}
+use Rattle.std.specs.Prelude.{◌≡◌, ◌≤◌, ◌<◌, ◌-◌, ◌⊎◌, ℕ, true, false, length, All}
 use Rattle.std.specs.List.{Contains}
 use Rattle.stream_base.specs.Limits.{Definitions}
 use Rattle.stream_base.specs.declared.kept.Kept.{Kept}
 use Rattle.stream_base.specs.Model.Changes.{Moment}
 use Rattle.stream_base.specs.Model.Slices.{is_settled}
+use Rattle.slice_store.specs.Stored.{Stored, tuples_of}
 use Rattle.key_parts.specs.Calls.{window_at}
 use Rattle.key_parts.specs.Moves.{SettlesUpTo}
 
@@ -22,3 +23,7 @@ pub record IsLeast (d : Definitions) (water : ℕ) (times : ℕ → ℕ) (time :
   pub by_water : time ≤ water - d.lateness
   pub by_each : (i : ℕ) → i < length d.windows → time ≤ times i
   pub is_one : (time ≡ water - d.lateness) ⊎ ((i : ℕ) × (i < length d.windows) × (time ≡ times i))
+
+-- none of the tuples in the store of a key is settled
+abbrev pub NoneSettled : Definitions → Moment → Stored → Type 0
+NoneSettled d m s = All (λ x. is_settled d m x ≡ false) (tuples_of s)

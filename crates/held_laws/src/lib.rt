@@ -10,8 +10,10 @@
 //! - `purging`: its slices are those of the key and part where tuples cease to be settled, and
 //!   where settled ones are dropped it goes on to hold the key.
 //! - `settling`: settled tuples that left change nothing of which others are settled, and these are
-//!   settled up to the least of the times of the windows and the watermark minus the lateness.
-//! - `counting`: the slices of unsettled tuples are the last slices of the store.
+//!   settled up to the least of the times of the windows and the watermark minus the lateness. A
+//!   store without settled tuples stays so where a tuple comes, and where most marks come.
+//! - `counting`: the slices of unsettled tuples are the last slices of the store, and all where no
+//!   tuple in it is settled.
 //! - `parts`: the store holds what sessions and intervals between marks select of what is left, and
 //!   its slices part where these start and end.
 #![tactic(auto)]

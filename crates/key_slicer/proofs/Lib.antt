@@ -1,6 +1,7 @@
 pub mod AheadFacts
 pub mod Loops
 pub mod SortFacts
+pub mod SettleFacts
 pub mod StateFacts
 pub mod Steps
 pub mod WorkFacts

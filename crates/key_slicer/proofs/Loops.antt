@@ -1,6 +1,6 @@
 -- The loops over the parts of a key.
 use Rattle.std.proofs.Common.{◌≡◌, ◌∙◌, ◌≤◌, ◌<◌, ◌+◌, ◌*◌, ◌-◌, ℕ, zero, suc, List, [], ◌∷◌, ◌++◌, length, get_or, set, take, drop, ap, sym, refl, subst, arith, inl, inr, ⊎_elim, append_assoc}
-use Rattle.std.specs.Prelude.{◌≢◌, ◌⊎◌, min, sum_by}
+use Rattle.std.specs.Prelude.{◌≢◌, ◌⊎◌, max, min, sum_by}
 use Rattle.std.specs.List.{enumerate_from, flat_map}
 use Rattle.std.proofs.lemmas.Bool.{cases_eq, cases_lt}
 use Rattle.std.proofs.lemmas.List.{append-nil, drop_more, get_or_default, get_or-set_other, get_or-set_same, length-append, length-set, take_all, take_more}
@@ -87,6 +87,72 @@ module _ {P : Type 0} (time_of : ℕ → P → ℕ) (most : ℕ) (parts : List P
     is_one = ⊎_elim (λ m. inl m) (λ (o : (j : ℕ) × (j < i) × ((x : P) → time ≡ time_of j (get_or parts j x))). inr (o.0, omega (arith, o.1, e), o.2)) l.is_one;
   }
 
+  -- the first parts have a least time
+  pub some_least : (p : P) (i : ℕ) → i ≤ length parts → (time : ℕ) × IsLeastSoFar i time
+  some_least p zero l = (most, least_first)
+  some_least p (suc i) l =
+      let o = some_least p i (omega arith) in
+      let part : P = get_or parts i p in
+      (min o.0 (time_of i part), subst (λ k. IsLeastSoFar k (min o.0 (time_of i part))) (omega arith) (least_more i o.0 _ part (λ x. get_or_default parts i p x (omega arith)) refl o.1))
+
+-- so have all parts
+pub least_there : {P : Type 0} (time_of : ℕ → P → ℕ) (most : ℕ) (parts : List P) → (time : ℕ) × IsLeastOf time_of most parts time
+least_there time_of most [] = (most, record { by_most = omega arith; by_each = λ i x l. absurd (omega arith); is_one = inl refl })
+least_there time_of most (p ∷ parts) =
+    let o = some_least time_of most (p ∷ parts) p (length (p ∷ parts)) (omega arith) in
+    (o.0, least_all time_of most (p ∷ parts) (length (p ∷ parts)) o.0 refl o.1)
+
+-- ---- by when a time lies before the least of the times of parts
+module _ {P : Type 0} (time_of : ℕ → ℕ → P → ℕ) (lateness : ℕ) (parts : List P) (time : ℕ) where
+  -- from a watermark on the time lies before the watermark minus the lateness and before the times of the first parts, and before then not before all of them
+  pub record IsDueSoFar (i due : ℕ) : Type 0 where
+    pub before : (water : ℕ) → water < due → (water - lateness ≤ time) ⊎ ((j : ℕ) × (j < i) × ((x : P) → time_of water j (get_or parts j x) ≤ time))
+    pub by_most : (water : ℕ) → due ≤ water → time < water - lateness
+    pub by_each : (water j : ℕ) (x : P) → due ≤ water → j < i → time < time_of water j (get_or parts j x)
+
+  pub due_first : IsDueSoFar 0 (time + 1 + lateness)
+  due_first = record { before = λ water l. inl (omega arith); by_most = λ water l. omega arith; by_each = λ water j x l b. absurd (omega arith) }
+
+  pub due_more : (i old here new : ℕ) (part : P) → ((x : P) → part ≡ get_or parts i x) → new ≡ max old here → ((water : ℕ) → water < here → time_of water i part ≤ time)
+      → ((water : ℕ) → here ≤ water → time < time_of water i part) → IsDueSoFar i old → IsDueSoFar (i + 1) new
+  due_more i old here new part is e before by_then s = record {
+    before = λ water l. ⊎_elim
+        (λ lt. ⊎_elim (λ m. inl m) (λ (o : (j : ℕ) × (j < i) × ((x : P) → time_of water j (get_or parts j x) ≤ time)). inr (o.0, omega (arith, o.1), o.2)) (s.before water lt))
+        (λ le. inr (i, omega arith, λ x. subst (λ p. time_of water i p ≤ time) (is x) (before water (omega (arith, e)))))
+        (cases_lt water old);
+    by_most = λ water l. s.by_most water (omega (arith, e));
+    by_each = λ water j x l jl. ⊎_elim
+        (λ (eq : j ≡ i). subst (λ k. time < time_of water k (get_or parts k x)) (sym eq) (subst (λ p. time < time_of water i p) (is x) (by_then water (omega (arith, e)))))
+        (λ ne. s.by_each water j x (omega (arith, e)) (omega arith))
+        (cases_eq j i);
+  }
+
+  pub due_before : (i due water least : ℕ) → i ≡ length parts → IsDueSoFar i due → water < due → IsLeastOf (time_of water) (water - lateness) parts least → least ≤ time
+  due_before i due water least e s l o = ⊎_elim
+      (λ m. omega (arith, m, o.by_most))
+      (λ (f : (j : ℕ) × (j < i) × ((x : P) → time_of water j (get_or parts j x) ≤ time)). each f.0 (omega (arith, f.1, e)) f.2)
+      (s.before water l)
+    where
+      each : (j : ℕ) → j < length parts → ((x : P) → time_of water j (get_or parts j x) ≤ time) → least ≤ time
+      each j b f = by parts b f o.by_each
+        where
+          by : (ps : List P) → j < length ps → ((x : P) → time_of water j (get_or ps j x) ≤ time) → EachPart (λ i part. least ≤ time_of water i part) ps → least ≤ time
+          by [] b f g = absurd (omega arith)
+          by (p ∷ ps) b f g = omega (arith, f p, g j p b)
+
+  pub due_by_then : (i due water least : ℕ) → i ≡ length parts → IsDueSoFar i due → due ≤ water → IsLeastOf (time_of water) (water - lateness) parts least → time < least
+  due_by_then i due water least e s l o = ⊎_elim
+      (λ m. omega (arith, m, s.by_most water l))
+      (λ (f : (j : ℕ) × (j < length parts) × ((x : P) → least ≡ time_of water j (get_or parts j x))). one f.0 f.1 f.2)
+      o.is_one
+    where
+      one : (j : ℕ) → j < length parts → ((x : P) → least ≡ time_of water j (get_or parts j x)) → time < least
+      one j b f = by parts b f (λ x. s.by_each water j x l (omega (arith, e)))
+        where
+          by : (ps : List P) → j < length ps → ((x : P) → least ≡ time_of water j (get_or ps j x)) → ((x : P) → time < time_of water j (get_or ps j x)) → time < least
+          by [] b f g = absurd (omega arith)
+          by (p ∷ ps) b f g = omega (arith, f p, g p)
+
 -- ---- numbered lists
 pub numbered_end : {X : Type 0} (n : ℕ) (xs : List X) (y : X) → enumerate_from n (xs ++ y ∷ []) ≡ enumerate_from n xs ++ (n + length xs, y) ∷ []
 numbered_end n [] y = let e : n ≡ n + 0 = omega arith in (λ k. (e k, y) ∷ [])
@@ -146,6 +212,17 @@ none_first (x ∷ xs) ys e = cc
 none_second : {Y : Type 0} (xs ys : List Y) → xs ++ ys ≡ [] → ys ≡ []
 none_second [] ys e = e
 none_second (x ∷ xs) ys e = cc
+
+-- where nothing is given by all, nothing is by one of them
+pub none_of : {X Y : Type 0} (f : ℕ × X → List Y) (xs : List X) (i : ℕ) (d : X) → i < length xs → flat_map f (enumerate_from 0 xs) ≡ [] → f (i, get_or xs i d) ≡ []
+none_of f xs i d l none = let e : 0 + i ≡ i = omega arith in subst (λ n. f (n, get_or xs i d) ≡ []) e (from f xs 0 i d l none)
+  where
+    from : {X Y : Type 0} (f : ℕ × X → List Y) (xs : List X) (k i : ℕ) (d : X) → i < length xs → flat_map f (enumerate_from k xs) ≡ [] → f (k + i, get_or xs i d) ≡ []
+    from f [] k i d l none = absurd (omega arith)
+    from f (x ∷ xs) k zero d l none = let e : k ≡ k + 0 = omega arith in subst (λ n. f (n, x) ≡ []) e (none_first (f (k, x)) (flat_map f (enumerate_from (k + 1) xs)) none)
+    from f (x ∷ xs) k (suc i) d l none =
+        let e : k + 1 + i ≡ k + suc i = omega arith in
+        subst (λ n. f (n, get_or xs i d) ≡ []) e (from f xs (k + 1) i d (omega arith) (none_second (f (k, x)) (flat_map f (enumerate_from (k + 1) xs)) none))
 
 -- something is given so far, or by one element more
 pub some_more : {X Y : Type 0} (f : ℕ × X → List Y) (xs : List X) (i : ℕ) (d : X) → i < length xs → flat_map f (enumerate_from 0 (take i xs)) ≢ []

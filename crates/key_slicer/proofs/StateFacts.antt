@@ -5,6 +5,7 @@ use Rattle.std.specs.BTreeSet.{insert_key}
 use Rattle.std.specs.List.{Contains, enumerate_from, flat_map, list_all}
 use Rattle.std.specs.Ordering.{nat_cmp}
 use Rattle.std.specs.List.Sorted.{IsStrictlyIncreasing}
+use Rattle.std.proofs.Math.Seq.{drop-nil}
 use Rattle.std.proofs.lemmas.List.Elements.{All-contains, All-nil, All-weaker}
 use Rattle.stream_base.specs.Limits.{AreWithinLimits, Definitions}
 use Rattle.stream_base.specs.declared.change.Change.{Change}
@@ -14,7 +15,9 @@ use Rattle.stream_base.specs.declared.kept.Kept.{Kept}
 use Rattle.stream_base.specs.declared.limits.TheConstants.{JOURNAL_MAX, TIME_MAX}
 use Rattle.stream_base.specs.Model.Changes.{Moment, row_of}
 use Rattle.stream_base.specs.declared.def.Def.{Def}
-use Rattle.stream_base.specs.Model.Slices.{is_events, runs_of, unsettled}
+use Rattle.stream_base.specs.declared.func.Func.TheVariants.{Count}
+use Rattle.stream_base.specs.declared.kind.Kind.TheVariants.{Marks}
+use Rattle.stream_base.specs.Model.Slices.{is_events, is_settled, runs_of, unsettled}
 use Rattle.stream_base.specs.Model.Windows.{instances_of}
 use Rattle.stream_base.proofs.Absent.{no_instances}
 use Rattle.stream_base.proofs.ChangeFacts.{changes_at_water, flat_map_none}
@@ -28,21 +31,24 @@ use Rattle.window_laws.specs.Settled.{without_first}
 use Rattle.window_laws.proofs.SettledFacts.{not_all}
 use Rattle.window_laws.proofs.KeptFacts.{put_is_kept}
 use Rattle.slice_store.specs.Entered.{slices_from}
+use Rattle.slice_store.specs.Slices.{joined}
 use Rattle.slice_store.specs.Stored.{IsAsBefore, IsSliced, IsStore, Stored, tuples_of}
 use Rattle.slice_store.proofs.MarkFacts.{rising_more}
 use Rattle.slice_store.proofs.SliceEdits.{put_length}
 use Rattle.key_windows.specs.Calls.{IsWater, changes_by_move, moment}
-use Rattle.key_parts.specs.Calls.{Standing, window_at}
+use Rattle.key_parts.specs.Calls.{Standing, StandsAt, window_at}
 use Rattle.key_parts.specs.Held.{IsHeld}
 use Rattle.key_parts.specs.Moves.{AreLists, Comes, IsMarkStep, IsPurge, IsPutStep, SettlesUpTo, all_count_events}
-use Rattle.held_laws.specs.Settling.{IsSettledUpTo}
+use Rattle.held_laws.specs.Settling.{IsSettledUpTo, NoneSettled}
 use Rattle.held_laws.specs.Dropped.{IsDropped}
 use Rattle.held_laws.proofs.CountFacts.{unsettled_slices}
 use Rattle.held_laws.proofs.PurgeFacts.{parts_where_settled, purged}
 use Rattle.held_laws.proofs.SettleFacts.{settled_up_to_least}
 use Rattle.held_laws.proofs.HoldFacts.{fresh_held, held_after_mark, held_after_move, held_after_tuple}
+use Rattle.held_laws.proofs.OpenFacts.{open_after_mark, open_after_tuple, open_from}
 use Rattle.key_slicer.specs.Parts.{AllStandAt, AllTakeTuple, AreStanding, EachPart, IsLeastOf, rooms}
 use Rattle.key_slicer.specs.States.{Fits, IsBlank, IsReadyToTake, StandsFor}
+use Rattle.key_slicer.proofs.Loops.{none_of, one_of_all}
 
 -- ---- a store with more room
 as_before : (s t : Stored) → IsAsBefore s t → record { slices = s.slices; marks = s.marks; dropped = s.dropped; spare = t.spare; reach = t.reach } ≡ t
@@ -57,6 +63,14 @@ held_with_room d m n s t e h = subst (IsHeld d m n) (as_before s t e) (record {
   bounded = h.bounded;
   marks = h.marks;
 })
+
+-- no tuple in it is settled where none was
+open_with_room : (d : Definitions) (m : Moment) (s t : Stored) → IsAsBefore s t → NoneSettled d m s → NoneSettled d m t
+open_with_room d m s t e u = subst (λ ss. All (λ x. is_settled d m x ≡ false) (joined ss)) (sym e.slices) u
+
+-- none is where there is none
+pub none_in_bare : (d : Definitions) (m : Moment) (s : Stored) → s.slices ≡ [] → NoneSettled d m s
+none_in_bare d m s e = subst (λ ss. All (λ x. is_settled d m x ≡ false) (joined ss)) (sym e) (All-nil (λ x. is_settled d m x ≡ false))
 
 pub no_more_room : (s : Stored) → IsAsBefore s s
 no_more_room s = record { slices = refl; marks = refl; dropped = refl; reach = refl }
@@ -87,6 +101,7 @@ module _ {P : Type 0} (stands : Standing P) (d : Definitions) where
       → IsAsBefore s t → Fits stands d kept marks water next s parts → Fits stands d kept marks water next t later
   fits_reserved law kept marks water next s t parts later stays e f = record {
     known = stands_reserved law (moment kept marks water) next s t parts later stays e f.known;
+    none_settled = open_with_room d (moment kept marks water) s t e f.none_settled;
     clock = ⊎_elim (λ w. inl w) (λ (b : IsBlank stands d kept marks next s parts). inr (record { no_tuple = b.no_tuple; no_mark = b.no_mark; anywhere = λ w. stands_reserved law (moment [] [] w) next s t parts later stays e (b.anywhere w) })) f.clock;
   }
 
@@ -142,6 +157,7 @@ module _ {P : Type 0} (stands : Standing P) (d : Definitions) where
       → ((water : ℕ) (s : Stored) → s.slices ≡ [] → AreStanding stands d (moment [] [] water) 0 s parts) → Fits stands d [] [] water 0 s parts
   fresh_fits water s parts limits slices marks dropped sliced stood = record {
     known = at water;
+    none_settled = none_in_bare d (moment [] [] water) s slices;
     clock = inr (record { no_tuple = refl; no_mark = refl; anywhere = at });
   }
     where
@@ -177,10 +193,10 @@ module _ {P : Type 0} (stands : Standing P) (d : Definitions) where
     comes = comes;
   }
 
-  pub fits_put : (kept : List Kept) (marks : List ℕ) (water n : ℕ) (s : Stored) (x : Kept) (more : ℕ) (after : Stored) (later : List P) → IsWater water
+  pub fits_put : (kept : List Kept) (marks : List ℕ) (water n : ℕ) (s : Stored) (x : Kept) (more : ℕ) (after : Stored) (later : List P) → IsWater water → NoneSettled d (moment kept marks water) s
       → IsPutStep d (moment kept marks water) n s x more after → AreStanding stands d (with_tuple (moment kept marks water) x) more after later → (all_count_events d → after.slices ≡ [])
       → Fits stands d (put_in_order kept x) marks water (x.position + 1) after later
-  fits_put kept marks water n s x more after later is p stood bare = record {
+  fits_put kept marks water n s x more after later is open_ p stood bare = record {
     known = record {
       without = more;
       lists = lists_with_tuple (moment kept marks water) x p.next p.time p.lists;
@@ -188,6 +204,7 @@ module _ {P : Type 0} (stands : Standing P) (d : Definitions) where
       stood = stood;
       bare = bare;
     };
+    none_settled = open_after_tuple d (moment kept marks water) n s x more after p open_;
     clock = inl is;
   }
 
@@ -221,32 +238,62 @@ module _ {P : Type 0} (stands : Standing P) (d : Definitions) where
     dropped = dropped;
   }
 
-  pub fits_marked : (kept : List Kept) (marks : List ℕ) (water next n : ℕ) (s : Stored) (time : ℕ) (after : Stored) (later : List P) → IsWater water → AreLists (moment kept marks water) next
-      → IsMarkStep d (moment kept marks water) n s time after → AreStanding stands d (with_mark (moment kept marks water) time) n after later → (all_count_events d → s.slices ≡ [])
+  pub stands_marked : (m : Moment) (next n : ℕ) (s : Stored) (time : ℕ) (after : Stored) (later : List P) → AreLists m next → IsMarkStep d m n s time after → AreStanding stands d (with_mark m time) n after later
+      → (all_count_events d → s.slices ≡ []) → StandsFor stands d (with_mark m time) next after later
+  stands_marked m next n s time after later lists p stood bare = record {
+    without = n;
+    lists = lists_with_mark m next time p.early lists;
+    held = held_after_mark d m n s time after p;
+    stood = stood;
+    bare = λ all. p.slices ∙ ap (flat_map (parted_at time)) (bare all);
+  }
+
+  -- no tuple is settled by it where it lies behind the watermark minus the lateness
+  pub fits_marked : (kept : List Kept) (marks : List ℕ) (water next n : ℕ) (s : Stored) (time : ℕ) (after : Stored) (later : List P) → IsWater water → water < time + d.lateness → NoneSettled d (moment kept marks water) s
+      → IsMarkStep d (moment kept marks water) n s time after → StandsFor stands d (moment kept (insert_key nat_cmp marks time) water) next after later
       → Fits stands d kept (insert_key nat_cmp marks time) water next after later
-  fits_marked kept marks water next n s time after later is lists p stood bare = record {
-    known = record {
-      without = n;
-      lists = lists_with_mark (moment kept marks water) next time p.early lists;
-      held = held_after_mark d (moment kept marks water) n s time after p;
-      stood = stood;
-      bare = λ all. p.slices ∙ ap (flat_map (parted_at time)) (bare all);
-    };
+  fits_marked kept marks water next n s time after later is behind open_ p stood = record {
+    known = stood;
+    none_settled = open_after_mark d (moment kept marks water) n s time after p behind open_;
     clock = inl is;
   }
 
   -- the watermark moves
-  pub fits_moved : (kept : List Kept) (marks : List ℕ) (old new next : ℕ) (s : Stored) (parts later : List P) → old ≤ new → IsWater new → (f : StandsFor stands d (moment kept marks old) next s parts)
-      → AreStanding stands d (moment kept marks new) f.without s later → Fits stands d kept marks new next s later
-  fits_moved kept marks old new next s parts later l is f stood = record {
-    known = record {
-      without = f.without;
-      lists = lists_at_water (moment kept marks old) next new f.lists;
-      held = held_after_move d (moment kept marks old) f.without s new f.held l;
-      stood = stood;
-      bare = f.bare;
-    };
-    clock = inl is;
+  pub stands_moved : (kept : List Kept) (marks : List ℕ) (old new next : ℕ) (s : Stored) (parts later : List P) → old ≤ new → (f : StandsFor stands d (moment kept marks old) next s parts)
+      → AreStanding stands d (moment kept marks new) f.without s later → StandsFor stands d (moment kept marks new) next s later
+  stands_moved kept marks old new next s parts later l f stood = record {
+    without = f.without;
+    lists = lists_at_water (moment kept marks old) next new f.lists;
+    held = held_after_move d (moment kept marks old) f.without s new f.held l;
+    stood = stood;
+    bare = f.bare;
+  }
+
+  -- it moves to where nothing becomes complete and no tuple is settled, and the state is left as it is
+  pub fits_waiting : ((d : Definitions) (window : ℕ) (key : List ℕ) (m : Moment) (n : ℕ) (s : Stored) (part : P) (new : ℕ) → StandsAt stands d window m.water s part m n → m.water ≤ new
+      → completions key m new (window, window_at d window) ≡ [] → stands d window (at_water m new) n s part)
+      → (key : List ℕ) (kept : List Kept) (marks : List ℕ) (old new next : ℕ) (s : Stored) (parts : List P) → IsStore s → old ≤ new → IsWater new
+      → flat_map (completions key (moment kept marks old) new) (enumerate_from 0 d.windows) ≡ [] → NoneSettled d (moment kept marks new) s
+      → StandsFor stands d (moment kept marks old) next s parts → Fits stands d kept marks new next s parts
+  fits_waiting law key kept marks old new next s parts store l is none open_ f =
+      let m : Moment = moment kept marks old in
+      let many : length parts ≡ length d.windows = (f.stood).as_many in
+      record {
+        known = stands_moved kept marks old new next s parts parts l f (record {
+          as_many = many;
+          each = λ i x b. law d i key m f.without s (get_or parts i x) new (one_of_all stands d old s parts m f.without i x b (all_stand stands d m old next s parts refl store f)) l
+              (none_of (completions key m new) d.windows i (record { kind = Marks; func = Count }) (omega (arith, b, many)) none);
+        });
+        none_settled = open_;
+        clock = inl is;
+      }
+
+  -- a key that has nothing yet stands under every watermark
+  pub fits_blank : (kept : List Kept) (marks : List ℕ) (water next : ℕ) (s : Stored) (parts : List P) → IsBlank stands d kept marks next s parts → Fits stands d kept marks water next s parts
+  fits_blank kept marks water next s parts b = record {
+    known = subst (λ ks. StandsFor stands d (moment ks marks water) next s parts) (sym b.no_tuple) (subst (λ ms. StandsFor stands d (moment [] ms water) next s parts) (sym b.no_mark) (b.anywhere water));
+    none_settled = subst (All (λ x. is_settled d (moment kept marks water) x ≡ false)) (sym (((b.anywhere water).held).tuples ∙ drop-nil (b.anywhere water).without)) (All-nil (λ x. is_settled d (moment kept marks water) x ≡ false));
+    clock = inr b;
   }
 
   -- the same state, told in other words
@@ -305,11 +352,18 @@ module _ {P : Type 0} (stands : Standing P) (d : Definitions) (settles_at : ℕ 
   aligned m next s parts time store f least each = parts_where_settled d m f.without time s f.held store (up_to_time m m.water next s parts time f least each)
 
   pub fits_purged : (kept : List Kept) (marks : List ℕ) (water next n time more : ℕ) (s after : Stored) (later : List P) → IsWater water → AreLists (moment kept marks water) next → IsPurge d (moment kept marks water) n s time more after
-      → AreStanding stands d (moment kept marks water) more after later → (all_count_events d → s.slices ≡ []) → Fits stands d kept marks water next after later
-  fits_purged kept marks water next n time more s after later is lists p stood bare = record {
+      → AreStanding stands d (moment kept marks water) more after later → (all_count_events d → s.slices ≡ []) → NoneSettled d (moment kept marks water) after → Fits stands d kept marks water next after later
+  fits_purged kept marks water next n time more s after later is lists p stood bare open_ = record {
     known = record { without = more; lists = lists; held = p.still_held; stood = stood; bare = λ all. p.slices ∙ ap (slices_from time) (bare all) };
+    none_settled = open_;
     clock = inl is;
   }
+
+  -- no tuple is settled in what is left from the time on
+  pub open_left : (m : Moment) (next : ℕ) (s after : Stored) (parts : List P) (time : ℕ) → IsStore s → (f : StandsFor stands d m next s parts) → IsLeastOf settles_at (m.water - d.lateness) parts time
+      → EachPart (λ i part. SettlesUpTo d.lateness (without_first f.without m) (window_at d i) (settles_at i part)) parts
+      → after.slices ≡ slices_from time s.slices → NoneSettled d m after
+  open_left m next s after parts time store f least each left = open_from d m f.without time s after f.held store (up_to_time m m.water next s parts time f least each) left
 
 -- ---- what a move changes
 pub move_is : (d : Definitions) (key : List ℕ) (kept : List Kept) (marks : List ℕ) (old new next : ℕ) → AreWithinLimits d → AreLists (moment kept marks old) next → old ≤ new

@@ -1,5 +1,5 @@
 -- How many steps an entry takes at most.
-use Rattle.std.proofs.Common.{◌≡◌, ◌∙◌, ◌≤◌, ◌<◌, ◌+◌, ◌-◌, ◌*◌, ℕ, List, [], ◌∷◌, length, get_or, take, ap, arith}
+use Rattle.std.proofs.Common.{◌≡◌, ◌∙◌, ◌≤◌, ◌<◌, ◌+◌, ◌-◌, ◌*◌, ℕ, List, [], ◌∷◌, length, get_or, take, ap, arith, subst, sym}
 use Rattle.std.specs.Prelude.{nat_lt, nat_le, filter, sum_by}
 use Rattle.std.specs.List.{enumerate_from, flat_map}
 use Rattle.std.proofs.Math.Nat.{mul-le-mul_left}
@@ -13,14 +13,20 @@ use Rattle.stream_base.specs.declared.kept.Kept.{Kept}
 use Rattle.stream_base.specs.declared.kind.Kind.{Kind}
 use Rattle.stream_base.specs.declared.kind.Kind.TheVariants.{Tumbling, Sliding, Session, Marks, Events}
 use Rattle.stream_base.specs.Model.Changes.{Moment, changes_between}
+use Rattle.stream_base.specs.Model.Cuts.{has_cut}
 use Rattle.stream_base.specs.Model.Windows.{first_time}
 use Rattle.window_laws.specs.Runs.{parted_at}
-use Rattle.slice_store.specs.Entered.{is_across, slices_from, slices_near}
+use Rattle.slice_store.specs.Apart.{IsReachOver}
+use Rattle.slice_store.specs.Entered.{is_across, is_near, slices_from, slices_near}
 use Rattle.slice_store.specs.Slices.{joined}
-use Rattle.slice_store.specs.Stored.{Stored}
+use Rattle.slice_store.specs.Stored.{IsStore, Stored}
+use Rattle.key_windows.specs.Calls.{slices_at}
+use Rattle.key_parts.specs.Held.{IsHeld}
 use Rattle.key_parts.specs.Work.{change_work}
+use Rattle.held_laws.specs.Settling.{NoneSettled}
+use Rattle.held_laws.proofs.OpenFacts.{near_under_all_marks, unsettled_slices_are_held}
 use Rattle.key_slicer.specs.Parts.{turns}
-use Rattle.key_slicer.specs.Work.{counting_work, events_in, mark_work, put_work, slices_gone, turn_work, turns_work}
+use Rattle.key_slicer.specs.Work.{bounds_mark, bounds_put, counting_work, entry_work, events_in, mark_over, mark_work, put_work, slices_gone, turn_work, turns_work}
 use Rattle.key_slicer.proofs.Loops.{summed_more}
 use Rattle.key_slicer.proofs.SortFacts.{as_many_turns}
 
@@ -101,6 +107,29 @@ pub mark_cost : (d : Definitions) (key : List ℕ) (old new : Moment) (time : �
 mark_cost d key old new time s marked after n a b e f split took gone near many parted =
     let w = 64 * (marked.reach + 2) in
     let same : w * n ≡ w * length (changes_between d.windows key old new) = ap (λ k. w * k) many in
-    let left : w * (length marked.slices - length after.slices) ≡ w * slices_gone time s after = ap (λ ss. w * (length ss - length after.slices)) parted in
-    mark_steps s.reach marked.reach (length (changes_between d.windows key old new)) (slices_gone time s after) (length (joined (filter (is_across time) s.slices))) (counting_work d key old new) a b e f split
+    let left : w * (length marked.slices - length after.slices) ≡ w * slices_gone time s.slices after.slices = ap (λ ss. w * (length ss - length after.slices)) parted in
+    mark_steps s.reach marked.reach (length (changes_between d.windows key old new)) (slices_gone time s.slices after.slices) (length (joined (filter (is_across time) s.slices))) (counting_work d key old new) a b e f split
     (omega (arith, took, same)) (omega (arith, gone, left)) near
+
+-- ---- the same, told by the key alone
+module _ (bounded : ℕ → ℕ → Type 0) (d : Definitions) (key : List ℕ) (m : Moment) (n time : ℕ) (s : Stored) (held : IsHeld d m n s) (store : IsStore s) (open_ : NoneSettled d m s) (reach : IsReachOver bounded (length s.slices) s.reach) where
+  slices_are : slices_at d m ≡ s.slices
+  slices_are = unsettled_slices_are_held d m n s held store open_
+
+  reached : IsReachOver bounded (length (slices_at d m)) s.reach
+  reached = subst (λ ss. IsReachOver bounded (length ss) s.reach) (sym slices_are) reach
+
+  -- the unsettled tuples have the slices of the store, and a tuple enters the same ones under all marks
+  pub put_is_bounded : (new : Moment) → m.water ≤ time + d.lateness → bounds_put bounded d key m new time (put_work d key m new time s)
+  put_is_bounded new l = (
+    s.reach,
+    reached,
+    ap (λ near. entry_work d key m new s.reach (length (joined near))) (near_under_all_marks d m n time s held store l ∙ ap (filter (is_near (has_cut d.windows m.marks) time)) (sym slices_are)),
+  )
+
+  pub mark_is_bounded : (new : Moment) (more : ℕ) (after : Stored) → IsHeld d new more after → IsStore after → NoneSettled d new after → bounds_mark bounded d key m new time (mark_work d key m new time s after)
+  mark_is_bounded new more after held_then store_then open_then = (
+    s.reach,
+    reached,
+    λ i. mark_over d key m new time (sym slices_are i) (sym (unsettled_slices_are_held d new more after held_then store_then open_then) i) s.reach,
+  )

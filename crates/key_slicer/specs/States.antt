@@ -10,6 +10,7 @@ use Rattle.key_windows.specs.Calls.Call.{Put, Mark, Move}
 use Rattle.key_parts.specs.Calls.{Standing}
 use Rattle.key_parts.specs.Held.{IsHeld}
 use Rattle.key_parts.specs.Moves.{AreLists, all_count_events}
+use Rattle.held_laws.specs.Settling.{NoneSettled}
 use Rattle.key_slicer.specs.Parts.{AreStanding, EachPart, rooms}
 
 module _ {P : Type 0} (stands : Standing P) (d : Definitions) where
@@ -27,9 +28,10 @@ module _ {P : Type 0} (stands : Standing P) (d : Definitions) where
     pub no_mark : marks ≡ []
     pub anywhere : (water : ℕ) → StandsFor (moment [] [] water) next s parts
 
-  -- a key's state stands for these tuples and marks under a watermark, or it is a blank one
+  -- a key's state stands for these tuples and marks under a watermark, or it is a blank one; and settled tuples have left its store
   pub record Fits (kept : List Kept) (marks : List ℕ) (water next : ℕ) (s : Stored) (parts : List P) : Type 0 where
     pub known : StandsFor (moment kept marks water) next s parts
+    pub none_settled : NoneSettled d (moment kept marks water) s
     pub clock : IsWater water ⊎ IsBlank kept marks next s parts
 
 -- each part is ready and the store has room for what comes; and so much room is promised as all parts need, for changes that are put together first

@@ -1,16 +1,20 @@
 -- How many steps a tuple, a mark or a move of the watermark takes at most in an engine on slices.
-use Rattle.std.specs.Prelude.{◌+◌, ◌-◌, ◌*◌, ℕ, List, filter, length, sum_by}
+use Rattle.std.specs.Prelude.{◌≡◌, ◌≤◌, ◌+◌, ◌-◌, ◌*◌, ℕ, List, filter, length, sum_by}
 use Rattle.std.specs.List.{enumerate_from, flat_map}
 use Rattle.stream_base.specs.Limits.{Definitions}
 use Rattle.stream_base.specs.declared.def.Def.{Def}
+use Rattle.stream_base.specs.declared.kept.Kept.{Kept}
 use Rattle.stream_base.specs.declared.kind.Kind.{Kind}
 use Rattle.stream_base.specs.declared.kind.Kind.TheVariants.{Tumbling, Sliding, Session, Marks, Events}
 use Rattle.stream_base.specs.Laws.{completions}
 use Rattle.stream_base.specs.Model.Changes.{Moment, changes_between}
+use Rattle.stream_base.specs.Model.Cuts.{has_cut}
 use Rattle.window_laws.specs.Runs.{parted_at}
-use Rattle.slice_store.specs.Entered.{is_across, slices_near}
+use Rattle.slice_store.specs.Apart.{IsReachOver}
+use Rattle.slice_store.specs.Entered.{is_across, is_near}
 use Rattle.slice_store.specs.Slices.{joined}
 use Rattle.slice_store.specs.Stored.{Stored}
+use Rattle.key_windows.specs.Calls.{slices_at}
 use Rattle.key_parts.specs.Work.{change_work, row_work}
 use Rattle.key_slicer.specs.Parts.{turns}
 
@@ -38,18 +42,37 @@ counting_work d key old new = sum_by (λ w. 2 * events_in (w.1).kind * length (t
 abbrev pub entry_work : Definitions → List ℕ → Moment → Moment → ℕ → ℕ → ℕ
 entry_work d key old new reach tuples = 64 * (reach + 3) * (4 + 2 * length (changes_between d.windows key old new)) + tuples + counting_work d key old new
 
--- the most that a tuple at a time takes, by the store before it: the slices are those that it enters
+-- the most that a tuple at a time takes over a tree of this reach, where these are the slices and the marks before it: those slices that it is near to it enters
+abbrev pub put_over : Definitions → List ℕ → Moment → Moment → ℕ → List (List Kept) → List ℕ → ℕ → ℕ
+put_over d key old new time slices marks reach =
+    entry_work d key old new reach (length (joined (filter (is_near (has_cut d.windows marks) time) slices)))
+
+-- the same by the store before it
 abbrev pub put_work : Definitions → List ℕ → Moment → Moment → ℕ → Stored → ℕ
-put_work d key old new time store = entry_work d key old new store.reach (length (joined (slices_near d.windows time store)))
+put_work d key old new time store = put_over d key old new time store.slices store.marks store.reach
 
 -- how many slices have left after a mark at a time, of those that it made
-abbrev pub slices_gone : ℕ → Stored → Stored → ℕ
-slices_gone time before after = length (flat_map (parted_at time) before.slices) - length after.slices
+abbrev pub slices_gone : ℕ → List (List Kept) → List (List Kept) → ℕ
+slices_gone time before after = length (flat_map (parted_at time) before) - length after
 
--- the most that a mark at a time takes, by the store before and after it: the slices are those that it splits, and each slice that leaves adds one fold
+-- the most that a mark at a time takes over a tree of this reach, where these are the slices before and after it: it splits those that lie across the time, and each slice that leaves adds one fold
+abbrev pub mark_over : Definitions → List ℕ → Moment → Moment → ℕ → List (List Kept) → List (List Kept) → ℕ → ℕ
+mark_over d key old new time before after reach =
+    entry_work d key old new reach (length (joined (filter (is_across time) before))) + 64 * (reach + 3) * slices_gone time before after
+
+-- the same by the store before and after it
 abbrev pub mark_work : Definitions → List ℕ → Moment → Moment → ℕ → Stored → Stored → ℕ
-mark_work d key old new time before after =
-    entry_work d key old new before.reach (length (joined (filter (is_across time) before.slices))) + 64 * (before.reach + 3) * slices_gone time before after
+mark_work d key old new time before after = mark_over d key old new time before.slices after.slices before.reach
+
+-- a number is the most that a tuple at a time takes which leads from one moment of a key to another, by the slices of its unsettled tuples and its marks alone
+abbrev pub bounds_put : (ℕ → ℕ → Type 0) → Definitions → List ℕ → Moment → Moment → ℕ → ℕ → Type 0
+bounds_put bounded d key old new time most =
+    (reach : ℕ) × IsReachOver bounded (length (slices_at d old)) reach × (most ≡ put_over d key old new time (slices_at d old) old.marks reach)
+
+-- the same of a mark, by the slices of the unsettled tuples before and after it
+abbrev pub bounds_mark : (ℕ → ℕ → Type 0) → Definitions → List ℕ → Moment → Moment → ℕ → ℕ → Type 0
+bounds_mark bounded d key old new time most =
+    (reach : ℕ) × IsReachOver bounded (length (slices_at d old)) reach × (most ≡ mark_over d key old new time (slices_at d old) (slices_at d new) reach)
 
 -- for the window at a place, how many slices lie in the instances that a move from one watermark to another completes in a store
 abbrev pub TakenUp : Type 0

@@ -3,7 +3,7 @@ ghost use Rattle.std.specs.Prelude.{vec_capacity, vec_len, ◌-◌};
 ghost use Rattle.key_windows.specs.Calls.{IsWater};
 ghost use Rattle.key_slicer.specs.Parts.{EachPart, rooms};
 ghost use Rattle.key_slicer.specs.States.{Fits, IsReady};
-ghost use Rattle.key_slicer.specs.Work.{catch_up, mark_work, move_work, put_work};
+ghost use Rattle.key_slicer.specs.Work.{bounds_mark, bounds_put, catch_up, mark_work, move_work, put_work};
 
 use crate::key_state::{KeyState, all_count_events, is_water, put_in, vouch};
 use crate::parts::Parts;
@@ -33,6 +33,11 @@ impl<T: AggTree<Bundle> + Drop, P: AnyPart> KeyWindows for KeyState<T, P> {
 
     ghost mark_work = { λ d old new time before after. mark_work d before.key old new time
         before.store after.store };
+
+    ghost bounds_put = { λ d key old new time most. bounds_put T.bounded d key old new time most };
+
+    ghost bounds_mark = { λ d key old new time most.
+        bounds_mark T.bounded d key old new time most };
 
     ghost credit = { λ k. rooms (λ i part. P.credit part) k.parts.list.items };
 
@@ -110,6 +115,7 @@ impl<T: AggTree<Bundle> + Drop, P: AnyPart> KeyWindows for KeyState<T, P> {
     ) {
         vouch(&self.store);
         self.store.mark(defs, time, steps);
+        vouch(&self.store);
         self.parts.mark(
             defs,
             &self.store,
@@ -157,7 +163,8 @@ impl<T: AggTree<Bundle> + Drop, P: AnyPart> KeyWindows for KeyState<T, P> {
     fn next_due(&self, defs: &Defs, water: u64) -> u64 {
         let _windows = defs.windows();
         vouch(&self.store);
-        self.parts.next_due(defs, &self.store, water)
+        let settled = self.next_settled(defs, water);
+        self.parts.next_due(defs, &self.store, water).min(settled)
     }
 
     fn slice_count(&self, defs: &Defs, water: u64) -> u64 {

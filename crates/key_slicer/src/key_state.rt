@@ -1,11 +1,14 @@
 //! The state of a key.
-ghost use Rattle.std.specs.Prelude.{◌≡◌, ◌≤◌, ◌+◌, ◌-◌, ◌*◌, [], ℕ, length, true, false, OnOk, vec_capacity, vec_len};
-ghost use Rattle.std.specs.List.{list_all};
+ghost use Rattle.std.specs.Prelude.{◌≡◌, ◌≤◌, ◌+◌, ◌-◌, ◌*◌, [], ℕ, length, true, false, All, IfNone, IfSome, OnOk, vec_capacity, vec_len};
+ghost use Rattle.std.specs.List.{Contains, list_all};
+ghost use Rattle.stream_base.specs.declared.kept.Kept.{Kept};
 ghost use Rattle.stream_base.specs.Model.Slices.{is_events};
+ghost use Rattle.stream_base.specs.Model.Windows.{first_time};
 ghost use Rattle.stream_base.specs.declared.limits.TheConstants.{TIME_MAX};
+ghost use Rattle.slice_store.specs.Apart.{IsReachOver};
 ghost use Rattle.slice_store.specs.Entered.{slices_near};
 ghost use Rattle.slice_store.specs.Slices.{joined};
-ghost use Rattle.slice_store.specs.Stored.{IsSliced, IsStore, Stored};
+ghost use Rattle.slice_store.specs.Stored.{IsSliced, IsStore, Stored, tuples_of};
 ghost use Rattle.key_windows.specs.Calls.{IsWater, kept_at};
 ghost use Rattle.key_parts.specs.Moves.{Comes, all_count_events};
 
@@ -48,11 +51,25 @@ impl<T: AggTree<Bundle>, P: KeyPart> KeyState<T, P> {
     }
 }
 
-// Changes nothing, and tells a proof what every store keeps.
+// Changes nothing, and tells a proof what every store keeps, and how its reach is bounded.
 pub fn vouch<T: AggTree<Bundle>>(store: &SliceStore<T>)
-    ensures { IsStore store.now }
+    ensures holds { IsStore store.now }
+    ensures reach { IsReachOver T.bounded (length store.now.slices) store.now.reach }
 {
     let _count = store.slice_count();
+}
+
+// The time of the first tuple in a store.
+pub fn first_time<T: AggTree<Bundle>>(store: &SliceStore<T>) -> Option<u64>
+    ensures none { IfNone result (store.now.slices ≡ []) }
+    ensures least { IfSome result
+        (λ time. All (λ run. time ≤ first_time run) store.now.slices) }
+    ensures is_one { IfSome result
+        (λ time. (x : Kept) × Contains (tuples_of store.now) x × (x.time ≡ time)) }
+    ensures early { IfSome result (λ time. time ≤ TIME_MAX) }
+{
+    let first = store.slice_from(0)?;
+    Some(first.low)
 }
 
 // Whether a number is a watermark: a time, or the final one.

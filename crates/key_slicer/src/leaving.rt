@@ -1,11 +1,13 @@
 //! Settled slices that leave the state of a key.
-ghost use Rattle.std.specs.Prelude.{◌≡◌, ◌≤◌, ◌+◌, ◌-◌, ◌*◌, ℕ, List, length};
+ghost use Rattle.std.specs.Prelude.{◌≡◌, ◌≤◌, ◌+◌, ◌-◌, ◌*◌, ℕ, List, length, false};
 ghost use Rattle.stream_base.specs.declared.kept.Kept.{Kept};
-ghost use Rattle.key_windows.specs.Calls.{IsWater};
+ghost use Rattle.slice_store.specs.Entered.{slices_from};
+ghost use Rattle.slice_store.specs.Stored.{IsStore};
+ghost use Rattle.key_windows.specs.Calls.{IsWater, moment};
 ghost use Rattle.key_slicer.specs.Parts.{EachPart, rooms};
-ghost use Rattle.key_slicer.specs.States.{Fits};
+ghost use Rattle.key_slicer.specs.States.{Fits, StandsFor};
 
-use crate::key_state::{KeyState, all_count_events, vouch};
+use crate::key_state::{KeyState, all_count_events, first_time, vouch};
 use agg_laws::{AggTree, Bundle, Steps};
 use key_parts::KeyPart;
 use slice_store::SliceStore;
@@ -14,15 +16,16 @@ use stream_base::Defs;
 impl<T: AggTree<Bundle>, P: KeyPart> KeyState<T, P> {
     // Lets the slices leave that are settled under the watermark, and what the parts need no more.
     pub fn purge<L>(&mut self, defs: &Defs, water: u64, steps: &mut Steps<L>)
-        requires stands { (kept : List Kept) × (marks : List ℕ) × Fits P.stands defs.now kept marks
-            water self.old.next self.old.store self.old.parts.list.items }
+        requires stands { (kept : List Kept) × (marks : List ℕ) × StandsFor P.stands defs.now
+            (moment kept marks water) self.old.next self.old.store self.old.parts.list.items }
         requires water { IsWater water }
         ensures key { self.new.key ≡ self.old.key }
         ensures next { self.new.next ≡ self.old.next }
-        ensures fits { (kept : List Kept) (marks : List ℕ) → Fits P.stands defs.now kept marks
-            water self.old.next self.old.store self.old.parts.list.items
+        ensures fits { (kept : List Kept) (marks : List ℕ) → StandsFor P.stands defs.now
+            (moment kept marks water) self.old.next self.old.store self.old.parts.list.items
             → Fits P.stands defs.now kept marks
             water self.new.next self.new.store self.new.parts.list.items }
+        ensures holds { IsStore self.new.store }
         ensures reach { self.new.store.reach ≤ self.old.store.reach }
         ensures work { steps.new ≤ steps.old + 64 * (self.old.store.reach + 2)
             * (length self.old.store.slices - length self.new.store.slices) }
@@ -33,22 +36,25 @@ impl<T: AggTree<Bundle>, P: KeyPart> KeyState<T, P> {
             → EachPart (λ i part. P.is_ahead defs.now i water self.new.store part)
             self.new.parts.list.items }
     {
+        vouch(&self.store);
         if all_count_events(defs) {
             return;
         }
-        vouch(&self.store);
         let time = self.parts.first_unsettled(defs, water);
         if begins_before(&self.store, time) {
             self.store.drop_settled(time, steps);
             self.parts.drop_settled(defs, water);
+            vouch(&self.store);
         }
     }
 }
 
 // Whether the first slice of a store begins before a time.
-fn begins_before<T: AggTree<Bundle>>(store: &SliceStore<T>, time: u64) -> bool {
-    match store.slice_from(0) {
-        Some(first) => first.low < time,
+fn begins_before<T: AggTree<Bundle>>(store: &SliceStore<T>, time: u64) -> bool
+    ensures { result ≡ false → slices_from time store.now.slices ≡ store.now.slices }
+{
+    match first_time(store) {
+        Some(low) => low < time,
         None => false,
     }
 }

@@ -7,7 +7,8 @@
 //! of `KeyWindows`, where each part keeps what `KeyPart` says. A tuple or a mark takes as much as
 //! four folds and two more for each change, and a step for each tuple of the slices that it enters
 //! or splits; windows of event counts take twice their count for each change of theirs, and a mark
-//! one fold for each slice that leaves.
+//! one fold for each slice that leaves. The slices are those of the unsettled tuples, so that the
+//! key's lists alone bound this too.
 //! A move of the watermark takes, on the credit of all parts, ten steps for each slice that a window
 //! takes up, for each row what one takes in a window of its kind, and one fold for each slice that
 //! leaves; and where something came before the watermark, ten for each slice that a window missed.
@@ -19,8 +20,10 @@
 //! - `sorted`: changes window by window are put in order, all retractions first.
 //! - `purging`, `leaving`: the least of the watermark minus the lateness and of the times of the
 //!   windows is the time up to which all tuples are settled. Slices before it leave where the first
-//!   one begins before it, and the parts forget what has ended. The slices from it on are those of
-//!   the unsettled tuples, whether or not settled ones have left.
+//!   one begins before it, and the parts forget what has ended. So between calls no tuple in the
+//!   store is settled at the watermark.
+//! - `settling`: by which watermark the first of them are settled. The state stands as it is up to
+//!   there, unless a window completes something before.
 //! - `key_state`, `engine`: the state of a key, and its calls.
 //!
 //! Windows of event counts need no slices: where there are no others, the store takes no tuple in.
@@ -34,6 +37,7 @@ mod moving;
 mod parts;
 mod purging;
 mod putting;
+mod settling;
 mod sorted;
 
 pub use key_state::KeyState;

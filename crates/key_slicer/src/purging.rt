@@ -1,5 +1,6 @@
 //! The parts of a key's windows where settled slices leave.
-ghost use Rattle.std.specs.Prelude.{◌≡◌, ◌≤◌, ◌-◌, ℕ, length};
+ghost use Rattle.std.specs.Prelude.{◌≡◌, ◌≤◌, ◌<◌, ◌-◌, ℕ, length};
+ghost use Rattle.stream_base.specs.declared.limits.TheConstants.{TIME_MAX};
 ghost use Rattle.stream_base.specs.Model.Changes.{Moment};
 ghost use Rattle.window_laws.specs.After.{at_water};
 ghost use Rattle.window_laws.specs.Settled.{without_first};
@@ -33,6 +34,32 @@ impl<P: KeyPart> Parts<P> {
             time = time.min(self.list[window as usize].first_unsettled(defs, window, water));
         }
         time
+    }
+
+    // By which watermark tuples at a time lie before the least of the watermark minus the lateness
+    // and of the times of the windows, and by none before.
+    pub fn settled_by(&self, defs: &Defs, time: u64) -> u64
+        requires stands { (m : Moment) × (n : ℕ) × (s : Stored) × (w : ℕ)
+            × AllStandAt P.stands defs.now w s self.now.list.items m n }
+        requires time { time ≤ TIME_MAX }
+        ensures later { time < result }
+        ensures before { (water least : ℕ) → water < result
+            → IsLeastOf (λ i part. P.settles_at defs.now i water part)
+            (water - (defs.now).lateness) self.now.list.items least → least ≤ time }
+        ensures by_then { (water least : ℕ) → result ≤ water
+            → IsLeastOf (λ i part. P.settles_at defs.now i water part)
+            (water - (defs.now).lateness) self.now.list.items least → time < least }
+        ensures settles { (m : Moment) (n : ℕ) (s : Stored) (w water : ℕ) → w ≤ water
+            → IsWater water → AllStandAt P.stands defs.now w s self.now.list.items m n
+            → EachPart (λ i part. SettlesUpTo (defs.now).lateness
+            (at_water (without_first n m) water) (window_at defs.now i)
+            (P.settles_at defs.now i water part)) self.now.list.items }
+    {
+        let mut due = time + 1 + defs.lateness();
+        for window in 0..window_count(defs) {
+            due = due.max(self.list[window as usize].settled_by(defs, window, time));
+        }
+        due
     }
 
     // Forgets in each part what has ended by the watermark minus the lateness, where settled slices

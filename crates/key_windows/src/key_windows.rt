@@ -1,12 +1,11 @@
 //! What an engine for the windows of one key promises.
-ghost use Rattle.std.specs.Prelude.{◌≡◌, ◌≢◌, ◌≤◌, ◌<◌, ◌+◌, ◌-◌, ◌++◌, [], ℕ, List, length, IfOk, OnErr, vec_len, vec_capacity};
+ghost use Rattle.std.specs.Prelude.{◌≡◌, ◌≤◌, ◌<◌, ◌+◌, ◌-◌, ◌++◌, [], ℕ, List, length, IfOk, OnErr, vec_len, vec_capacity};
 ghost use Rattle.std.specs.BTreeSet.{insert_key};
 ghost use Rattle.std.specs.Ordering.{nat_cmp};
 ghost use Rattle.stream_base.specs.declared.kept.Kept.{Kept};
 ghost use Rattle.stream_base.specs.declared.limits.TheConstants.{FINAL, JOURNAL_MAX, TIME_MAX};
 ghost use Rattle.stream_base.specs.Model.Journal.{put_in_order};
-ghost use Rattle.stream_base.specs.Model.Slices.{runs_of, unsettled};
-ghost use Rattle.key_windows.specs.Calls.{IsWater, changes_by_mark, changes_by_move, changes_by_put, kept_at, moment};
+ghost use Rattle.key_windows.specs.Calls.{BringsMore, IsWater, changes_by_mark, changes_by_move, changes_by_put, kept_at, moment, slices_at};
 ghost use Rattle.key_windows.specs.Calls.Call.{Put, Mark, Move};
 
 use agg_laws::Steps;
@@ -46,6 +45,13 @@ pub trait KeyWindows: Drop {
 
     /// At most how many steps a mark takes that does so, by the state before and after it.
     ghost mark_work: { Definitions → Moment → Moment → ℕ → Self → Self → ℕ };
+
+    /// A bound on the steps that a tuple at a time takes which leads from one moment of a key to
+    /// another, whatever the state is.
+    ghost bounds_put: { Definitions → List ℕ → Moment → Moment → ℕ → ℕ → Type 0 };
+
+    /// A bound on the steps of a mark that does so.
+    ghost bounds_mark: { Definitions → List ℕ → Moment → Moment → ℕ → ℕ → Type 0 };
 
     /// What is left of the steps that were paid for.
     ghost credit: { Self → ℕ };
@@ -115,6 +121,11 @@ pub trait KeyWindows: Drop {
             → fits defs.now kept marks water self.old
             → steps.new ≤ steps.old + put_work defs.now (moment kept marks water)
             (moment (put_in_order kept (kept_at pos time value)) marks water) time self.old }
+        ensures bound { (kept : List Kept) (marks : List ℕ)
+            → fits defs.now kept marks water self.old → (bound : ℕ)
+            × bounds_put defs.now (key_of self.old) (moment kept marks water)
+            (moment (put_in_order kept (kept_at pos time value)) marks water) time bound
+            × (steps.new ≤ steps.old + bound) }
         ensures credit { credit self.new ≤ credit self.old }
         ensures ahead { water ≤ time → is_ahead defs.now water self.old
             → is_ahead defs.now water self.new };
@@ -161,6 +172,11 @@ pub trait KeyWindows: Drop {
             → fits defs.now kept marks water self.old
             → steps.new ≤ steps.old + mark_work defs.now (moment kept marks water)
             (moment kept (insert_key nat_cmp marks time) water) time self.old self.new }
+        ensures bound { (kept : List Kept) (marks : List ℕ)
+            → fits defs.now kept marks water self.old → (bound : ℕ)
+            × bounds_mark defs.now (key_of self.old) (moment kept marks water)
+            (moment kept (insert_key nat_cmp marks time) water) time bound
+            × (steps.new ≤ steps.old + bound) }
         ensures credit { credit self.new ≤ credit self.old }
         ensures ahead { water ≤ time → is_ahead defs.now water self.old
             → is_ahead defs.now water self.new };
@@ -217,8 +233,9 @@ pub trait KeyWindows: Drop {
             + (move_work defs.now (moment kept marks old) (moment kept marks new)
             self.old self.new + catch_up defs.now old self.old) };
 
-    /// The first watermark at which something becomes complete: a move to below it changes nothing.
-    /// Later than the final one where nothing is left to become so.
+    /// The first watermark at which something becomes complete, or settled. Up to there the state
+    /// stands as it is: a move to below it changes nothing, and need not be told. Later than the final
+    /// watermark where nothing is left to become so.
     fn next_due(&self, defs: &Defs, water: u64) -> u64
         requires stands { (kept : List Kept) × (marks : List ℕ)
             × fits defs.now kept marks water self.now }
@@ -227,10 +244,12 @@ pub trait KeyWindows: Drop {
             → fits defs.now kept marks water self.now
             → water ≤ new → new < result → changes_by_move defs.now
             (key_of self.now) kept marks water new ≡ [] }
+        ensures waits { (kept : List Kept) (marks : List ℕ) (new : ℕ)
+            → fits defs.now kept marks water self.now
+            → water ≤ new → new < result → IsWater new → fits defs.now kept marks new self.now }
         ensures some_at { (kept : List Kept) (marks : List ℕ)
-            → fits defs.now kept marks water self.now → result ≤ FINAL
-            → (water < result) × (changes_by_move defs.now
-            (key_of self.now) kept marks water result ≢ []) };
+            → fits defs.now kept marks water self.now → result ≤ FINAL → (water < result)
+            × BringsMore defs.now (key_of self.now) kept marks water result };
 
     /// How many slices its unsettled tuples have under a watermark, its own or a later one.
     fn slice_count(&self, defs: &Defs, water: u64) -> u64
@@ -238,6 +257,5 @@ pub trait KeyWindows: Drop {
             × fits defs.now kept marks w self.now × (w ≤ water) }
         requires water { IsWater water }
         ensures { (kept : List Kept) (marks : List ℕ) (w : ℕ) → fits defs.now kept marks w self.now
-            → w ≤ water → result ≡ length (runs_of (defs.now).windows marks
-            (unsettled defs.now (moment kept marks water))) };
+            → w ≤ water → result ≡ length (slices_at defs.now (moment kept marks water)) };
 }

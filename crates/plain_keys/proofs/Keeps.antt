@@ -140,6 +140,17 @@ not_due d key s kept marks water new limits lists fits le lt =
     move_is d key kept marks water new limits (subst (λ (ms : List ℕ). AreKeyLists kept ms) fits.1 (subst (λ (ks : List Kept). AreKeyLists ks s.marks) fits.0 lists)) le
     ∙ nothing_ahead d.windows key (moment kept marks water) s.due new fits.2.ahead lt
 
+-- and up to there the state stands as it is
+pub still_fits : (d : Definitions) (s : State) (kept : List Kept) (marks : List ℕ) (water new : ℕ) → Fits d kept marks water s → water ≤ new → new < s.due → Fits d kept marks new s
+still_fits d s kept marks water new fits le lt = (
+  fits.0,
+  fits.1,
+  record {
+    ahead = λ def i c has above. fits.2.ahead def i c has (omega (arith, le, above));
+    reached = λ final. (lt, (fits.2.reached final).1);
+  },
+)
+
 -- a move to the due number changes something
 pub is_due : (d : Definitions) (key : List ℕ) (s : State) (kept : List Kept) (marks : List ℕ) (water : ℕ) → AreWithinLimits d → AreKeyLists s.kept s.marks → Fits d kept marks water s → s.due ≤ FINAL
     → (water < s.due) × (changes_by_move d key kept marks water s.due ≢ [])

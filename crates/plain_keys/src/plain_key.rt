@@ -355,6 +355,10 @@ impl KeyWindows for PlainKey {
 
     ghost mark_work = { λ d old new time before after. most_steps };
 
+    ghost bounds_put = { λ d key old new time n. n ≡ most_steps };
+
+    ghost bounds_mark = { λ d key old new time n. n ≡ most_steps };
+
     ghost credit = { λ s. 0 };
 
     ghost is_ahead = { λ d water s. Unit {0} };

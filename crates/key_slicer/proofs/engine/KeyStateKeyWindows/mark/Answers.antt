@@ -6,11 +6,12 @@ use Rattle.stream_base.specs.Model.Changes.{changes_between}
 use Rattle.window_laws.specs.After.{with_mark}
 use Rattle.key_windows.specs.Calls.{moment}
 use Rattle.key_slicer.specs.Parts.{turns}
-use Rattle.key_slicer.specs.States.{Fits}
-use Rattle.key_slicer.proofs.StateFacts.{fits_marked, mark_step}
+use Rattle.key_slicer.specs.States.{StandsFor}
+use Rattle.key_slicer.specs.Work.{mark_work}
+use Rattle.key_slicer.proofs.StateFacts.{fits_marked, mark_step, stands_marked}
 use Rattle.key_slicer.proofs.SortFacts.{appended_sorted, as_many_turns}
 use Rattle.key_slicer.proofs.Loops.{grown}
-use Rattle.key_slicer.proofs.WorkFacts.{mark_cost}
+use Rattle.key_slicer.proofs.WorkFacts.{mark_cost, mark_is_bounded}
 use Rattle.key_slicer.proofs.engine.KeyStateKeyWindows.mark.Goals as goal
 
 pub purge-requires-clause-stands : goal.purge-requires-clause-stands
@@ -20,10 +21,10 @@ purge-requires-clause-stands g c =
     let d = c.args.defs.now in
     let m = moment r.0 r.1 c.args.water in
     let f = r.2.known in
-    let step = mark_step g.P.KeyPart.stands d m s.next s.store s.parts.list.items c.args.time c.mark.new.self f c.vouch.ensures c.requires.time c.requires.accepted
+    let step = mark_step g.P.KeyPart.stands d m s.next s.store s.parts.list.items c.args.time c.mark.new.self f c.vouch.ensures.holds c.requires.time c.requires.accepted
     c.mark.ensures.tuples c.mark.ensures.slices c.mark.ensures.sliced c.mark.ensures.marks c.mark.ensures.dropped in
-    let marked : Fits g.P.KeyPart.stands d r.0 (insert_key nat_cmp r.1 c.args.time) c.args.water s.next c.mark.new.self c.mark-2.new.self.list.items =
-    fits_marked g.P.KeyPart.stands d r.0 r.1 c.args.water s.next f.without s.store c.args.time c.mark.new.self c.mark-2.new.self.list.items c.requires.ready.water_is f.lists step
+    let marked : StandsFor g.P.KeyPart.stands d (with_mark m c.args.time) s.next c.mark.new.self c.mark-2.new.self.list.items =
+    stands_marked g.P.KeyPart.stands d m s.next f.without s.store c.args.time c.mark.new.self c.mark-2.new.self.list.items f.lists step
     (c.mark-2.ensures.stands m f.without s.store (record { water_is = refl; step = step; stood = f.stood })) f.bare in
     (r.0, insert_key nat_cmp r.1 c.args.time, marked)
 
@@ -33,10 +34,10 @@ returns-then-time-lateness-clause-fits g c = λ kept marks fits.
     let d = c.args.defs.now in
     let m = moment kept marks c.args.water in
     let f = fits.known in
-    let step = mark_step g.P.KeyPart.stands d m s.next s.store s.parts.list.items c.args.time c.mark.new.self f c.vouch.ensures c.requires.time c.requires.accepted
+    let step = mark_step g.P.KeyPart.stands d m s.next s.store s.parts.list.items c.args.time c.mark.new.self f c.vouch.ensures.holds c.requires.time c.requires.accepted
     c.mark.ensures.tuples c.mark.ensures.slices c.mark.ensures.sliced c.mark.ensures.marks c.mark.ensures.dropped in
-    let marked : Fits g.P.KeyPart.stands d kept (insert_key nat_cmp marks c.args.time) c.args.water s.next c.mark.new.self c.mark-2.new.self.list.items =
-    fits_marked g.P.KeyPart.stands d kept marks c.args.water s.next f.without s.store c.args.time c.mark.new.self c.mark-2.new.self.list.items c.requires.ready.water_is f.lists step
+    let marked : StandsFor g.P.KeyPart.stands d (with_mark m c.args.time) s.next c.mark.new.self c.mark-2.new.self.list.items =
+    stands_marked g.P.KeyPart.stands d m s.next f.without s.store c.args.time c.mark.new.self c.mark-2.new.self.list.items f.lists step
     (c.mark-2.ensures.stands m f.without s.store (record { water_is = refl; step = step; stood = f.stood })) f.bare in
     c.purge.ensures.fits kept (insert_key nat_cmp marks c.args.time) marked
 
@@ -46,7 +47,7 @@ returns-then-time-lateness-clause-changes g c = λ kept marks fits.
     let d = c.args.defs.now in
     let m = moment kept marks c.args.water in
     let f = fits.known in
-    let step = mark_step g.P.KeyPart.stands d m s.next s.store s.parts.list.items c.args.time c.mark.new.self f c.vouch.ensures c.requires.time c.requires.accepted
+    let step = mark_step g.P.KeyPart.stands d m s.next s.store s.parts.list.items c.args.time c.mark.new.self f c.vouch.ensures.holds c.requires.time c.requires.accepted
     c.mark.ensures.tuples c.mark.ensures.slices c.mark.ensures.sliced c.mark.ensures.marks c.mark.ensures.dropped in
     appended_sorted s.key m (with_mark m c.args.time) d.windows s.scratch.items c.mark-2.new.out.items c.as_slice.result.now c.args.out.now.items c.append_sorted.new.out.items c.requires.ready.empty
     (c.mark-2.ensures.changes m f.without s.store (record { water_is = refl; step = step; stood = f.stood })) c.as_slice.ensures.value c.append_sorted.ensures.items
@@ -57,12 +58,12 @@ returns-else-time-lateness-clause-fits g c = λ kept marks fits.
     let d = c.args.defs.now in
     let m = moment kept marks c.args.water in
     let f = fits.known in
-    let step = mark_step g.P.KeyPart.stands d m s.next s.store s.parts.list.items c.args.time c.mark.new.self f c.vouch.ensures c.requires.time c.requires.accepted
+    let step = mark_step g.P.KeyPart.stands d m s.next s.store s.parts.list.items c.args.time c.mark.new.self f c.vouch.ensures.holds c.requires.time c.requires.accepted
     c.mark.ensures.tuples c.mark.ensures.slices c.mark.ensures.sliced c.mark.ensures.marks c.mark.ensures.dropped in
-    let marked : Fits g.P.KeyPart.stands d kept (insert_key nat_cmp marks c.args.time) c.args.water s.next c.mark.new.self c.mark-2.new.self.list.items =
-    fits_marked g.P.KeyPart.stands d kept marks c.args.water s.next f.without s.store c.args.time c.mark.new.self c.mark-2.new.self.list.items c.requires.ready.water_is f.lists step
+    let marked : StandsFor g.P.KeyPart.stands d (with_mark m c.args.time) s.next c.mark.new.self c.mark-2.new.self.list.items =
+    stands_marked g.P.KeyPart.stands d m s.next f.without s.store c.args.time c.mark.new.self c.mark-2.new.self.list.items f.lists step
     (c.mark-2.ensures.stands m f.without s.store (record { water_is = refl; step = step; stood = f.stood })) f.bare in
-    marked
+    fits_marked g.P.KeyPart.stands d kept marks c.args.water s.next f.without s.store c.args.time c.mark.new.self c.mark-2.new.self.list.items c.requires.ready.water_is (omega (arith, c.requires.accepted, c.if-time-lateness.false)) fits.none_settled step marked
 
 pub returns-else-time-lateness-clause-changes : goal.returns-else-time-lateness-clause-changes
 returns-else-time-lateness-clause-changes g c = λ kept marks fits.
@@ -70,7 +71,7 @@ returns-else-time-lateness-clause-changes g c = λ kept marks fits.
     let d = c.args.defs.now in
     let m = moment kept marks c.args.water in
     let f = fits.known in
-    let step = mark_step g.P.KeyPart.stands d m s.next s.store s.parts.list.items c.args.time c.mark.new.self f c.vouch.ensures c.requires.time c.requires.accepted
+    let step = mark_step g.P.KeyPart.stands d m s.next s.store s.parts.list.items c.args.time c.mark.new.self f c.vouch.ensures.holds c.requires.time c.requires.accepted
     c.mark.ensures.tuples c.mark.ensures.slices c.mark.ensures.sliced c.mark.ensures.marks c.mark.ensures.dropped in
     appended_sorted s.key m (with_mark m c.args.time) d.windows s.scratch.items c.mark-2.new.out.items c.as_slice.result.now c.args.out.now.items c.append_sorted.new.out.items c.requires.ready.empty
     (c.mark-2.ensures.changes m f.without s.store (record { water_is = refl; step = step; stood = f.stood })) c.as_slice.ensures.value c.append_sorted.ensures.items
@@ -81,7 +82,7 @@ returns-then-time-lateness-clause-work g c = λ kept marks fits.
     let d = c.args.defs.now in
     let m = moment kept marks c.args.water in
     let f = fits.known in
-    let step = mark_step g.P.KeyPart.stands d m s.next s.store s.parts.list.items c.args.time c.mark.new.self f c.vouch.ensures c.requires.time c.requires.accepted
+    let step = mark_step g.P.KeyPart.stands d m s.next s.store s.parts.list.items c.args.time c.mark.new.self f c.vouch.ensures.holds c.requires.time c.requires.accepted
     c.mark.ensures.tuples c.mark.ensures.slices c.mark.ensures.sliced c.mark.ensures.marks c.mark.ensures.dropped in
     let changed = vec_len c.mark-2.new.out - vec_len s.scratch in
     let many : changed ≡ length (changes_between d.windows s.key m (with_mark m c.args.time)) = omega (arith, as_many_turns s.key m (with_mark m c.args.time) d.windows, grown s.scratch.items c.mark-2.new.out.items (flat_map (turns s.key m (with_mark m c.args.time)) (enumerate_from 0 d.windows)) (c.mark-2.ensures.changes m f.without s.store (record { water_is = refl; step = step; stood = f.stood }))) in
@@ -94,12 +95,34 @@ returns-else-time-lateness-clause-work g c = λ kept marks fits.
     let d = c.args.defs.now in
     let m = moment kept marks c.args.water in
     let f = fits.known in
-    let step = mark_step g.P.KeyPart.stands d m s.next s.store s.parts.list.items c.args.time c.mark.new.self f c.vouch.ensures c.requires.time c.requires.accepted
+    let step = mark_step g.P.KeyPart.stands d m s.next s.store s.parts.list.items c.args.time c.mark.new.self f c.vouch.ensures.holds c.requires.time c.requires.accepted
     c.mark.ensures.tuples c.mark.ensures.slices c.mark.ensures.sliced c.mark.ensures.marks c.mark.ensures.dropped in
     let changed = vec_len c.mark-2.new.out - vec_len s.scratch in
     let many : changed ≡ length (changes_between d.windows s.key m (with_mark m c.args.time)) = omega (arith, as_many_turns s.key m (with_mark m c.args.time) d.windows, grown s.scratch.items c.mark-2.new.out.items (flat_map (turns s.key m (with_mark m c.args.time)) (enumerate_from 0 d.windows)) (c.mark-2.ensures.changes m f.without s.store (record { water_is = refl; step = step; stood = f.stood }))) in
     mark_cost d s.key m (with_mark m c.args.time) c.args.time s.store c.mark.new.self c.mark.new.self changed c.args.steps.now c.mark.new.steps c.mark-2.new.steps c.mark-2.new.steps
     c.mark.ensures.cost c.mark-2.ensures.work (omega arith) c.mark.ensures.reach many c.mark.ensures.slices
+
+pub returns-then-time-lateness-clause-bound : goal.returns-then-time-lateness-clause-bound
+returns-then-time-lateness-clause-bound g c = λ kept marks fits.
+    let s = c.args.self.now in
+    let d = c.args.defs.now in
+    let m = moment kept marks c.args.water in
+    let then_ = returns-then-time-lateness-clause-fits g c kept marks fits in (
+      mark_work d s.key m (with_mark m c.args.time) c.args.time s.store c.purge.new.self.store,
+      mark_is_bounded g.T.AggTree.bounded d s.key m fits.known.without c.args.time s.store fits.known.held c.vouch.ensures.holds fits.none_settled c.vouch.ensures.reach (with_mark m c.args.time) then_.known.without c.purge.new.self.store then_.known.held c.purge.ensures.holds then_.none_settled,
+      returns-then-time-lateness-clause-work g c kept marks fits,
+    )
+
+pub returns-else-time-lateness-clause-bound : goal.returns-else-time-lateness-clause-bound
+returns-else-time-lateness-clause-bound g c = λ kept marks fits.
+    let s = c.args.self.now in
+    let d = c.args.defs.now in
+    let m = moment kept marks c.args.water in
+    let then_ = returns-else-time-lateness-clause-fits g c kept marks fits in (
+      mark_work d s.key m (with_mark m c.args.time) c.args.time s.store c.mark.new.self,
+      mark_is_bounded g.T.AggTree.bounded d s.key m fits.known.without c.args.time s.store fits.known.held c.vouch.ensures.holds fits.none_settled c.vouch.ensures.reach (with_mark m c.args.time) then_.known.without c.mark.new.self then_.known.held c.vouch-2.ensures.holds then_.none_settled,
+      returns-else-time-lateness-clause-work g c kept marks fits,
+    )
 
 pub returns-then-time-lateness-clause-ahead : goal.returns-then-time-lateness-clause-ahead
 returns-then-time-lateness-clause-ahead g c = λ le each.
@@ -108,7 +131,7 @@ returns-then-time-lateness-clause-ahead g c = λ le each.
     let d = c.args.defs.now in
     let m = moment r.0 r.1 c.args.water in
     let f = r.2.known in
-    let step = mark_step g.P.KeyPart.stands d m s.next s.store s.parts.list.items c.args.time c.mark.new.self f c.vouch.ensures c.requires.time c.requires.accepted
+    let step = mark_step g.P.KeyPart.stands d m s.next s.store s.parts.list.items c.args.time c.mark.new.self f c.vouch.ensures.holds c.requires.time c.requires.accepted
     c.mark.ensures.tuples c.mark.ensures.slices c.mark.ensures.sliced c.mark.ensures.marks c.mark.ensures.dropped in
     c.purge.ensures.ahead (c.mark-2.ensures.ahead m f.without s.store (record { water_is = refl; step = step; stood = f.stood }) le each)
 
@@ -119,6 +142,6 @@ returns-else-time-lateness-clause-ahead g c = λ le each.
     let d = c.args.defs.now in
     let m = moment r.0 r.1 c.args.water in
     let f = r.2.known in
-    let step = mark_step g.P.KeyPart.stands d m s.next s.store s.parts.list.items c.args.time c.mark.new.self f c.vouch.ensures c.requires.time c.requires.accepted
+    let step = mark_step g.P.KeyPart.stands d m s.next s.store s.parts.list.items c.args.time c.mark.new.self f c.vouch.ensures.holds c.requires.time c.requires.accepted
     c.mark.ensures.tuples c.mark.ensures.slices c.mark.ensures.sliced c.mark.ensures.marks c.mark.ensures.dropped in
     c.mark-2.ensures.ahead m f.without s.store (record { water_is = refl; step = step; stood = f.stood }) le each

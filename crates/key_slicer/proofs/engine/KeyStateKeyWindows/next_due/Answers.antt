@@ -1,7 +1,10 @@
--- No window completes anything before, and one does then.
-use Rattle.std.proofs.Common.{◌∙◌, arith, refl, sym}
-use Rattle.key_windows.specs.Calls.{moment}
-use Rattle.key_slicer.proofs.StateFacts.{all_stand, move_is}
+-- No window completes anything before and no tuple is settled, and one or the other is so then.
+use Rattle.std.proofs.Common.{◌≡◌, ◌∙◌, ◌≤◌, ◌<◌, [], arith, inl, inr, refl, subst, sym, ⊎_elim}
+use Rattle.std.specs.Prelude.{◌≢◌}
+use Rattle.std.proofs.lemmas.Bool.{cases_lt}
+use Rattle.stream_base.specs.Model.Slices.{unsettled}
+use Rattle.key_windows.specs.Calls.{changes_by_move, moment}
+use Rattle.key_slicer.proofs.StateFacts.{all_stand, fits_waiting, move_is}
 use Rattle.key_slicer.proofs.engine.KeyStateKeyWindows.next_due.Goals as goal
 
 pub returns-clause-none_before : goal.returns-clause-none_before
@@ -10,7 +13,17 @@ returns-clause-none_before g c = λ kept marks new fits rises below.
     let d = c.args.defs.now in
     let m = moment kept marks c.args.water in
     move_is d s.key kept marks c.args.water new s.next c.windows-windows.ensures.limits fits.known.lists rises
-    ∙ c.next_due.ensures.none_before s.key m fits.known.without new (all_stand g.P.KeyPart.stands d m c.args.water s.next s.store s.parts.list.items refl c.vouch.ensures fits.known) rises below
+    ∙ c.next_due.ensures.none_before s.key m fits.known.without new (all_stand g.P.KeyPart.stands d m c.args.water s.next s.store s.parts.list.items refl c.vouch.ensures.holds fits.known) rises (omega (arith, below, c.min.ensures))
+
+pub returns-clause-waits : goal.returns-clause-waits
+returns-clause-waits g c = λ kept marks new fits rises below is.
+    let s = c.args.self.now in
+    let d = c.args.defs.now in
+    let m = moment kept marks c.args.water in
+    let f = fits.known in
+    fits_waiting g.P.KeyPart.stands d g.met.P.KeyPart.waits s.key kept marks c.args.water new s.next s.store s.parts.list.items c.vouch.ensures.holds rises is
+    (c.next_due.ensures.none_before s.key m f.without new (all_stand g.P.KeyPart.stands d m c.args.water s.next s.store s.parts.list.items refl c.vouch.ensures.holds f) rises (omega (arith, below, c.min.ensures)))
+    (c.next_settled-settled.ensures.none_before kept marks new fits rises (omega (arith, below, c.min.ensures)) is) f
 
 pub returns-clause-some_at : goal.returns-clause-some_at
 returns-clause-some_at g c = λ kept marks fits final.
@@ -18,5 +31,17 @@ returns-clause-some_at g c = λ kept marks fits final.
     let d = c.args.defs.now in
     let m = moment kept marks c.args.water in
     let due = c.next_due.result in
-    let at = c.next_due.ensures.some_at s.key m fits.known.without (all_stand g.P.KeyPart.stands d m c.args.water s.next s.store s.parts.list.items refl c.vouch.ensures fits.known) final in
-    (at.0, λ none. at.1 (sym (move_is d s.key kept marks c.args.water due s.next c.windows-windows.ensures.limits fits.known.lists (omega (arith, at.0))) ∙ none))
+    let settled = c.next_settled-settled.result in
+    let first = c.min.result in
+    ⊎_elim
+    (λ (lt : due < settled).
+    let same : due ≡ first = omega (arith, c.min.ensures) in
+    let at = c.next_due.ensures.some_at s.key m fits.known.without (all_stand g.P.KeyPart.stands d m c.args.water s.next s.store s.parts.list.items refl c.vouch.ensures.holds fits.known) (omega (arith, same, final)) in (
+      omega (arith, same, at.0),
+      inl (subst (λ w. changes_by_move d s.key kept marks c.args.water w ≢ []) same (λ none. at.1 (sym (move_is d s.key kept marks c.args.water due s.next c.windows-windows.ensures.limits fits.known.lists (omega (arith, at.0))) ∙ none))),
+    ))
+    (λ (le : settled ≤ due).
+    let same : settled ≡ first = omega (arith, c.min.ensures) in
+    let at = c.next_settled-settled.ensures.some_at kept marks fits (omega (arith, same, final)) in
+    (omega (arith, same, at.0), inr (subst (λ w. unsettled d (moment kept marks w) ≢ unsettled d m) same at.1)))
+    (cases_lt due settled)

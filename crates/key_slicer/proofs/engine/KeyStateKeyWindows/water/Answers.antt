@@ -1,8 +1,8 @@
 -- The parts took the move in, and else there is nothing that it could complete.
 use Rattle.std.proofs.Common.{◌≡◌, ◌∙◌, ◌++◌, [], ap, append-nil, arith, refl, sym, true, ⊎_elim}
 use Rattle.key_windows.specs.Calls.{moment}
-use Rattle.key_slicer.specs.States.{Fits, IsBlank}
-use Rattle.key_slicer.proofs.StateFacts.{all_stand, fits_moved, move_is, nothing_moves}
+use Rattle.key_slicer.specs.States.{IsBlank, StandsFor}
+use Rattle.key_slicer.proofs.StateFacts.{all_stand, fits_blank, move_is, nothing_moves, stands_moved}
 use Rattle.key_slicer.proofs.engine.KeyStateKeyWindows.water.Goals as goal
 
 pub purge-requires-clause-stands : goal.purge-requires-clause-stands
@@ -11,9 +11,9 @@ purge-requires-clause-stands g c =
     let s = c.args.self.now in
     let d = c.args.defs.now in
     let m = moment r.0 r.1 c.args.old in
-    let moved : Fits g.P.KeyPart.stands d r.0 r.1 c.args.new s.next s.store c.water.new.self.list.items =
-    fits_moved g.P.KeyPart.stands d r.0 r.1 c.args.old c.args.new s.next s.store s.parts.list.items c.water.new.self.list.items c.requires.rises c.requires.water r.2.known
-    (c.water.ensures.stands m r.2.known.without (all_stand g.P.KeyPart.stands d m c.args.old s.next s.store s.parts.list.items refl c.vouch.ensures r.2.known)) in
+    let moved : StandsFor g.P.KeyPart.stands d (moment r.0 r.1 c.args.new) s.next s.store c.water.new.self.list.items =
+    stands_moved g.P.KeyPart.stands d r.0 r.1 c.args.old c.args.new s.next s.store s.parts.list.items c.water.new.self.list.items c.requires.rises r.2.known
+    (c.water.ensures.stands m r.2.known.without (all_stand g.P.KeyPart.stands d m c.args.old s.next s.store s.parts.list.items refl c.vouch.ensures.holds r.2.known)) in
     (r.0, r.1, moved)
 
 pub returns-then-is_water-clause-fits : goal.returns-then-is_water-clause-fits
@@ -21,17 +21,24 @@ returns-then-is_water-clause-fits g c = λ kept marks fits.
     let s = c.args.self.now in
     let d = c.args.defs.now in
     let m = moment kept marks c.args.old in
-    let moved : Fits g.P.KeyPart.stands d kept marks c.args.new s.next s.store c.water.new.self.list.items =
-    fits_moved g.P.KeyPart.stands d kept marks c.args.old c.args.new s.next s.store s.parts.list.items c.water.new.self.list.items c.requires.rises c.requires.water fits.known
-    (c.water.ensures.stands m fits.known.without (all_stand g.P.KeyPart.stands d m c.args.old s.next s.store s.parts.list.items refl c.vouch.ensures fits.known)) in
+    let moved : StandsFor g.P.KeyPart.stands d (moment kept marks c.args.new) s.next s.store c.water.new.self.list.items =
+    stands_moved g.P.KeyPart.stands d kept marks c.args.old c.args.new s.next s.store s.parts.list.items c.water.new.self.list.items c.requires.rises fits.known
+    (c.water.ensures.stands m fits.known.without (all_stand g.P.KeyPart.stands d m c.args.old s.next s.store s.parts.list.items refl c.vouch.ensures.holds fits.known)) in
     c.purge.ensures.fits kept marks moved
+
+pub returns-else-is_water-clause-fits : goal.returns-else-is_water-clause-fits
+returns-else-is_water-clause-fits g c = λ kept marks fits.
+    let s = c.args.self.now in
+    let d = c.args.defs.now in
+    ⊎_elim (λ is. let yes : c.is_water.result ≡ true = c.is_water.ensures.no is in cc (c.if-is_water.false))
+    (λ (b : IsBlank g.P.KeyPart.stands d kept marks s.next s.store s.parts.list.items). fits_blank g.P.KeyPart.stands d kept marks c.args.new s.next s.store s.parts.list.items b) fits.clock
 
 pub returns-then-is_water-clause-changes : goal.returns-then-is_water-clause-changes
 returns-then-is_water-clause-changes g c = λ kept marks fits.
     let s = c.args.self.now in
     let d = c.args.defs.now in
     let m = moment kept marks c.args.old in
-    c.water.ensures.changes m fits.known.without (all_stand g.P.KeyPart.stands d m c.args.old s.next s.store s.parts.list.items refl c.vouch.ensures fits.known)
+    c.water.ensures.changes m fits.known.without (all_stand g.P.KeyPart.stands d m c.args.old s.next s.store s.parts.list.items refl c.vouch.ensures.holds fits.known)
     ∙ ap (λ cs. c.args.out.now.items ++ cs) (sym (move_is d s.key kept marks c.args.old c.args.new s.next c.windows-windows.ensures.limits fits.known.lists c.requires.rises))
 
 pub returns-else-is_water-clause-changes : goal.returns-else-is_water-clause-changes
@@ -49,7 +56,7 @@ returns-then-is_water-clause-ahead g c = λ is.
     let d = c.args.defs.now in
     let m = moment r.0 r.1 c.args.old in
     let f = r.2.known in
-    c.purge.ensures.ahead (c.water.ensures.ahead m f.without (all_stand g.P.KeyPart.stands d m c.args.old s.next s.store s.parts.list.items refl c.vouch.ensures f))
+    c.purge.ensures.ahead (c.water.ensures.ahead m f.without (all_stand g.P.KeyPart.stands d m c.args.old s.next s.store s.parts.list.items refl c.vouch.ensures.holds f))
 
 pub returns-else-is_water-clause-ahead : goal.returns-else-is_water-clause-ahead
 returns-else-is_water-clause-ahead g c = λ is. let yes : c.is_water.result ≡ true = c.is_water.ensures.no is in cc (c.if-is_water.false)
@@ -60,7 +67,7 @@ returns-then-is_water-clause-work_ahead g c = λ kept marks fits each.
     let d = c.args.defs.now in
     let m = moment kept marks c.args.old in
     let f = fits.known in
-    omega (arith, c.water.ensures.work_ahead m f.without (all_stand g.P.KeyPart.stands d m c.args.old s.next s.store s.parts.list.items refl c.vouch.ensures f) each, c.purge.ensures.work, c.purge.ensures.credit)
+    omega (arith, c.water.ensures.work_ahead m f.without (all_stand g.P.KeyPart.stands d m c.args.old s.next s.store s.parts.list.items refl c.vouch.ensures.holds f) each, c.purge.ensures.work, c.purge.ensures.credit)
 
 pub returns-then-is_water-clause-work : goal.returns-then-is_water-clause-work
 returns-then-is_water-clause-work g c = λ kept marks fits.
@@ -68,4 +75,4 @@ returns-then-is_water-clause-work g c = λ kept marks fits.
     let d = c.args.defs.now in
     let m = moment kept marks c.args.old in
     let f = fits.known in
-    omega (arith, c.water.ensures.work m f.without (all_stand g.P.KeyPart.stands d m c.args.old s.next s.store s.parts.list.items refl c.vouch.ensures f), c.purge.ensures.work, c.purge.ensures.credit)
+    omega (arith, c.water.ensures.work m f.without (all_stand g.P.KeyPart.stands d m c.args.old s.next s.store s.parts.list.items refl c.vouch.ensures.holds f), c.purge.ensures.work, c.purge.ensures.credit)

@@ -1,0 +1,81 @@
+//! When the next of the tuples in the state of a key are settled.
+ghost use Rattle.std.specs.Prelude.{◌≡◌, ◌≢◌, ◌≤◌, ◌<◌, ℕ, List, All, false, true};
+ghost use Rattle.std.specs.List.{Contains, list_all};
+ghost use Rattle.stream_base.specs.declared.kept.Kept.{Kept};
+ghost use Rattle.stream_base.specs.declared.limits.TheConstants.{FINAL, TIME_MAX};
+ghost use Rattle.stream_base.specs.Model.Slices.{is_events, is_settled, unsettled};
+ghost use Rattle.stream_base.specs.Model.Windows.{first_time};
+ghost use Rattle.slice_store.specs.Stored.{tuples_of};
+ghost use Rattle.key_windows.specs.Calls.{IsWater, moment};
+ghost use Rattle.held_laws.specs.Settling.{NoneSettled};
+ghost use Rattle.key_slicer.specs.States.{Fits};
+
+use crate::key_state::{KeyState, all_count_events, first_time, vouch};
+use agg_laws::{AggTree, Bundle};
+use key_parts::KeyPart;
+use stream_base::{Defs, FINAL, TIME_MAX};
+
+impl<T: AggTree<Bundle>, P: KeyPart> KeyState<T, P> {
+    // The first watermark at which a tuple in the store is settled. Later than the final one where
+    // none can be.
+    pub fn next_settled(&self, defs: &Defs, water: u64) -> u64
+        requires stands { (kept : List Kept) × (marks : List ℕ) × Fits P.stands defs.now kept marks
+            water self.now.next self.now.store self.now.parts.list.items }
+        requires water { IsWater water }
+        ensures none_before { (kept : List Kept) (marks : List ℕ) (new : ℕ)
+            → Fits P.stands defs.now kept marks
+            water self.now.next self.now.store self.now.parts.list.items
+            → water ≤ new → new < result → IsWater new
+            → NoneSettled defs.now (moment kept marks new) self.now.store }
+        ensures some_at { (kept : List Kept) (marks : List ℕ)
+            → Fits P.stands defs.now kept marks
+            water self.now.next self.now.store self.now.parts.list.items
+            → result ≤ FINAL → (water < result)
+            × (unsettled defs.now (moment kept marks result)
+            ≢ unsettled defs.now (moment kept marks water)) }
+    {
+        if all_count_events(defs) {
+            return u64::MAX;
+        }
+        match first_time(&self.store) {
+            Some(time) => self.settled_by(defs, water, time),
+            None => u64::MAX,
+        }
+    }
+
+    // By which watermark the tuples at a time are settled, where no tuple in the store is earlier.
+    fn settled_by(&self, defs: &Defs, water: u64, time: u64) -> u64
+        requires stands { (kept : List Kept) × (marks : List ℕ) × Fits P.stands defs.now kept marks
+            water self.now.next self.now.store self.now.parts.list.items }
+        requires water { IsWater water }
+        requires some { list_all (λ w. is_events w.kind) (defs.now).windows ≡ false }
+        requires time { time ≤ TIME_MAX }
+        requires first { All (λ run. time ≤ first_time run) self.now.store.slices }
+        ensures none_before { (kept : List Kept) (marks : List ℕ) (new : ℕ)
+            → Fits P.stands defs.now kept marks
+            water self.now.next self.now.store self.now.parts.list.items
+            → water ≤ new → new < result → IsWater new
+            → NoneSettled defs.now (moment kept marks new) self.now.store }
+        ensures by_then { (kept : List Kept) (marks : List ℕ) (x : Kept)
+            → Fits P.stands defs.now kept marks
+            water self.now.next self.now.store self.now.parts.list.items
+            → Contains (tuples_of self.now.store) x → x.time ≤ time → result ≤ FINAL
+            → (water < result) × (is_settled defs.now (moment kept marks result) x ≡ true) }
+    {
+        vouch(&self.store);
+        water_from(self.parts.settled_by(defs, time))
+    }
+}
+
+// The first watermark that is no less than a number, or the number where there is none.
+fn water_from(number: u64) -> u64
+    ensures from { number ≤ result }
+    ensures first { (water : ℕ) → IsWater water → number ≤ water → result ≤ water }
+    ensures is_water { result ≤ FINAL → IsWater result }
+{
+    if TIME_MAX < number && number <= FINAL {
+        FINAL
+    } else {
+        number
+    }
+}
