@@ -6,7 +6,7 @@ ghost use Rattle.stream_base.specs.Model.Journals.{is_entry_within};
 use crate::entries::{Draws, ENTRIES, entry};
 use agg_laws::Steps;
 use plain_keys::PlainKey;
-use shard_core::{Applied, ApplyFault, KeyedShard, Shard};
+use shard_core::{Applied, ApplyFault, KeyedShard, Shard, apply_counted};
 use std::alloc::Global;
 use std::process::Abort;
 use std::test::Fail;
@@ -119,7 +119,7 @@ fn step(
 {
     let position = plain.journal_len();
     let by_lists = plain.apply(entry, steps);
-    let by_slices = sliced.apply(entry, steps);
+    let by_slices = apply_counted(sliced, entry, steps);
     assert_eq!(rt;
         by_lists,
         by_slices,

@@ -72,8 +72,8 @@ module _ {K : Type 0} (key_of : K → List ℕ) (fits : Definitions → List Kep
       ⊎_elim
       (λ same. subst (λ w. changes_by_move d key (kept_of d.lateness sources key journal) (marks_of d.lateness sources key journal) slot.water w ≡ []) same
       (no_changes_at_rest d.windows key (moment (kept_of d.lateness sources key journal) (marks_of d.lateness sources key journal) slot.water) limits.kinds (kept_times_do_not_fall d.lateness sources key journal)))
-      (λ below. c.quiet (water_of sources journal) c.past below)
-      c.waits
+      (λ below. c.quiet.nothing_changes (water_of sources journal) c.past below)
+      c.not_due
 
   -- what its move from its own watermark changes is what the key changes
   pub move_is_key_move : (new : ℕ) → water_of sources journal ≤ new
@@ -82,9 +82,32 @@ module _ {K : Type 0} (key_of : K → List ℕ) (fits : Definitions → List Kep
 
   -- nothing where it isn't due
   pub no_key_move : (new : ℕ) → water_of sources journal ≤ new → new < due → changes_by_move d key (kept_of d.lateness sources key journal) (marks_of d.lateness sources key journal) (water_of sources journal) new ≡ []
-  no_key_move new further early = sym (move_is_key_move new further) ∙ c.quiet new (omega (arith, c.past)) early
+  no_key_move new further early = sym (move_is_key_move new further) ∙ c.quiet.nothing_changes new (omega (arith, c.past)) early
 
-  -- and then it stays as it is
+  -- so it stands under the journal's watermark as it is, and that can be noted
+  pub noted : (new : Slot K) → new.state ≡ slot.state → new.water ≡ water_of sources journal → IsWater (water_of sources journal)
+      → IsCurrent key_of fits next_position d sources journal key new due
+  noted new same water is_water =
+      let kept = kept_of d.lateness sources key journal in
+      let marks = marks_of d.lateness sources key journal in
+      record {
+        of_key = ap key_of same ∙ c.of_key;
+        stands = rw (same, water)
+            (⊎_elim
+            (λ there. subst (λ w. fits d kept marks w slot.state) there c.stands)
+            (λ below. c.quiet.waits (water_of sources journal) is_water c.past below)
+            c.not_due);
+        position = omega (arith, ap next_position same, c.position);
+        is_water = rw water is_water;
+        past = omega (arith, water);
+        not_due = inl water;
+        quiet = rw (same, water) (record {
+          nothing_changes = no_key_move;
+          waits = λ later is further early. c.quiet.waits later is (omega (arith, c.past, further)) early;
+        });
+      }
+
+  -- where it isn't due it stays as it is
   pub waits_on : (longer : List Entry) → IsSameFor d sources journal longer key → length journal ≤ length longer → water_of sources journal ≤ water_of sources longer → water_of sources longer < due
       → IsCurrent key_of fits next_position d sources longer key slot due
   waits_on longer same long further early = record {
@@ -93,7 +116,7 @@ module _ {K : Type 0} (key_of : K → List ℕ) (fits : Definitions → List Kep
     position = omega (arith, c.position);
     is_water = c.is_water;
     past = omega (arith, c.past);
-    waits = inr early;
+    not_due = inr early;
     quiet = rw (same.kept, same.marks) c.quiet;
   }
 
@@ -110,8 +133,8 @@ module _ {K : Type 0} (key_of : K → List ℕ) (fits : Definitions → List Kep
         position = omega (arith, c.position, m.same_next);
         is_water = rw m.moved is_water;
         past = omega (arith, m.moved);
-        waits = inl m.moved;
-        quiet = subst (λ k. IsQuiet d k (kept_of d.lateness sources key longer) (marks_of d.lateness sources key longer) new.water new_due) own (m.quiet (kept_of d.lateness sources key longer) (marks_of d.lateness sources key longer) stands);
+        not_due = inl m.moved;
+        quiet = subst (λ k. IsQuiet fits d k (kept_of d.lateness sources key longer) (marks_of d.lateness sources key longer) new.water new.state new_due) own (m.quiet (kept_of d.lateness sources key longer) (marks_of d.lateness sources key longer) stands);
       }
 
 -- ---- the places that are due

@@ -5,13 +5,13 @@ use Rattle.std.specs.Ordering.{nat_cmp}
 use Rattle.std.specs.Str.{bytes_eq}
 use Rattle.std.proofs.lemmas.Bool.Decides.{nat_tests}
 use Rattle.std.proofs.lemmas.Bool.{false_from_ne_true, le-ltb}
-use Rattle.key_windows.specs.Calls.{changes_by_mark, changes_by_put, kept_at}
+use Rattle.key_windows.specs.Calls.{changes_by_mark, changes_by_put, kept_at, moment}
 use Rattle.stream_base.specs.Limits.{AreWithinLimits, Definitions}
 use Rattle.stream_base.specs.declared.entry.Entry.{Entry}
 use Rattle.stream_base.specs.declared.kept.Kept.{Kept}
 use Rattle.stream_base.specs.declared.what.What.{What}
 use Rattle.stream_base.specs.declared.what.What.TheVariants.{Tuple, Mark, Water, Idle, End}
-use Rattle.stream_base.specs.Model.Changes.{changes_after, changes_between, moment_of}
+use Rattle.stream_base.specs.Model.Changes.{Moment, changes_after, changes_between, moment_of}
 use Rattle.stream_base.specs.Model.Journal.{kept_of, marks_of, put_in_order}
 use Rattle.stream_base.specs.Model.Watermark.{water_of}
 use Rattle.stream_base.specs.Model.What.{is_late, key_in, mark_in, tuple_in}
@@ -21,6 +21,8 @@ use Rattle.stream_base.proofs.Growing.{kept_of_other, kept_of_tuple, marks_of_ma
 use Rattle.shard_core.specs.declared.keys.KeyTable.{KeyTable}
 use Rattle.shard_core.specs.declared.slot.Slot.{Slot}
 use Rattle.shard_core.specs.Engines.{AreCurrent, IsCurrent, IsQuiet, place_of}
+use Rattle.shard_core.specs.Shard.{Sharded}
+use Rattle.shard_core.specs.Work.{IsTakenWithin}
 use Rattle.shard_core.proofs.Places.{IsSameFor, current_at, replaced}
 
 -- ---- what an entry is to a key
@@ -70,10 +72,13 @@ module _ (d : Definitions) (sources : ℕ) (journal : List Entry) (e : Entry) (k
     pub marks_with_tuple : marks_of d.lateness sources key (journal ++ e ∷ []) ≡ marks_of d.lateness sources key journal
     marks_with_tuple = marks_of_other d.lateness sources key journal e (ap (mark_in key) is)
 
+    pub moment_with_tuple : moment_of d sources key (journal ++ e ∷ []) ≡ moment (put_in_order (kept_of d.lateness sources key journal) (kept_at (length journal) time value)) (marks_of d.lateness sources key journal) (water_of sources journal)
+    moment_with_tuple = λ i. moment (kept_with_tuple i) (marks_with_tuple i) (water_of_keyed sources journal e key (ap key_in is) i)
+
     pub changes_of_tuple : AreWithinLimits d → changes_after d sources journal e ≡ changes_by_put d key (kept_of d.lateness sources key journal) (marks_of d.lateness sources key journal) (water_of sources journal) (kept_at (length journal) time value)
     changes_of_tuple limits =
         changes_of_keyed d sources journal e key limits (ap key_in is) (not_late time d.lateness (water_of sources journal) accepted key value e.what is)
-        ∙ (λ i. changes_between d.windows key (moment_of d sources key journal) (record { kept = kept_with_tuple i; marks = marks_with_tuple i; water = water_of_keyed sources journal e key (ap key_in is) i }))
+        ∙ ap (changes_between d.windows key (moment_of d sources key journal)) moment_with_tuple
 
   -- after a mark
   module _ (is : e.what ≡ Mark key time) (accepted : water_of sources journal ≤ time + d.lateness) where
@@ -83,10 +88,41 @@ module _ (d : Definitions) (sources : ℕ) (journal : List Entry) (e : Entry) (k
     pub marks_with_mark : marks_of d.lateness sources key (journal ++ e ∷ []) ≡ insert_key nat_cmp (marks_of d.lateness sources key journal) time
     marks_with_mark = marks_of_mark d.lateness sources key journal e time (mark_not_late time d.lateness (water_of sources journal) accepted key e.what is) (own_mark key time e.what is)
 
+    pub moment_with_mark : moment_of d sources key (journal ++ e ∷ []) ≡ moment (kept_of d.lateness sources key journal) (insert_key nat_cmp (marks_of d.lateness sources key journal) time) (water_of sources journal)
+    moment_with_mark = λ i. moment (kept_with_mark i) (marks_with_mark i) (water_of_keyed sources journal e key (ap key_in is) i)
+
     pub changes_of_mark : AreWithinLimits d → changes_after d sources journal e ≡ changes_by_mark d key (kept_of d.lateness sources key journal) (marks_of d.lateness sources key journal) (water_of sources journal) time
     changes_of_mark limits =
         changes_of_keyed d sources journal e key limits (ap key_in is) (mark_not_late time d.lateness (water_of sources journal) accepted key e.what is)
-        ∙ (λ i. changes_between d.windows key (moment_of d sources key journal) (record { kept = kept_with_mark i; marks = marks_with_mark i; water = water_of_keyed sources journal e key (ap key_in is) i }))
+        ∙ ap (changes_between d.windows key (moment_of d sources key journal)) moment_with_mark
+
+-- ---- the steps
+-- a bound between the moments of a key before and behind an entry is one for the entry
+pub taken_within : (bounds : Definitions → List ℕ → Moment → Moment → ℕ → ℕ → Type 0) (s : Sharded) (e : Entry) (key : List ℕ) (time old new : ℕ) (of : List ℕ) (before after : Moment)
+    → of ≡ key → before ≡ moment_of s.defs s.sources key s.journal → moment_of s.defs s.sources key (s.journal ++ e ∷ []) ≡ after
+    → (bound : ℕ) × bounds s.defs of before after time bound × (new ≤ old + bound) → IsTakenWithin bounds s e key time old new
+taken_within bounds s e key time old new of before after own first last h = record {
+  bound = h.0;
+  is_bound = subst (λ m. bounds s.defs key (moment_of s.defs s.sources key s.journal) m time h.0) (sym last)
+      (subst (λ m. bounds s.defs key m after time h.0) first (subst (λ k. bounds s.defs k before after time h.0) own h.1));
+  within = h.2;
+}
+
+-- an entry is a tuple of one key and one time alone
+pub tuple_alike : (bounds : Definitions → List ℕ → Moment → Moment → ℕ → ℕ → Type 0) (s : Sharded) (e : Entry) (key other : List ℕ) (time later : ℕ) (value more : ℤ) (old new : ℕ)
+    → e.what ≡ Tuple key time value → e.what ≡ Tuple other later more → IsTakenWithin bounds s e key time old new → IsTakenWithin bounds s e other later old new
+tuple_alike bounds s e key other time later value more old new is so w =
+    let same : key ≡ other = cc in
+    let at : time ≡ later = cc in
+    subst (λ k. IsTakenWithin bounds s e k later old new) same (subst (λ t. IsTakenWithin bounds s e key t old new) at w)
+
+-- and so a mark
+pub mark_alike : (bounds : Definitions → List ℕ → Moment → Moment → ℕ → ℕ → Type 0) (s : Sharded) (e : Entry) (key other : List ℕ) (time later old new : ℕ)
+    → e.what ≡ Mark key time → e.what ≡ Mark other later → IsTakenWithin bounds s e key time old new → IsTakenWithin bounds s e other later old new
+mark_alike bounds s e key other time later old new is so w =
+    let same : key ≡ other = cc in
+    let at : time ≡ later = cc in
+    subst (λ k. IsTakenWithin bounds s e k later old new) same (subst (λ t. IsTakenWithin bounds s e key t old new) at w)
 
 -- ---- the table
 module _ {K : Type 0} (key_of : K → List ℕ) (fits : Definitions → List Kept → List ℕ → ℕ → K → Type 0) (next_position : K → ℕ) (d : Definitions) (sources : ℕ) (journal : List Entry) (e : Entry) (key : List ℕ) (keyed : key_in e.what ≡ Some key) where
@@ -103,7 +139,7 @@ module _ {K : Type 0} (key_of : K → List ℕ) (fits : Definitions → List Kep
       → new_slot.water ≡ slot.water
       → next_position new_slot.state ≤ length journal + 1
       → (fits d (kept_of d.lateness sources key journal) (marks_of d.lateness sources key journal) slot.water slot.state → fits d (kept_of d.lateness sources key (journal ++ e ∷ [])) (marks_of d.lateness sources key (journal ++ e ∷ [])) new_slot.water new_slot.state)
-      → ((kept : List Kept) (marks : List ℕ) → fits d kept marks new_slot.water new_slot.state → IsQuiet d (key_of new_slot.state) kept marks new_slot.water due)
+      → ((kept : List Kept) (marks : List ℕ) → fits d kept marks new_slot.water new_slot.state → IsQuiet fits d (key_of new_slot.state) kept marks new_slot.water new_slot.state due)
       → AreCurrent key_of fits next_position d sources (journal ++ e ∷ []) new
   keyed_table old new p slot new_slot due c at there w index slots dues same_key same_water next stands quiet =
       let was : IsCurrent key_of fits next_position d sources journal key slot (get_or old.dues.items p 0) = current_at key_of fits next_position d sources journal old key p slot c at there in
@@ -118,6 +154,6 @@ module _ {K : Type 0} (key_of : K → List ℕ) (fits : Definitions → List Kep
         position = rw length-append next;
         is_water = rw same_water was.is_water;
         past = omega (arith, same_water, w, still);
-        waits = inl (same_water ∙ w ∙ sym still);
-        quiet = subst (λ l. IsQuiet d l (kept_of d.lateness sources key (journal ++ e ∷ [])) (marks_of d.lateness sources key (journal ++ e ∷ [])) new_slot.water due) own (quiet (kept_of d.lateness sources key (journal ++ e ∷ [])) (marks_of d.lateness sources key (journal ++ e ∷ [])) now);
+        not_due = inl (same_water ∙ w ∙ sym still);
+        quiet = subst (λ l. IsQuiet fits d l (kept_of d.lateness sources key (journal ++ e ∷ [])) (marks_of d.lateness sources key (journal ++ e ∷ [])) new_slot.water new_slot.state due) own (quiet (kept_of d.lateness sources key (journal ++ e ∷ [])) (marks_of d.lateness sources key (journal ++ e ∷ [])) now);
       })

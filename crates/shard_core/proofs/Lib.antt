@@ -8,3 +8,4 @@ pub mod Loops
 pub mod Advance
 pub mod FlatFacts
 pub mod Shards
+pub mod Costs

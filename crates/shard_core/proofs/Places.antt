@@ -1,5 +1,5 @@
 -- The table of keys where a key is added.
-use Rattle.std.proofs.Common.{◌≡◌, ◌≢◌, ◌∙◌, ◌≤◌, ◌<◌, ◌+◌, ℕ, Bool, true, false, cond, List, [], ◌∷◌, ◌++◌, length, map, get_or, get_or-set_other, get_or-set_same, set, ap, sym, refl, subst, arith, None, Some, inl, ⊎_elim, length-append, Result, Ok, Err}
+use Rattle.std.proofs.Common.{◌≡◌, ◌∙◌, ◌≤◌, ◌<◌, ◌+◌, ℕ, Bool, true, false, cond, List, [], ◌∷◌, ◌++◌, length, map, get_or, get_or-set_other, get_or-set_same, set, ap, sym, refl, subst, arith, None, Some, inl, ⊎_elim, length-append, Result, Ok, Err}
 use Rattle.std.specs.Result.{OnErr}
 use Rattle.std.specs.BTreeMap.{is_at}
 use Rattle.std.specs.List.Sorted.{IsStrictlySortedBy}
@@ -8,9 +8,9 @@ use Rattle.std.specs.Cmp.Lexicographic.{slice_cmp}
 use Rattle.std.specs.Ordering.{nat_cmp}
 use Rattle.std.proofs.Math.ListN.{length-set}
 use Rattle.std.proofs.lemmas.Bool.Decides.{eqb_tells}
-use Rattle.std.proofs.lemmas.List.{get_or_append_left, get_or_default, get_or_push}
+use Rattle.std.proofs.lemmas.List.{get_or_append_left, get_or_push}
 use Rattle.std.proofs.lemmas.Map.Text.{is_eq-slice_cmp}
-use Rattle.key_windows.specs.Calls.{IsWater, changes_by_move}
+use Rattle.key_windows.specs.Calls.{IsWater}
 use Rattle.stream_base.specs.Limits.{Definitions}
 use Rattle.stream_base.specs.declared.entry.Entry.{Entry}
 use Rattle.stream_base.specs.declared.kept.Kept.{Kept}
@@ -33,14 +33,6 @@ on_err (Err e) h = h
 
 pub some_is : {X : Type 0} (x y : X) → Some x ≡ Some y → x ≡ y
 some_is x y h = cc
-
--- a slot that stands under another watermark than this later one stands under an earlier one
-pub is_behind : {K : Type 0} (slots : List (Slot K)) (place : ℕ) (here there : Slot K) (water now : ℕ) → place < length slots → (get_or slots place here).water ≤ water → here ≡ get_or slots place here → there ≡ get_or slots place there → there.water ≢ water → water ≡ now → here.water < now
-is_behind {K} slots place here there water now inside rises is_here is_there other same =
-    let one : here ≡ there = is_here ∙ get_or_default slots place here there inside ∙ sym is_there in
-    let as_here : here.water ≡ (get_or slots place here).water = ap (λ (s : Slot K). s.water) is_here in
-    let as_there : here.water ≡ there.water = ap (λ (s : Slot K). s.water) one in
-    omega arith
 
 module _ {K : Type 0} (key_of : K → List ℕ) (fits : Definitions → List Kept → List ℕ → ℕ → K → Type 0) (next_position : K → ℕ) (d : Definitions) (sources : ℕ) (journal : List Entry) where
   -- the same slots under the same keys
@@ -75,7 +67,7 @@ module _ {K : Type 0} (key_of : K → List ℕ) (fits : Definitions → List Kep
       → fits d [] [] slot.water slot.state
       → slot.water ≡ water_of sources journal
       → IsWater slot.water
-      → IsQuiet d key [] [] slot.water due
+      → IsQuiet fits d key [] [] slot.water slot.state due
       → AreCurrent key_of fits next_position d sources journal new
   added old new key slot due c absent index ordered len slots dues of_key first empty water is_water quiet = record {
     in_order = ordered;
@@ -112,7 +104,7 @@ module _ {K : Type 0} (key_of : K → List ℕ) (fits : Definitions → List Kep
             position = omega (arith, first);
             is_water = is_water;
             past = omega (arith, water);
-            waits = inl water;
+            not_due = inl water;
             quiet = rw (kept, marks, ← own) quiet;
           })
       current q p x false is at =
@@ -146,7 +138,7 @@ module _ {K : Type 0} (key_of : K → List ℕ) (fits : Definitions → List Kep
     position = omega (arith, c.position);
     is_water = c.is_water;
     past = rw water c.past;
-    waits = rw water c.waits;
+    not_due = rw water c.not_due;
     quiet = rw (same.kept, same.marks) c.quiet;
   }
 
@@ -204,57 +196,22 @@ module _ {K : Type 0} (key_of : K → List ℕ) (fits : Definitions → List Kep
   pub has_lists : (t : KeyTable K) (key : List ℕ) (p : ℕ) (slot : Slot K) → AreCurrent key_of fits next_position d sources journal t → place_of t key ≡ Some p → slot ≡ get_or t.slots.items p slot → HasLists fits d slot
   has_lists t key p slot c at is = (kept_of d.lateness sources key journal, marks_of d.lateness sources key journal, (current_at t key p slot c at is).stands)
 
-  -- a state that was brought to the journal's watermark
-  pub up_to_date : (key : List ℕ) (old new : Slot K) (due new_due : ℕ)
-      → IsCurrent key_of fits next_position d sources journal key old due
-      → key_of new.state ≡ key_of old.state
-      → next_position new.state ≡ next_position old.state
-      → ((kept : List Kept) (marks : List ℕ) → fits d kept marks old.water old.state → fits d kept marks new.water new.state)
-      → new.water ≡ water_of sources journal
-      → IsWater (water_of sources journal)
-      → ((kept : List Kept) (marks : List ℕ) → fits d kept marks new.water new.state → IsQuiet d (key_of new.state) kept marks new.water new_due)
-      → IsCurrent key_of fits next_position d sources journal key new new_due
-  up_to_date key old new due new_due c k n f w is_water q =
-      let own : key_of new.state ≡ key = k ∙ c.of_key in
-      let stands : fits d (kept_of d.lateness sources key journal) (marks_of d.lateness sources key journal) new.water new.state = f (kept_of d.lateness sources key journal) (marks_of d.lateness sources key journal) c.stands in
-      record {
-        of_key = own;
-        stands = stands;
-        position = omega (arith, n, c.position);
-        is_water = rw w is_water;
-        past = omega (arith, w);
-        waits = inl w;
-        quiet = subst (λ l. IsQuiet d l (kept_of d.lateness sources key journal) (marks_of d.lateness sources key journal) new.water new_due) own (q (kept_of d.lateness sources key journal) (marks_of d.lateness sources key journal) stands);
-      }
-
-  -- a state that stands under the same watermark
-  pub stays_current : (key : List ℕ) (old new : Slot K) (due : ℕ)
-      → IsCurrent key_of fits next_position d sources journal key old due
-      → key_of new.state ≡ key_of old.state
-      → next_position new.state ≡ next_position old.state
-      → ((kept : List Kept) (marks : List ℕ) → fits d kept marks old.water old.state → fits d kept marks new.water new.state)
-      → new.water ≡ old.water
-      → IsCurrent key_of fits next_position d sources journal key new due
-  stays_current key old new due c k n f w = record {
-    of_key = k ∙ c.of_key;
-    stands = f (kept_of d.lateness sources key journal) (marks_of d.lateness sources key journal) c.stands;
-    position = omega (arith, n, c.position);
-    is_water = rw w c.is_water;
-    past = omega (arith, w, c.past);
-    waits = rw w c.waits;
-    quiet = rw w c.quiet;
-  }
-
-  -- up to the journal's watermark nothing was due
-  pub nothing_due : (key : List ℕ) (slot : Slot K) (due : ℕ) → IsCurrent key_of fits next_position d sources journal key slot due → slot.water < water_of sources journal
-      → changes_by_move d (key_of slot.state) (kept_of d.lateness sources key journal) (marks_of d.lateness sources key journal) slot.water (water_of sources journal) ≡ []
-  nothing_due key slot due c less =
-      let below : water_of sources journal < due = ⊎_elim (λ e. absurd (omega (arith, e))) (λ l. l) c.waits in
-      ap (λ k. changes_by_move d k (kept_of d.lateness sources key journal) (marks_of d.lateness sources key journal) slot.water (water_of sources journal)) c.of_key
-      ∙ c.quiet (water_of sources journal) c.past below
-
   -- a state that can do no more and no less
   pub alike : (key : List ℕ) (old new : Slot K) (due : ℕ) → IsSameSlot key_of fits next_position d old new
       → IsCurrent key_of fits next_position d sources journal key old due
       → IsCurrent key_of fits next_position d sources journal key new due
-  alike key old new due same c = stays_current key old new due c same.same_key same.same_next (λ kept marks f. rw same.same_water (same.still_fits kept marks old.water f)) same.same_water
+  alike key old new due same c =
+      let kept = kept_of d.lateness sources key journal in
+      let marks = marks_of d.lateness sources key journal in
+      record {
+        of_key = same.same_key ∙ c.of_key;
+        stands = rw same.same_water (same.still_fits kept marks old.water c.stands);
+        position = omega (arith, same.same_next, c.position);
+        is_water = rw same.same_water c.is_water;
+        past = omega (arith, same.same_water, c.past);
+        not_due = rw same.same_water c.not_due;
+        quiet = rw same.same_water (record {
+          nothing_changes = c.quiet.nothing_changes;
+          waits = λ later is further early. same.still_fits kept marks later (c.quiet.waits later is further early);
+        });
+      }

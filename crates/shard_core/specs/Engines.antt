@@ -15,9 +15,10 @@ use Rattle.shard_core.specs.Recorded.{Recorded}
 use Rattle.shard_core.specs.declared.keys.KeyTable.{KeyTable}
 use Rattle.shard_core.specs.declared.slot.Slot.{Slot}
 
--- up to a due number, a move of the watermark changes nothing
-abbrev pub IsQuiet : Definitions → List ℕ → List Kept → List ℕ → ℕ → ℕ → Type 0
-IsQuiet d key kept marks water due = (new : ℕ) → water ≤ new → new < due → changes_by_move d key kept marks water new ≡ []
+-- up to a due number, a move of the watermark changes nothing of a key, and its state stands there as it is
+pub record IsQuiet {K : Type 0} (fits : Definitions → List Kept → List ℕ → ℕ → K → Type 0) (d : Definitions) (key : List ℕ) (kept : List Kept) (marks : List ℕ) (water : ℕ) (state : K) (due : ℕ) : Type 0 where
+  pub nothing_changes : (new : ℕ) → water ≤ new → new < due → changes_by_move d key kept marks water new ≡ []
+  pub waits : (new : ℕ) → IsWater new → water ≤ new → new < due → fits d kept marks new state
 
 -- a slot stands for the same as before: only what it has room for may differ
 pub record IsSameSlot {K : Type 0} (key_of : K → List ℕ) (fits : Definitions → List Kept → List ℕ → ℕ → K → Type 0) (next_position : K → ℕ) (d : Definitions) (old new : Slot K) : Type 0 where
@@ -50,8 +51,8 @@ module _ {K : Type 0} (key_of : K → List ℕ) (fits : Definitions → List Kep
     pub position : next_position slot.state ≤ length journal
     pub is_water : IsWater slot.water
     pub past : slot.water ≤ water_of sources journal
-    pub waits : (slot.water ≡ water_of sources journal) ⊎ (water_of sources journal < due)
-    pub quiet : IsQuiet d key (kept_of d.lateness sources key journal) (marks_of d.lateness sources key journal) slot.water due
+    pub not_due : (slot.water ≡ water_of sources journal) ⊎ (water_of sources journal < due)
+    pub quiet : IsQuiet fits d key (kept_of d.lateness sources key journal) (marks_of d.lateness sources key journal) slot.water slot.state due
 
   -- each key with a place is current there, and nothing is kept of any other
   pub record AreCurrent (t : KeyTable K) : Type 0 where
@@ -99,7 +100,7 @@ module _ {K : Type 0} (key_of : K → List ℕ) (fits : Definitions → List Kep
     pub same_next : next_position new.state ≡ next_position old.state
     pub moved : new.water ≡ water
     pub still_fits : (kept : List Kept) (marks : List ℕ) → fits d kept marks old.water old.state → fits d kept marks new.water new.state
-    pub quiet : (kept : List Kept) (marks : List ℕ) → fits d kept marks new.water new.state → IsQuiet d (key_of new.state) kept marks new.water due
+    pub quiet : (kept : List Kept) (marks : List ℕ) → fits d kept marks new.water new.state → IsQuiet fits d (key_of new.state) kept marks new.water new.state due
 
 -- a slot stands for what is kept of its key
 abbrev pub StandsIn : {K : Type 0} → (K → List ℕ) → (Definitions → List Kept → List ℕ → ℕ → K → Type 0) → Definitions → (List ℕ → List Kept) → (List ℕ → List ℕ) → Slot K → Type 0

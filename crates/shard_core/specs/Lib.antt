@@ -1,4 +1,5 @@
 pub mod Shard
+pub mod Work
 pub mod Recorded
 pub mod Past
 pub mod Placed
@@ -6,3 +7,4 @@ pub mod Numbers
 pub mod Engines
 pub mod Flat
 pub mod Replays
+pub mod Costs

@@ -1,13 +1,13 @@
 -- What a shard is in contracts.
 use Rattle.std.specs.Prelude.{◌≡◌, ◌≤◌, ◌<◌, ◌++◌, ℕ, true, false, List, [], ◌∷◌, length, take, All, slice_get, Some}
+use Rattle.key_windows.specs.Calls.{slices_at}
 use Rattle.stream_base.specs.Limits.{Definitions}
 use Rattle.stream_base.specs.declared.limits.TheConstants.{JOURNAL_MAX}
 use Rattle.stream_base.specs.declared.change.Change.{Change}
 use Rattle.stream_base.specs.declared.entry.Entry.{Entry}
 use Rattle.stream_base.specs.declared.kept.Kept.{Kept}
-use Rattle.stream_base.specs.Model.Changes.{Moment, changes_after, moment_of}
+use Rattle.stream_base.specs.Model.Changes.{changes_after, moment_of}
 use Rattle.stream_base.specs.Model.Journals.{is_entry_within}
-use Rattle.stream_base.specs.Model.Slices.{runs_of, unsettled}
 use Rattle.stream_base.specs.Model.Watermark.{has_ended}
 
 -- a shard: its definitions, its number of sources, and its journal
@@ -39,10 +39,6 @@ pub record IsJournal (sources : ℕ) (journal : List Entry) : Type 0 where
 abbrev pub changes_behind : Definitions → ℕ → List Entry → List Entry → List (List Change)
 changes_behind d sources before [] = []
 changes_behind d sources before (e ∷ es) = changes_after d sources before e ∷ changes_behind d sources (before ++ e ∷ []) es
-
--- the slices of what isn't settled at a moment
-abbrev pub slices_at : Definitions → Moment → List (List Kept)
-slices_at d m = runs_of d.windows m.marks (unsettled d m)
 
 -- the slices of what isn't settled of a key after a journal
 abbrev pub slices_after : Definitions → ℕ → List Entry → List ℕ → List (List Kept)

@@ -4,6 +4,8 @@ ghost use Rattle.stream_base.specs.Model.Changes.{changes_after};
 ghost use Rattle.stream_base.specs.Model.Journals.{is_entry_within};
 ghost use Rattle.stream_base.specs.Model.What.{is_progress};
 ghost use Rattle.shard_core.specs.Engines.{IsTableOf, IsTableWith};
+ghost use Rattle.shard_core.specs.Flat.{sharded};
+ghost use Rattle.shard_core.specs.Work.{IsMarkWithin, IsTupleWithin, comes_late};
 
 use crate::keys::KeyTable;
 use crate::past::Past;
@@ -33,6 +35,12 @@ impl<K: KeyWindows> KeyTable<K> {
             (IsTableWith K.key_of K.fits K.next_position past.now entry.now self.new) }
         ensures changes { OnOk result (out.new.items ≡ out.old.items
             ++ changes_after past.now.defs past.now.sources past.now.journal entry.now) }
+        ensures tuple_work { OnOk result (IsTupleWithin K.bounds_put (sharded past.now) entry.now
+            steps.old steps.new) }
+        ensures mark_work { OnOk result (IsMarkWithin K.bounds_mark (sharded past.now) entry.now
+            steps.old steps.new) }
+        ensures late_work { comes_late (sharded past.now) entry.now ≡ true → steps.new ≡ steps.old }
+        ensures refused_work { OnErr result (steps.new ≡ steps.old) }
     {
         if past.is_late(entry) {
             out.push(Change::Dropped)?;
@@ -70,6 +78,7 @@ impl<K: KeyWindows> KeyTable<K> {
             (IsTableWith K.key_of K.fits K.next_position past.now entry.now self.new) }
         ensures changes { OnOk result (out.new.items ≡ out.old.items
             ++ changes_after past.now.defs past.now.sources past.now.journal entry.now) }
+        ensures refused_work { OnErr result (steps.new ≡ steps.old) }
     {
         let _defs = past.defs();
         let _journal = past.journal();

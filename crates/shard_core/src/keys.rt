@@ -10,6 +10,8 @@ ghost use Rattle.stream_base.specs.Model.Changes.{changes_after};
 ghost use Rattle.stream_base.specs.Model.What.{is_progress};
 ghost use Rattle.stream_base.specs.Model.Watermark.{water_of};
 ghost use Rattle.shard_core.specs.Engines.{AreCurrent, AreMovable, AreSameSlots, IsMovedSlot, IsSameElsewhere, IsSameOutside, IsSameSlot, IsTableOf, IsTableWith, StandsIn, due_places, moves_of, place_of};
+ghost use Rattle.shard_core.specs.Flat.{sharded};
+ghost use Rattle.shard_core.specs.Work.{IsTakenWithin};
 
 use crate::dues::Dues;
 use crate::key_index::KeyIndex;
@@ -21,7 +23,8 @@ use std::alloc::Global;
 use stream_base::{Change, Defs, KeyText, NoMemory};
 
 // The states of the keys. A key has its place in the order in which keys came; each state stands
-// under a watermark of its own, and beside it is up to which watermark nothing is due.
+// under a watermark of its own, and beside it is up to which watermark nothing is due: up to there
+// the state stands as it is, and need not be told of a move.
 #[derive(Drop)]
 pub struct KeyTable<K> {
     pub index: KeyIndex,
@@ -87,55 +90,34 @@ impl<K: KeyWindows> KeyTable<K> {
         Ok(place)
     }
 
-    // Brings the state of a key, which is at this place, on to the watermark of the past.
-    fn catch_up<L>(
-        &mut self,
-        past: &Past,
-        key: &KeyText,
-        place: usize,
-        out: &mut Vec<Change>,
-        steps: &mut Steps<L>,
-    ) -> Result<(), NoMemory>
+    // Notes that the state of a key, which is at this place, stands under the watermark of the
+    // past: nothing is due of it up to there, so it stands there as it is.
+    fn catch_up(&mut self, past: &Past, key: &KeyText, place: usize)
         requires current { IsTableOf K.key_of K.fits K.next_position past.now self.old }
         requires place { place_of self.old key.now ≡ Some place }
         ensures current { IsTableOf K.key_of K.fits K.next_position past.now self.new }
         ensures index { self.new.index ≡ self.old.index }
-        ensures water { OnOk result (HoldsAt (λ slot. slot.water
-            ≡ water_of past.now.sources past.now.journal) self.new.slots.items place) }
-        ensures out { out.new.items ≡ out.old.items }
+        ensures water { HoldsAt (λ slot. slot.water
+            ≡ water_of past.now.sources past.now.journal) self.new.slots.items place }
     {
         let _ = key;
-        let defs = past.defs();
-        let water = past.water();
-        let old = self.slots[place].water;
-        if old == water {
-            return Ok(());
-        }
-        self.slots[place].catch_up(defs, water, out, steps)?;
-        self.dues.set(place, self.slots[place].due(defs));
-        Ok(())
+        let _defs = past.defs();
+        self.slots[place].water = past.water();
     }
 
-    // The place of a key whose state stands under the watermark of the past.
-    fn prepare<L>(
-        &mut self,
-        alloc: Global,
-        past: &Past,
-        key: &KeyText,
-        out: &mut Vec<Change>,
-        steps: &mut Steps<L>,
-    ) -> Result<usize, NoMemory>
+    // The place of a key whose state stands under the watermark of the past. It takes memory only
+    // where the key has no place yet.
+    fn prepare(&mut self, alloc: Global, past: &Past, key: &KeyText) -> Result<usize, NoMemory>
         requires { IsTableOf K.key_of K.fits K.next_position past.now self.old }
         ensures current { IsTableOf K.key_of K.fits K.next_position past.now self.new }
         ensures place { IfOk result (λ p. place_of self.new key.now ≡ Some p) }
         ensures water { IfOk result (λ p. HoldsAt (λ slot. slot.water
             ≡ water_of past.now.sources past.now.journal) self.new.slots.items p) }
-        ensures out { out.new.items ≡ out.old.items }
     {
         let water = past.water();
         let defs = past.defs();
         let place = self.place_or_add(alloc, defs, key, water)?;
-        self.catch_up(past, key, place, out, steps)?;
+        self.catch_up(past, key, place);
         Ok(place)
     }
 
@@ -163,8 +145,11 @@ impl<K: KeyWindows> KeyTable<K> {
         ensures changes { (e : Entry) → e.what ≡ Tuple key.now time value
             → OnOk result (out.new.items
             ≡ out.old.items ++ changes_after past.now.defs past.now.sources past.now.journal e) }
+        ensures work { (e : Entry) → e.what ≡ Tuple key.now time value → OnOk result
+            (IsTakenWithin K.bounds_put (sharded past.now) e key.now time steps.old steps.new) }
+        ensures refused_work { OnErr result (steps.new ≡ steps.old) }
     {
-        let place = self.prepare(alloc, past, key, out, steps)?;
+        let place = self.prepare(alloc, past, key)?;
         let defs = past.defs();
         let position = past.journal().len() as u64;
         self.slots[place].put(defs, position, time, value, out, steps)?;
@@ -193,8 +178,11 @@ impl<K: KeyWindows> KeyTable<K> {
             → OnOk result (IsTableWith K.key_of K.fits K.next_position past.now e self.new) }
         ensures changes { (e : Entry) → e.what ≡ Mark key.now time → OnOk result (out.new.items
             ≡ out.old.items ++ changes_after past.now.defs past.now.sources past.now.journal e) }
+        ensures work { (e : Entry) → e.what ≡ Mark key.now time → OnOk result
+            (IsTakenWithin K.bounds_mark (sharded past.now) e key.now time steps.old steps.new) }
+        ensures refused_work { OnErr result (steps.new ≡ steps.old) }
     {
-        let place = self.prepare(alloc, past, key, out, steps)?;
+        let place = self.prepare(alloc, past, key)?;
         let defs = past.defs();
         self.slots[place].mark(defs, time, out, steps)?;
         self.dues.set(place, self.slots[place].due(defs));

@@ -4,11 +4,17 @@
 //! engine for the windows of one key, of which it knows the contract alone, and the plain engine, by
 //! which it replays a journal to tell what stands. *Promise*: for the shard's own journal, the
 //! changes at each position are those of the definitions, whatever entries are applied, and a
-//! refused entry changes nothing.
+//! refused entry changes nothing. A tuple or mark that isn't late takes no more steps than the
+//! engine bounds for its key, and a late or refused entry takes none.
+//!
+//! The state of a key is told a move of the watermark only where something of the key is complete
+//! or settled by then. Up to there it stands as it is, so that nothing is made up for when a tuple
+//! or mark comes, and its cost is that of the key alone.
 #![tactic(auto)]
 
-use agg_laws::{Bundle, FlatTree};
+use agg_laws::Bundle;
 use agg_queue::Daba;
+use fiba_finger::FingerTree;
 use key_slicer::KeyState;
 use window_parts::WindowPart;
 
@@ -23,10 +29,13 @@ mod replay;
 mod shard;
 mod slices;
 mod slot;
+mod work;
 
 pub use applied::{Applied, ApplyFault};
 pub use shard::KeyedShard;
+pub use work::apply_counted;
 
 /// A shard whose keys keep their tuples in slices that all windows of a key share: the partials of
-/// the slices lie in a row, and those of a tumbling or sliding window in a DABA queue.
-pub type Shard = KeyedShard<KeyState<FlatTree<Bundle>, WindowPart<Daba<Bundle>>>>;
+/// the slices lie in a tree with fingers at both ends, and those of a tumbling or sliding window in
+/// a DABA queue.
+pub type Shard = KeyedShard<KeyState<FingerTree<Bundle>, WindowPart<Daba<Bundle>>>>;

@@ -43,6 +43,7 @@ impl<K: KeyWindows> KeyTable<K> {
             (IsTableWith K.key_of K.fits K.next_position past.now entry.now self.new) }
         ensures changes { OnOk result (out.new.items ≡ out.old.items
             ++ changes_after past.now.defs past.now.sources past.now.journal entry.now) }
+        ensures refused_work { OnErr result (steps.new ≡ steps.old) }
     {
         let defs = past.defs();
         let due = self.due_places(alloc, new)?;

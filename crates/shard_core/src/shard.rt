@@ -1,10 +1,12 @@
 ghost use Rattle.std.specs.Prelude.{◌≡◌, ◌≤◌, ◌<◌, ◌↔◌, ◌∷◌, [], length, IfOk, OnOk, OnErr, IsErrOf, true, false, Some, slice_get, slice_index, slice_range};
+ghost use Rattle.stream_base.specs.Limits.{AreWithinLimits};
 ghost use Rattle.stream_base.specs.declared.limits.TheConstants.{JOURNAL_MAX};
 ghost use Rattle.stream_base.specs.Model.Changes.{changes_after, changes_at, standing_rows};
 ghost use Rattle.stream_base.specs.Model.Journals.{is_entry_within};
 ghost use Rattle.stream_base.specs.Model.Watermark.{has_ended};
 ghost use Rattle.shard_core.specs.Flat.{start_at};
 ghost use Rattle.shard_core.specs.Shard.{IsJournal, sharded_with, slices_after};
+ghost use Rattle.shard_core.specs.Work.{IsMarkWithin, IsTupleWithin, comes_late};
 
 use crate::applied::{Applied, ApplyFault};
 use crate::keys::KeyTable;
@@ -20,7 +22,7 @@ use stream_base::{Change, Defs, Entry, JOURNAL_MAX, KeyText, NoMemory, Row};
 /// changes of the results. Contracts see the definitions, the number of sources and the journal.
 ///
 /// An entry that doesn't move the watermark touches its own key alone. A move of the watermark
-/// touches the keys of which something is due by then, in the order of their bytes.
+/// touches the keys of which something is complete or settled by then, in the order of their bytes.
 #[derive(Drop)]
 pub struct KeyedShard<K: KeyWindows> {
     alloc: Global,
@@ -63,6 +65,9 @@ impl<K: KeyWindows> KeyedShard<K> {
     }
 
     /// Appends an entry, and under it the changes that it causes. It takes all its memory first.
+    ///
+    /// The steps of a tuple or mark that isn't late stay within a bound of the engine's, by what is
+    /// kept of the key before and behind the entry. A late or refused entry takes none.
     pub fn apply<L>(&mut self, entry: &Entry, steps: &mut Steps<L>) -> Result<Applied, ApplyFault>
         requires source { entry.now.source < self.old.sources }
         requires within { is_entry_within entry.now ≡ true }
@@ -76,6 +81,12 @@ impl<K: KeyWindows> KeyedShard<K> {
             ↔ ((has_ended entry.now.source self.old.journal ≡ false) × (length self.old.journal
             ≡ JOURNAL_MAX)) }
         ensures refused { OnErr result (self.new ≡ self.old) }
+        ensures tuple_work { OnOk result (IsTupleWithin K.bounds_put self.old entry.now
+            steps.old steps.new) }
+        ensures mark_work { OnOk result (IsMarkWithin K.bounds_mark self.old entry.now
+            steps.old steps.new) }
+        ensures late_work { comes_late self.old entry.now ≡ true → steps.new ≡ steps.old }
+        ensures refused_work { OnErr result (steps.new ≡ steps.old) }
     {
         if self.past.has_ended(entry.source) {
             return Err(ApplyFault::Ended);
@@ -96,6 +107,12 @@ impl<K: KeyWindows> KeyedShard<K> {
         ensures changes { IfOk result (λ applied. applied.changes
             ≡ length (changes_after self.old.defs self.old.sources self.old.journal entry.now)) }
         ensures refused { OnErr result (self.new ≡ self.old) }
+        ensures tuple_work { OnOk result (IsTupleWithin K.bounds_put self.old entry.now
+            steps.old steps.new) }
+        ensures mark_work { OnOk result (IsMarkWithin K.bounds_mark self.old entry.now
+            steps.old steps.new) }
+        ensures late_work { comes_late self.old entry.now ≡ true → steps.new ≡ steps.old }
+        ensures refused_work { OnErr result (steps.new ≡ steps.old) }
     {
         self.past.reserve()?;
         self.ends.reserve(1)?;
@@ -110,6 +127,14 @@ impl<K: KeyWindows> KeyedShard<K> {
         self.past.push(entry);
         self.ends.push_reserved(end);
         Ok(applied)
+    }
+
+    /// The definitions, which are within their limits.
+    pub fn defs(&self) -> &Defs
+        ensures value { result.now ≡ self.now.defs }
+        ensures limits { AreWithinLimits self.now.defs }
+    {
+        self.past.defs()
     }
 
     /// How many entries the journal has.

@@ -1,7 +1,7 @@
 ghost use Rattle.std.specs.Prelude.{◌≡◌, ◌≤◌, ◌<◌, ◌+◌, ◌++◌, [], ◌-◌, ℕ, List, IfOk, OnOk, OnErr, vec_len, vec_capacity};
 ghost use Rattle.std.specs.BTreeSet.{insert_key};
 ghost use Rattle.std.specs.Ordering.{nat_cmp};
-ghost use Rattle.key_windows.specs.Calls.{IsWater, changes_by_mark, changes_by_move, changes_by_put, kept_at};
+ghost use Rattle.key_windows.specs.Calls.{IsWater, changes_by_mark, changes_by_move, changes_by_put, kept_at, moment};
 ghost use Rattle.key_windows.specs.Calls.Call.{Move};
 ghost use Rattle.stream_base.specs.declared.kept.Kept.{Kept};
 ghost use Rattle.stream_base.specs.declared.limits.TheConstants.{JOURNAL_MAX, TIME_MAX};
@@ -30,37 +30,6 @@ impl<K: KeyWindows> Slot<K> {
     {
         let state = K::fresh(alloc, defs, key)?;
         Ok(Slot { state, water })
-    }
-
-    // Brings the state on to a later watermark. Where nothing is due before that, nothing changes.
-    pub fn catch_up<L>(
-        &mut self,
-        defs: &Defs,
-        water: u64,
-        out: &mut Vec<Change>,
-        steps: &mut Steps<L>,
-    ) -> Result<(), NoMemory>
-        requires stands { HasLists K.fits defs.now self.old }
-        requires rises { (self.old).water < water }
-        requires water { IsWater water }
-        ensures key { K.key_of (self.new).state ≡ K.key_of (self.old).state }
-        ensures next { K.next_position (self.new).state ≡ K.next_position (self.old).state }
-        ensures fits { (kept : List Kept) (marks : List ℕ)
-            → SlotFits K.fits defs.now kept marks self.old
-            → SlotFits K.fits defs.now kept marks self.new }
-        ensures water { OnOk result ((self.new).water ≡ water) }
-        ensures refused { OnErr result ((self.new).water ≡ (self.old).water) }
-        ensures quiet { (kept : List Kept) (marks : List ℕ)
-            → SlotFits K.fits defs.now kept marks self.old
-            → changes_by_move defs.now (K.key_of (self.old).state) kept marks
-            (self.old).water water ≡ []
-            → out.new.items ≡ out.old.items }
-    {
-        let room = self.state.reserve_water(defs, self.water, water)?;
-        out.reserve(room as usize)?;
-        self.state.water(defs, self.water, water, out, steps);
-        self.water = water;
-        Ok(())
     }
 
     // Takes in an accepted tuple, or nothing.
@@ -94,6 +63,13 @@ impl<K: KeyWindows> Slot<K> {
             → OnOk result (out.new.items ≡ out.old.items
             ++ changes_by_put defs.now (K.key_of (self.old).state) kept marks (self.old).water
             (kept_at position time value)) }
+        ensures bound { (kept : List Kept) (marks : List ℕ)
+            → SlotFits K.fits defs.now kept marks self.old
+            → OnOk result ((bound : ℕ) × K.bounds_put defs.now (K.key_of (self.old).state)
+            (moment kept marks (self.old).water)
+            (moment (put_in_order kept (kept_at position time value)) marks (self.old).water)
+            time bound × (steps.new ≤ steps.old + bound)) }
+        ensures refused_work { OnErr result (steps.new ≡ steps.old) }
     {
         let room = self.state.reserve_put(defs, time, self.water)?;
         out.reserve(room as usize)?;
@@ -130,6 +106,13 @@ impl<K: KeyWindows> Slot<K> {
             → OnOk result (out.new.items ≡ out.old.items
             ++ changes_by_mark defs.now (K.key_of (self.old).state) kept marks
             (self.old).water time) }
+        ensures bound { (kept : List Kept) (marks : List ℕ)
+            → SlotFits K.fits defs.now kept marks self.old
+            → OnOk result ((bound : ℕ) × K.bounds_mark defs.now (K.key_of (self.old).state)
+            (moment kept marks (self.old).water)
+            (moment kept (insert_key nat_cmp marks time) (self.old).water)
+            time bound × (steps.new ≤ steps.old + bound)) }
+        ensures refused_work { OnErr result (steps.new ≡ steps.old) }
     {
         let room = self.state.reserve_mark(defs, time, self.water)?;
         out.reserve(room as usize)?;
@@ -174,12 +157,13 @@ impl<K: KeyWindows> Slot<K> {
         self.water = new;
     }
 
-    // Up to which watermark, without it, nothing is due.
+    // Up to which watermark, without it, nothing is due: the state stands there as it is.
     pub fn due(&self, defs: &Defs) -> u64
         requires stands { HasLists K.fits defs.now self.now }
         requires water { IsWater (self.now).water }
         ensures { (kept : List Kept) (marks : List ℕ) → SlotFits K.fits defs.now kept marks self.now
-            → IsQuiet defs.now (K.key_of (self.now).state) kept marks (self.now).water result }
+            → IsQuiet K.fits defs.now (K.key_of (self.now).state) kept marks (self.now).water
+            (self.now).state result }
     {
         self.state.next_due(defs, self.water)
     }

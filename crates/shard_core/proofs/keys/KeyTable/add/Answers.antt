@@ -41,7 +41,7 @@ returns-clause-current g c sources journal w h =
     (c.push_reserved.ensures.items ∙ ap (λ l. l ++ slot ∷ []) c.reserve.ensures.items)
     (c.push_reserved-2.ensures.items ∙ ap (λ l. l ++ c.due-due.result ∷ []) c.reserve-2.ensures.items)
     c.in_ok-slot.ensures.key c.in_ok-slot.ensures.first stands (c.in_ok-slot.ensures.water ∙ w) (subst IsWater (sym c.in_ok-slot.ensures.water) c.requires.water)
-    (subst (λ (k : List ℕ). IsQuiet c.args.defs.now k [] [] slot.water c.due-due.result) c.in_ok-slot.ensures.key (c.due-due.ensures [] [] stands))
+    (subst (λ (k : List ℕ). IsQuiet g.K.KeyWindows.fits c.args.defs.now k [] [] slot.water slot.state c.due-due.result) c.in_ok-slot.ensures.key (c.due-due.ensures [] [] stands))
 
 pub due-due-requires-clause-stands : goal.due-due-requires-clause-stands
 due-due-requires-clause-stands g c = ([], [], subst (λ (n : ℕ). g.K.KeyWindows.fits c.args.defs.now [] [] n c.in_ok-slot.slot.state) (sym c.in_ok-slot.ensures.water) c.in_ok-slot.ensures.empty)

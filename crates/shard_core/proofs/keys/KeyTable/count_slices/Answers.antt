@@ -1,9 +1,8 @@
 -- The state counts under the watermark of the past, its own or a later one.
 use Rattle.std.proofs.Common.{◌≡◌, ◌∙◌, arith, get_or, length}
 use Rattle.stream_base.specs.Model.Journal.{kept_of, marks_of}
-use Rattle.key_windows.specs.Calls.{moment}
+use Rattle.key_windows.specs.Calls.{moment, slices_at}
 use Rattle.shard_core.specs.Engines.{AreCurrent, IsCurrent}
-use Rattle.shard_core.specs.Shard.{slices_at}
 use Rattle.shard_core.proofs.Places.{current_at}
 use Rattle.shard_core.proofs.keys.KeyTable.count_slices.Goals as goal
 

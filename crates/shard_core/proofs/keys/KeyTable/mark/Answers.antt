@@ -1,14 +1,17 @@
 -- The state of the key takes in the mark, or the table stays.
 use Rattle.std.proofs.Common.{◌≡◌, ◌∙◌, ◌≤◌, ◌+◌, ◌++◌, ap, arith, get_or, get_or-set_same, refl, subst, sym}
+use Rattle.std.specs.BTreeSet.{insert_key}
+use Rattle.std.specs.Ordering.{nat_cmp}
 use Rattle.std.proofs.lemmas.List.{set-get_or}
 use Rattle.stream_base.specs.Model.Journal.{kept_of, marks_of}
 use Rattle.stream_base.specs.Model.Watermark.{water_of}
 use Rattle.stream_base.specs.Model.What.{key_in}
 use Rattle.stream_base.specs.Model.Changes.{changes_after}
-use Rattle.key_windows.specs.Calls.{IsWater, changes_by_mark}
+use Rattle.key_windows.specs.Calls.{IsWater, changes_by_mark, moment}
 use Rattle.shard_core.specs.declared.slot.Slot.{Slot}
+use Rattle.shard_core.specs.Shard.{Sharded}
 use Rattle.shard_core.specs.Engines.{AreCurrent, HasLists, IsCurrent, IsQuiet}
-use Rattle.shard_core.proofs.Entries.{changes_of_mark, kept_with_mark, marks_with_mark, keyed_table}
+use Rattle.shard_core.proofs.Entries.{changes_of_mark, kept_with_mark, keyed_table, marks_with_mark, moment_with_mark, taken_within}
 use Rattle.shard_core.proofs.Places.{alike, current_at, has_lists, on_err, replaced, same_for}
 use Rattle.shard_core.proofs.keys.KeyTable.mark.Goals as goal
 
@@ -81,7 +84,7 @@ returns-clause-taken g c e is =
     (keyed_table key_of fits next d past.sources past.journal e key (ap key_in is) table _ place slot new c.due.result current c.in_ok-place.ensures.place c.index_mut.ensures.value water refl refl c.set.ensures
     c.in_ok-mark.ensures.key c.in_ok-mark.ensures.water (omega (arith, c.in_ok-mark.ensures.next, (current_at key_of fits next d past.sources past.journal table key place slot current c.in_ok-place.ensures.place c.index_mut.ensures.value).position))
     (λ f. rw (kept_with_mark d past.sources past.journal e key c.args.time is accepted, marks_with_mark d past.sources past.journal e key c.args.time is accepted) (c.in_ok-mark.ensures.fits kept marks f))
-    (λ kept marks f. subst (λ (s : Slot g.row.K.Denot). IsQuiet d (key_of s.state) kept marks s.water c.due.result) there (c.due.ensures kept marks (subst (λ (s : Slot g.row.K.Denot). fits d kept marks s.water s.state) (sym there) f))))
+    (λ kept marks f. subst (λ (s : Slot g.row.K.Denot). IsQuiet fits d (key_of s.state) kept marks s.water s.state c.due.result) there (c.due.ensures kept marks (subst (λ (s : Slot g.row.K.Denot). fits d kept marks s.water s.state) (sym there) f))))
 
 pub returns-clause-changes : goal.returns-clause-changes
 returns-clause-changes g c e is =
@@ -101,6 +104,30 @@ returns-clause-changes g c e is =
     let kept = kept_of d.lateness past.sources key past.journal in
     let marks = marks_of d.lateness past.sources key past.journal in
     c.in_ok-mark.ensures.changes kept marks was.stands
-    ∙ (λ i. c.prepare.ensures.out i ++ changes_by_mark d (was.of_key i) kept marks (water i) c.args.time)
+    ∙ (λ i. c.args.out.now.items ++ changes_by_mark d (was.of_key i) kept marks (water i) c.args.time)
     ∙ ap (λ l. c.args.out.now.items ++ l) (sym (changes_of_mark d past.sources past.journal e key c.args.time is accepted (rw c.defs-defs.ensures.value c.defs-defs.ensures.limits)))
     ∙ ap (λ x. c.args.out.now.items ++ changes_after x past.sources past.journal e) c.defs-defs.ensures.value
+
+pub returns-clause-work : goal.returns-clause-work
+returns-clause-work g c e is =
+    let key_of = g.K.KeyWindows.key_of in
+    let fits = g.K.KeyWindows.fits in
+    let next = g.K.KeyWindows.next_position in
+    let past = c.args.past.now in
+    let d = c.defs-defs.result.now in
+    let table = c.prepare.new.self in
+    let key = c.args.key.now in
+    let place = c.in_ok-place.place in
+    let slot = c.index_mut.result.now in
+    let accepted : water_of past.sources past.journal ≤ c.args.time + d.lateness = rw c.defs-defs.ensures.value c.requires.accepted in
+    let current : AreCurrent key_of fits next d past.sources past.journal table = rw c.defs-defs.ensures.value c.prepare.ensures.current in
+    let water : slot.water ≡ water_of past.sources past.journal = ap (λ s. s.water) c.index_mut.ensures.value ∙ c.in_ok-place.ensures.water slot in
+    let was : IsCurrent key_of fits next d past.sources past.journal key slot (get_or table.dues.items place 0) = current_at key_of fits next d past.sources past.journal table key place slot current c.in_ok-place.ensures.place c.index_mut.ensures.value in
+    let kept = kept_of d.lateness past.sources key past.journal in
+    let marks = marks_of d.lateness past.sources key past.journal in
+    let shard : Sharded = record { defs = d; sources = past.sources; journal = past.journal } in
+    rw (← c.defs-defs.ensures.value)
+    (taken_within g.K.KeyWindows.bounds_mark shard e key c.args.time c.args.steps.now c.mark.new.steps (key_of slot.state) _ _ was.of_key
+    (λ i. moment kept marks (water i))
+    (moment_with_mark d past.sources past.journal e key c.args.time is accepted ∙ sym (λ i. moment kept (insert_key nat_cmp marks c.args.time) (water i)))
+    (c.in_ok-mark.ensures.bound kept marks was.stands))

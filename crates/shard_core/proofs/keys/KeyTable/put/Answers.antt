@@ -6,10 +6,11 @@ use Rattle.stream_base.specs.Model.Journal.{kept_of, marks_of, put_in_order}
 use Rattle.stream_base.specs.Model.Watermark.{water_of}
 use Rattle.stream_base.specs.Model.What.{key_in}
 use Rattle.stream_base.specs.Model.Changes.{changes_after}
-use Rattle.key_windows.specs.Calls.{IsWater, changes_by_put, kept_at}
+use Rattle.key_windows.specs.Calls.{IsWater, changes_by_put, kept_at, moment}
 use Rattle.shard_core.specs.declared.slot.Slot.{Slot}
+use Rattle.shard_core.specs.Shard.{Sharded}
 use Rattle.shard_core.specs.Engines.{AreCurrent, HasLists, IsCurrent, IsQuiet}
-use Rattle.shard_core.proofs.Entries.{changes_of_tuple, kept_with_tuple, marks_with_tuple, keyed_table}
+use Rattle.shard_core.proofs.Entries.{changes_of_tuple, kept_with_tuple, keyed_table, marks_with_tuple, moment_with_tuple, taken_within}
 use Rattle.shard_core.proofs.Places.{alike, current_at, has_lists, on_err, replaced, same_for}
 use Rattle.shard_core.proofs.keys.KeyTable.put.Goals as goal
 
@@ -91,7 +92,7 @@ returns-clause-taken g c e is =
     (λ f. rw (kept_with_tuple d past.sources past.journal e key c.args.time c.args.value is accepted, marks_with_tuple d past.sources past.journal e key c.args.time c.args.value is accepted)
     (subst (λ n. fits d (put_in_order kept (kept_at n c.args.time c.args.value)) marks new.water new.state) at
     (subst (λ (v : ℤ). fits d (put_in_order kept (kept_at (length c.journal.result.now) c.args.time v)) marks new.water new.state) same (c.in_ok-put.ensures.fits kept marks f))))
-    (λ kept marks f. subst (λ (s : Slot g.row.K.Denot). IsQuiet d (key_of s.state) kept marks s.water c.due.result) there (c.due.ensures kept marks (subst (λ (s : Slot g.row.K.Denot). fits d kept marks s.water s.state) (sym there) f))))
+    (λ kept marks f. subst (λ (s : Slot g.row.K.Denot). IsQuiet fits d (key_of s.state) kept marks s.water s.state c.due.result) there (c.due.ensures kept marks (subst (λ (s : Slot g.row.K.Denot). fits d kept marks s.water s.state) (sym there) f))))
 
 pub returns-clause-changes : goal.returns-clause-changes
 returns-clause-changes g c e is =
@@ -113,6 +114,32 @@ returns-clause-changes g c e is =
     let kept = kept_of d.lateness past.sources key past.journal in
     let marks = marks_of d.lateness past.sources key past.journal in
     c.in_ok-put.ensures.changes kept marks was.stands
-    ∙ (λ i. c.prepare.ensures.out i ++ changes_by_put d (was.of_key i) kept marks (water i) (kept_at (at i) c.args.time (same i)))
+    ∙ (λ i. c.args.out.now.items ++ changes_by_put d (was.of_key i) kept marks (water i) (kept_at (at i) c.args.time (same i)))
     ∙ ap (λ l. c.args.out.now.items ++ l) (sym (changes_of_tuple d past.sources past.journal e key c.args.time c.args.value is accepted (rw c.defs-defs.ensures.value c.defs-defs.ensures.limits)))
     ∙ ap (λ x. c.args.out.now.items ++ changes_after x past.sources past.journal e) c.defs-defs.ensures.value
+
+pub returns-clause-work : goal.returns-clause-work
+returns-clause-work g c e is =
+    let key_of = g.K.KeyWindows.key_of in
+    let fits = g.K.KeyWindows.fits in
+    let next = g.K.KeyWindows.next_position in
+    let past = c.args.past.now in
+    let d = c.defs-defs.result.now in
+    let table = c.prepare.new.self in
+    let key = c.args.key.now in
+    let place = c.in_ok-place.place in
+    let slot = c.index_mut.result.now in
+    let accepted : water_of past.sources past.journal ≤ c.args.time + d.lateness = rw c.defs-defs.ensures.value c.requires.accepted in
+    let current : AreCurrent key_of fits next d past.sources past.journal table = rw c.defs-defs.ensures.value c.prepare.ensures.current in
+    let water : slot.water ≡ water_of past.sources past.journal = ap (λ s. s.water) c.index_mut.ensures.value ∙ c.in_ok-place.ensures.water slot in
+    let same = to_z-of_z w64 c.args.value c.ranges.value in
+    let at : length c.journal.result.now ≡ length past.journal = ap length c.journal.ensures.value in
+    let was : IsCurrent key_of fits next d past.sources past.journal key slot (get_or table.dues.items place 0) = current_at key_of fits next d past.sources past.journal table key place slot current c.in_ok-place.ensures.place c.index_mut.ensures.value in
+    let kept = kept_of d.lateness past.sources key past.journal in
+    let marks = marks_of d.lateness past.sources key past.journal in
+    let shard : Sharded = record { defs = d; sources = past.sources; journal = past.journal } in
+    rw (← c.defs-defs.ensures.value)
+    (taken_within g.K.KeyWindows.bounds_put shard e key c.args.time c.args.steps.now c.put.new.steps (key_of slot.state) _ _ was.of_key
+    (λ i. moment kept marks (water i))
+    (moment_with_tuple d past.sources past.journal e key c.args.time c.args.value is accepted ∙ sym (λ i. moment (put_in_order kept (kept_at (at i) c.args.time (same i))) marks (water i)))
+    (c.in_ok-put.ensures.bound kept marks was.stands))

@@ -2,8 +2,7 @@
 use Rattle.std.proofs.Common.{◌≡◌, [], length, rules, sym}
 use Rattle.stream_base.specs.Model.Journal.{kept_of, marks_of}
 use Rattle.stream_base.specs.Model.Watermark.{water_of}
-use Rattle.key_windows.specs.Calls.{moment}
-use Rattle.shard_core.specs.Shard.{slices_at}
+use Rattle.key_windows.specs.Calls.{moment, slices_at}
 use Rattle.shard_core.proofs.keys.KeyTable.slice_count.Goals as goal
 
 pub returns-in-None : goal.returns-in-None

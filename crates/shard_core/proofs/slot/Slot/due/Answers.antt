@@ -1,0 +1,8 @@
+-- Nothing changes before the due number, and the state stands there as it is.
+use Rattle.shard_core.proofs.slot.Slot.due.Goals as goal
+
+pub returns : goal.returns
+returns g c kept marks stands = record {
+  nothing_changes = λ later further early. c.next_due.ensures.none_before kept marks later stands further early;
+  waits = λ later is further early. c.next_due.ensures.waits kept marks later stands further early is;
+}
