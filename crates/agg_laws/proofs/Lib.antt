@@ -1,5 +1,3 @@
 pub mod Totals
-pub mod Bundles
 pub mod RisingPairs
-pub mod Places
 pub mod Examples

@@ -1,9 +1,4 @@
 pub mod Laws
 pub mod Counters
-pub mod Values
-pub mod Aggregates
-pub mod Shapes
-pub mod Bundled
-pub mod BundleLaws
+pub mod Compounds
 pub mod Pairs
-pub mod Flat

@@ -12,8 +12,8 @@ use stream_base::NoMemory;
 ///
 /// Its work is bounded by its reach: each call makes at most `64 * (reach + 2)` steps, and a fold
 /// at most half as many and at most one for each pair in its range. The reach grows by at most 1 at
-/// an `insert` and at no other call, and it is bounded by the number of pairs. `probes` counts the nodes that a call looks
-/// at, and doesn't fall.
+/// an `insert` and at no other call, and it is bounded by the number of pairs. `probes` counts the
+/// nodes that a call looks at, and doesn't fall.
 pub trait AggTree<M: Monoid> {
     // The pairs that the tree stands for, in the order of their keys.
     ghost pairs: { Self → List (ℕ × M) };

@@ -1,5 +1,5 @@
 ghost use Rattle.std.specs.Prelude.{refl};
-ghost use Rattle.agg_laws.specs.Aggregates.{paired, carried};
+ghost use Rattle.agg_laws.specs.Compounds.{paired, carried};
 
 use crate::lift::Lift;
 use crate::monoid::Monoid;

@@ -4,7 +4,7 @@
 #![tactic(auto)]
 
 #[cfg(test)]
-mod aggregates;
+mod functions;
 #[cfg(test)]
 mod queues;
 #[cfg(test)]

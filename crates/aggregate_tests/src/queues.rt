@@ -1,7 +1,8 @@
 ghost use Rattle.std.specs.Prelude.{◌≤◌, ◌+◌, OnOk};
 
-use agg_laws::{AggQueue, Lift, Monoid, Steps, Sum, Trace};
+use agg_laws::{AggQueue, Lift, Monoid, Steps};
 use agg_queue::{Daba, TwoStacks};
+use aggregates::{Sum, Trace};
 use std::collections::VecDeque;
 use std::process::Abort;
 use std::test::Fail;

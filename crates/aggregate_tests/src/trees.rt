@@ -1,10 +1,12 @@
 ghost use Rattle.std.specs.Prelude.{◌≡◌, ◌≤◌, ◌+◌, ◌*◌, OnOk, IsTrue, false};
 ghost use Rattle.agg_laws.specs.Pairs.{has_key};
 
-use crate::aggregates::insert_fold_remove;
-use agg_laws::{AggTree, FlatTree, Lift, Monoid, Probes, Steps, Sum, Trace};
+use crate::functions::insert_fold_remove;
+use agg_laws::{AggTree, Lift, Monoid, Probes, Steps};
+use aggregates::{Sum, Trace};
 use fiba_arena::{ArenaTree, Item, Node, Nodes};
 use fiba_finger::{FingerTree, Grown};
+use flat_tree::FlatTree;
 use std::process::Abort;
 use std::test::Fail;
 use stream_base::NoMemory;

@@ -3,7 +3,8 @@ ghost use Rattle.std.specs.Prelude.{◌≡◌, ◌<◌, length};
 ghost use Rattle.context_windows.specs.Spanned.{window_at};
 
 use crate::settled::settled_with;
-use agg_laws::{AggTree, Bundle, Steps};
+use agg_laws::{AggTree, Steps};
+use aggregates::Bundle;
 use context_windows::MarkWindows;
 use key_parts::KeyPart;
 use slice_store::SliceStore;

@@ -8,7 +8,8 @@ use Rattle.std.proofs.lemmas.List.Elements.{All-cons, All-head, All-tail, All-we
 use Rattle.stream_base.specs.declared.kept.Kept.{Kept}
 use Rattle.stream_base.specs.Model.Windows.{first_time, is_within, last_time, within}
 use Rattle.window_laws.specs.Runs.{AreInOrder, IsAligned}
-use Rattle.window_laws.proofs.Order.{filter_none, nd_head}
+use Rattle.stream_base.proofs.Filters.{filter_none}
+use Rattle.window_laws.proofs.Order.{nd_head}
 use Rattle.slice_store.specs.declared.slice.Slice.{Slice}
 use Rattle.slice_store.specs.Slices.{joined, slice_of}
 use Rattle.slice_store.proofs.SliceOrder.{run_below_last, times_of_order}

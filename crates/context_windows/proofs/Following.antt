@@ -20,7 +20,8 @@ use Rattle.window_laws.specs.After.{complete_at}
 use Rattle.window_laws.specs.Runs.{AreInOrder, AreParted, IsPartFrom, IsRun}
 use Rattle.window_laws.specs.Sessions.{IsPutInSessions, joined_session}
 use Rattle.window_laws.proofs.InstanceFacts.{gap_cut, session_far, session_near, session_runs}
-use Rattle.window_laws.proofs.Order.{All-map_of, All-split, IsApart, IsNear, filter_all, run_spans, runs_are_runs}
+use Rattle.stream_base.proofs.Filters.{filter_all}
+use Rattle.window_laws.proofs.Order.{All-map_of, All-split, IsApart, IsNear, run_spans, runs_are_runs}
 use Rattle.window_laws.proofs.RunEdits.{parted}
 use Rattle.slice_store.specs.declared.slice.Slice.{Slice}
 use Rattle.slice_store.specs.Slices.{joined}

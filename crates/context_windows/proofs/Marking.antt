@@ -19,7 +19,7 @@ use Rattle.stream_base.proofs.Rising.{Contains-head}
 use Rattle.window_laws.specs.After.{complete_at, with_mark, with_tuple}
 use Rattle.window_laws.specs.Late.{interval_change}
 use Rattle.window_laws.specs.Stretches.{AreChangesOfHolder, AreChangesOfParting, IsMarkedInStretches, if_selecting}
-use Rattle.window_laws.proofs.Order.{filter_all}
+use Rattle.stream_base.proofs.Filters.{filter_all}
 use Rattle.window_laws.proofs.PartFacts.{holder_changes, parting_changes}
 use Rattle.window_laws.proofs.StretchFacts.{empty_interval}
 use Rattle.slice_store.specs.Stored.{Stored, tuples_of}

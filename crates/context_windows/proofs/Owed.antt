@@ -8,7 +8,7 @@ use Rattle.std.proofs.lemmas.List.Elements.{All-filter, All-head, All-tail, All-
 use Rattle.stream_base.specs.declared.func.Func.{Func}
 use Rattle.stream_base.specs.declared.kept.Kept.{Kept}
 use Rattle.stream_base.specs.declared.limits.TheConstants.{FINAL}
-use Rattle.window_laws.proofs.Order.{filter_all}
+use Rattle.stream_base.proofs.Filters.{filter_all}
 use Rattle.context_windows.specs.declared.span.Span.{Span}
 use Rattle.context_windows.specs.Marked.{FollowsMarks, Marked, RemembersHolder, asked_at, entered_at, first_or, holder_of, holder_standing}
 use Rattle.context_windows.specs.Spans.{AreApart, asked_of, changes_of_joining, goes, head_standing, is_near, is_same_span, joined_span, near_of, put_changes, span_alone, span_of, stands}

@@ -3,7 +3,7 @@ use Rattle.std.proofs.Common.{◌≡◌, ◌∙◌, ℕ, zero, suc, ◌+◌, ◌
 use Rattle.std.specs.List.{All, filter}
 use Rattle.std.proofs.lemmas.List.{append-nil}
 use Rattle.std.proofs.lemmas.List.Elements.{All-head, All-tail, filter-append}
-use Rattle.window_laws.proofs.Order.{filter_all, filter_none}
+use Rattle.stream_base.proofs.Filters.{filter_all, filter_none}
 
 module _ {X : Type 0} where
   -- what passes one test and then another passes a third

@@ -6,7 +6,7 @@ use Rattle.std.proofs.lemmas.Bool.{and_from, and_left, and_right, le-leb, lt-leb
 use Rattle.std.proofs.lemmas.List.Elements.{All-filter, All-weaker, filter-append}
 use Rattle.stream_base.specs.Model.Windows.{Instance}
 use Rattle.stream_base.proofs.Members.{filter_map_of}
-use Rattle.window_laws.proofs.Order.{filter_all}
+use Rattle.stream_base.proofs.Filters.{filter_all}
 use Rattle.context_windows.specs.declared.span.Span.{Span}
 use Rattle.context_windows.specs.Spans.{is_near, near_of, span_of}
 use Rattle.context_windows.proofs.Parts.{filter_back, filter_front, filter_near}

@@ -7,7 +7,8 @@ ghost use Rattle.context_windows.specs.Marked.{back_of, front_of, part_if};
 
 use crate::joining::{remove_between, replace};
 use crate::span::Span;
-use agg_laws::{AggTree, Bundle};
+use agg_laws::AggTree;
+use aggregates::Bundle;
 use slice_store::SliceStore;
 
 pub fn front_of(span: Span, time: u64) -> Span

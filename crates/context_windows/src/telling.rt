@@ -3,7 +3,7 @@ ghost use Rattle.std.specs.Prelude.{◌≡◌, ◌≤◌, ◌<◌, ◌+◌, ◌-
 ghost use Rattle.stream_base.specs.declared.change.Change.TheVariants.{New};
 ghost use Rattle.stream_base.specs.Model.Changes.{former_of, row_of};
 ghost use Rattle.stream_base.specs.Model.Windows.{Instance};
-ghost use Rattle.agg_laws.specs.Bundled.{bundle_of};
+ghost use Rattle.aggregates.specs.Bundled.{bundle_of};
 ghost use Rattle.context_windows.specs.declared.standing.Standing.{Standing};
 ghost use Rattle.context_windows.specs.Held.{AreAlignedWith, AreHeld, IsAlignedWith, IsHeld};
 ghost use Rattle.context_windows.specs.Marked.{come_if, gone_if, shown_if};
@@ -13,7 +13,8 @@ ghost use Rattle.context_windows.specs.Telling.{as_standing, come_of, gone_of, r
 use crate::joining::goes;
 use crate::span::Span;
 use crate::standing::Standing;
-use agg_laws::{AggTree, Bundle, Steps};
+use agg_laws::{AggTree, Steps};
+use aggregates::Bundle;
 use slice_store::SliceStore;
 use stream_base::{Change, Former, Func, KeyText, Row, Shown};
 

@@ -1,7 +1,7 @@
 -- Values folded one after another.
 use Rattle.std.specs.Prelude.{List, fold}
 use Rattle.stream_base.specs.declared.kept.Kept.{Kept}
-use Rattle.agg_laws.specs.Bundled.{Bundled, bundle_of_number, bundles_combined}
+use Rattle.aggregates.specs.Bundled.{Bundled, bundle_of_number, bundles_combined}
 
 -- what the nine functions make of some values and then those of the tuples
 abbrev pub folded_onto : Bundled → List Kept → Bundled

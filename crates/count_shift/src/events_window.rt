@@ -6,7 +6,8 @@ ghost use Rattle.stream_base.specs.Model.Windows.{ranks};
 ghost use Rattle.count_shift.specs.Counting.{again_of, new_of, numbers};
 
 use crate::fold::fold_onto;
-use agg_laws::{Bundle, Monoid, Steps};
+use agg_laws::{Monoid, Steps};
+use aggregates::Bundle;
 use stream_base::{Change, Former, Func, Kept, KeyText, Row};
 
 // One events window of one key: its place among the definitions, its function, and how many tuples

@@ -1,9 +1,10 @@
 //! Folds over runs of tuples.
 ghost use Rattle.std.specs.Prelude.{◌≡◌, ◌≤◌, ◌+◌, length};
-ghost use Rattle.agg_laws.specs.Bundled.{bundle_of_number, bundles_combined};
+ghost use Rattle.aggregates.specs.Bundled.{bundle_of_number, bundles_combined};
 ghost use Rattle.count_shift.specs.Folded.{folded_onto};
 
-use agg_laws::{Bundle, Lift, Monoid, Steps};
+use agg_laws::{Lift, Monoid, Steps};
+use aggregates::Bundle;
 use stream_base::Kept;
 
 // The values of some tuples, and then those of a run. One step for each tuple of the run.

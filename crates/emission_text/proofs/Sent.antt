@@ -6,7 +6,7 @@ use Rattle.std.proofs.lemmas.Bool.{false≢true}
 use Rattle.std.proofs.lemmas.Grind.{common_steps}
 use Rattle.std.proofs.lemmas.List.{at_drop_more, take-append-drop}
 use Rattle.std.proofs.Math.Seq.{take-append_seam}
-use Rattle.stream_base.specs.Outside.{Rose, with_back}
+use Rattle.outside.specs.Outside.{Rose, with_back}
 use Rattle.emission_text.specs.Sending.{Appends, AppendsPrefix, Fails, Puts, Writes}
 use Rattle.emission_text.specs.declared.sink_fault.SinkFault.{SinkFault}
 

@@ -1,7 +1,7 @@
 -- How a text goes out to a sink.
 -- `written` says which bytes it took, where it tells them, and `faults` how many writes failed.
 use Rattle.std.specs.Prelude.{◌≡◌, ◌++◌, ℕ, List, Option, take, Result, Ok, Err}
-use Rattle.stream_base.specs.Outside.{Rose, with_back}
+use Rattle.outside.specs.Outside.{Rose, with_back}
 use Rattle.emission_text.specs.declared.sink_fault.SinkFault.{SinkFault}
 
 module _ {K : Type 0} (written : K → Option (List ℕ)) (faults : K → ℕ) where

@@ -11,7 +11,8 @@ use crate::pieces::put_pieces;
 use crate::report_form::ReportForm;
 use crate::sink_fault::SinkFault;
 use itoa::Buffer;
-use stream_base::{Change, FINAL, Former, KeyText, Row, Shown, Sink};
+use outside::Sink;
+use stream_base::{Change, FINAL, Former, KeyText, Row, Shown};
 
 /// Puts the lines of changes, in their order and in a form.
 pub fn put_changes<K: Sink>(

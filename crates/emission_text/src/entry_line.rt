@@ -6,7 +6,8 @@ use crate::pending::Pending;
 use crate::pieces::put_pieces;
 use crate::sink_fault::SinkFault;
 use itoa::Buffer;
-use stream_base::{Entry, Sink, What};
+use outside::Sink;
+use stream_base::{Entry, What};
 
 /// Puts the journal line of an entry.
 pub fn put_entry<K: Sink>(entry: &Entry, out: &mut Pending, sink: &mut K) -> Result<(), SinkFault>

@@ -11,8 +11,8 @@ use crate::pending::Pending;
 use crate::pieces::{put_numbered, put_pieces};
 use crate::sink_fault::SinkFault;
 use itoa::{Buffer, Integer};
+use outside::Sink;
 use source_feed::RowWhy;
-use stream_base::Sink;
 use window_defs::DefsFault;
 
 /// Writes the line of a fault. `Write` is answered where a write of the sink failed, and then a

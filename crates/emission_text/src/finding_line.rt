@@ -6,8 +6,8 @@ use crate::pending::Pending;
 use crate::pieces::{put_numbered, put_pieces};
 use crate::sink_fault::SinkFault;
 use itoa::Buffer;
+use outside::Sink;
 use report_check::Finding;
-use stream_base::Sink;
 
 /// Writes the line of a finding: `lawful`, or `unlawful` and what is wrong where. `Write` is
 /// answered where a write of the sink failed, and then a prefix of the line went out.

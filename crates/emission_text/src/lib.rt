@@ -18,13 +18,14 @@ mod report_form;
 mod sink_fault;
 mod summary;
 mod tally;
-#[cfg(test)]
-mod tests;
 mod writing;
 
+pub use change_line::put_change;
+pub use entry_line::put_entry;
 pub use fault::Fault;
 pub use fault_line::write_fault;
 pub use finding_line::write_finding;
+pub use pending::Pending;
 pub use report::{
     report_of_alike_shards_is_of_their_journals, write_form, write_report, write_report2,
 };

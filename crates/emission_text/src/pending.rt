@@ -3,8 +3,8 @@ ghost use Rattle.emission_text.specs.Sending.{Puts, Writes};
 
 use crate::sink_fault::SinkFault;
 use crate::writing::write_all;
+use outside::Sink;
 use std::marker::Model;
-use stream_base::Sink;
 
 // How many bytes are pending at most.
 const ROOM: usize = 65_536;

@@ -6,7 +6,7 @@ ghost use Rattle.emission_text.specs.Sending.{Puts};
 use crate::pending::Pending;
 use crate::sink_fault::SinkFault;
 use itoa::{Buffer, Integer};
-use stream_base::Sink;
+use outside::Sink;
 
 /// Puts pieces of text one behind the other.
 pub fn put_pieces<K: Sink>(

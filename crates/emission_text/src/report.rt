@@ -11,8 +11,8 @@ use crate::pending::Pending;
 use crate::pieces::{put_numbered, put_pieces};
 use crate::report_form::ReportForm;
 use crate::sink_fault::SinkFault;
+use outside::Sink;
 use shard_core::Shard;
-use stream_base::Sink;
 
 /// Writes the report of shards: for each shard its header, then each entry of its journal, and under
 /// it its changes; and at the end a last line. Retractions and updates leave out what stood before.

@@ -1,9 +1,9 @@
 ghost use Rattle.std.specs.Prelude.{◌≡◌};
 ghost use Rattle.emission_text.specs.declared.sink_fault.SinkFault.TheVariants.{Write as WriteFault};
 
+use outside::Failed;
 use std::error::Error;
 use std::fmt;
-use stream_base::Failed;
 
 /// Why a text wasn't written whole.
 #[derive(Clone, Copy, Debug, PartialEq, Eq)]

@@ -9,7 +9,8 @@ use crate::pieces::{put_numbered, put_pieces};
 use crate::sink_fault::SinkFault;
 use crate::tally::Tally;
 use itoa::Buffer;
-use stream_base::{Row, Sink};
+use outside::Sink;
+use stream_base::Row;
 
 /// Writes the summary of rows: a line with the number of tuples that were made; for each of so many
 /// windows how many of the rows are its own, the sum of their numbers, and the line of the last of

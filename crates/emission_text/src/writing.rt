@@ -2,7 +2,7 @@
 ghost use Rattle.emission_text.specs.Sending.{Writes};
 
 use crate::sink_fault::SinkFault;
-use stream_base::Sink;
+use outside::Sink;
 
 /// Writes all of these bytes, in as many writes as the sink needs.
 pub fn write_all<K: Sink>(bytes: &[u8], sink: &mut K) -> Result<(), SinkFault>

@@ -3,7 +3,7 @@ use Rattle.std.proofs.Common.{◌≡◌, ◌<◌, arith, append-nil, append_asso
 use Rattle.std.specs.Prelude.{All, IfSome, MatchOption, option_map, ⊤}
 use Rattle.std.proofs.lemmas.List.{get_or_append_left}
 use Rattle.std.proofs.lemmas.List.Elements.{All-filter, All-nil, All-push, filter-append}
-use Rattle.stream_base.specs.Outside.{Rose}
+use Rattle.outside.specs.Outside.{Rose}
 use Rattle.stream_base.specs.declared.entry.Entry.{Entry}
 use Rattle.stream_base.specs.Model.Routes.{goes_to, routed}
 use Rattle.source_feed.specs.FeedFault.{Ends, refusal_of}

@@ -1,7 +1,7 @@
 -- What comes of gathering the feeds of several sources into the journals of several shards.
 use Rattle.std.specs.Prelude.{◌≡◌, ◌≢◌, ◌<◌, ◌⊎◌, ℕ, true, false, List, length, None, Some, IfSome, MatchOption, ⊤}
 use Rattle.stream_base.specs.Limits.{Definitions}
-use Rattle.stream_base.specs.Outside.{Rose}
+use Rattle.outside.specs.Outside.{Rose}
 use Rattle.stream_base.specs.declared.entry.Entry.{Entry}
 use Rattle.stream_base.specs.declared.limits.TheConstants.{JOURNAL_MAX}
 use Rattle.stream_base.specs.Model.Routes.{entries_from, routed}

@@ -5,10 +5,11 @@ ghost use Rattle.fan_in.specs.Offers.{IsOffered, IsRefused, MayOffer};
 use crate::booked::Booked;
 use crate::desk::Desk;
 use agg_laws::Steps;
+use outside::Gate;
 use shard_core::{Applied, ApplyFault};
 use std::sync::Wait;
 use std::thread::Threads;
-use stream_base::{Entry, Gate};
+use stream_base::Entry;
 use turnstile::{Call, Pass};
 
 // The call of one offer that passes the gate inside its turn, with 16 and the shard's number.

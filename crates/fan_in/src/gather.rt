@@ -12,12 +12,13 @@ use crate::hand_back::hand_back;
 use crate::plan::Plan;
 use crate::read_out::read_out;
 use crate::work::{Work, make_room};
+use outside::Gate;
 use shard_core::Shard;
 use source_feed::Feed;
 use std::alloc::Global;
 use std::sync::Wait;
 use std::thread::Threads;
-use stream_base::{Gate, NoMemory};
+use stream_base::NoMemory;
 
 /// Gathering by turns: each shard stands at a desk, and each feed offers its entries there.
 pub struct TurnFeeds;

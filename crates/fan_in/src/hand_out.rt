@@ -8,11 +8,12 @@ use crate::booked::Booked;
 use crate::desk::Desk;
 use crate::gated::offer_gated;
 use crate::outcome::Outcome;
+use outside::Gate;
 use shard_core::ApplyFault;
 use source_feed::{FeedFault, route};
 use std::sync::Wait;
 use std::thread::Threads;
-use stream_base::{Entry, Gate, What};
+use stream_base::{Entry, What};
 use turnstile::Pass;
 
 // Offers an entry to each desk to which it goes, in their order, up to the first that refuses it.

@@ -17,12 +17,13 @@ use crate::run_tasks::run_tasks;
 use crate::settling::settle_all;
 use crate::task::{Tasks, add_feeds, add_owners, room_for, take_feeds, take_owners};
 use mail_lane::Mail;
+use outside::Gate;
 use shard_core::Shard;
 use source_feed::Feed;
 use std::alloc::Global;
 use std::sync::Wait;
 use std::thread::Threads;
-use stream_base::{Entry, Gate, NoMemory};
+use stream_base::{Entry, NoMemory};
 
 /// Gathering by mail: each shard has a lane and an owner, and each feed sends its entries there.
 pub struct MailFeeds;

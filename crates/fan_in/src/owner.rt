@@ -5,10 +5,11 @@ ghost use Rattle.fan_in.specs.Owning.{IsOwner, OwnsAfter};
 
 use crate::outcome::Outcome;
 use agg_laws::Steps;
+use outside::Gate;
 use shard_core::{ApplyFault, Shard};
 use source_feed::FeedFault;
 use std::thread::Threads;
-use stream_base::{Entry, Gate};
+use stream_base::Entry;
 
 // The owner of a shard: it applies the entries of the shard's lane, and notes of each source whether
 // one of its entries was refused, or was left once memory had run out.

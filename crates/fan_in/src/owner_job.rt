@@ -4,11 +4,12 @@ ghost use Rattle.fan_in.specs.Posts.{OwnsLane};
 use crate::owner::Owner;
 use crate::plan::Plan;
 use mail_lane::{Mail, Receiver};
+use outside::Gate;
 use std::sync::Wait;
 use std::sync::atomic::{AtomicU64, Ordering};
 use std::thread;
 use std::thread::Threads;
-use stream_base::{Entry, Gate};
+use stream_base::Entry;
 
 // The work on one shard: the receiver of its lane, and its owner.
 #[derive(Drop)]

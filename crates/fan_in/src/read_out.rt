@@ -8,10 +8,10 @@ use crate::desk::Desk;
 use crate::gathered::FeedEnd;
 use crate::side_by_side::read_all;
 use crate::work::{Work, fill, take_apart};
+use outside::Gate;
 use source_feed::Feed;
 use std::sync::Wait;
 use std::thread::Threads;
-use stream_base::Gate;
 use turnstile::Pass;
 
 // Reads all feeds, each with its row of passes. They come back with their outcomes, and the rows.

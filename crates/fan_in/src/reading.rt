@@ -7,10 +7,11 @@ use crate::desk::Desk;
 use crate::hand_out::hand_out;
 use crate::job::Job;
 use crate::outcome::Outcome;
+use outside::Gate;
 use source_feed::Feed;
 use std::sync::Wait;
 use std::thread::Threads;
-use stream_base::{Entry, Gate};
+use stream_base::Entry;
 
 // Reads a feed to its end or to a fault, and offers its entries until one is refused.
 pub(crate) fn read_feed<F: Feed, G: Gate, R: Threads + Wait>(

@@ -6,12 +6,13 @@ use crate::plan::Plan;
 use crate::sending::send_feed;
 use crate::task::Task;
 use mail_lane::Mail;
+use outside::Gate;
 use source_feed::Feed;
 use std::sync::Wait;
 use std::sync::atomic::{AtomicU64, Ordering};
 use std::thread;
 use std::thread::Threads;
-use stream_base::{Entry, Gate};
+use stream_base::Entry;
 
 // Does all tasks, each in a thread of its own where one can be started. Those of the feeds come
 // first, so that they end also where the tasks are done one after another.

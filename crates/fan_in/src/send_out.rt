@@ -8,9 +8,10 @@ use crate::hand_out::goes_to;
 use crate::outbox::Outbox;
 use crate::outcome::Outcome;
 use mail_lane::Mail;
+use outside::Gate;
 use source_feed::FeedFault;
 use std::sync::Wait;
-use stream_base::{Entry, Gate, JOURNAL_MAX, NoMemory};
+use stream_base::{Entry, JOURNAL_MAX, NoMemory};
 
 // Sends an entry to each lane to which it goes, in their order, up to the first that takes no more.
 pub(crate) fn send_out<G: Gate, R: Wait>(

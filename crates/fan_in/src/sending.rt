@@ -6,10 +6,11 @@ use crate::mail_job::MailJob;
 use crate::outcome::Outcome;
 use crate::send_out::send_out;
 use mail_lane::Mail;
+use outside::Gate;
 use source_feed::Feed;
 use std::sync::Wait;
 use std::thread::Threads;
-use stream_base::{Entry, Gate};
+use stream_base::Entry;
 
 // Reads a feed to its end or to a fault, and sends its entries until a lane takes no more.
 pub(crate) fn send_feed<F: Feed, G: Gate, R: Threads + Wait>(

@@ -18,11 +18,12 @@ use crate::owner::Owner;
 use crate::owner_job::OwnerJob;
 use crate::plan::Plan;
 use mail_lane::{Mail, Receiver, Settled};
+use outside::Gate;
 use shard_core::Shard;
 use std::alloc::Global;
 use std::sync::Wait;
 use std::thread::Threads;
-use stream_base::{Entry, Gate};
+use stream_base::Entry;
 
 // Settles all lanes in their order, and hands the shards out. What the owners noted goes into the
 // outcomes of the feeds.

@@ -4,11 +4,11 @@ ghost use Rattle.fan_in.specs.Reading.{AreSame, IsReady, IsReadyAt, IsRead, Stan
 use crate::desk::Desk;
 use crate::job::Job;
 use crate::reading::read_feed;
+use outside::Gate;
 use source_feed::Feed;
 use std::sync::Wait;
 use std::thread;
 use std::thread::Threads;
-use stream_base::Gate;
 
 // Reads all feeds, each in a thread of its own where one can be started.
 pub(crate) fn read_all<F: Feed + Send, G: Gate, R: Threads + Wait + Sync>(

@@ -16,7 +16,7 @@ use Rattle.stream_base.specs.Model.What.{is_what_within, water_time}
 use Rattle.stream_base.proofs.Distinct.{All_from_members}
 use Rattle.stream_base.proofs.Members.{filter_members, flat_map_members, map_members}
 use Rattle.stream_base.proofs.Rising.{Contains-head, Contains-tail}
-use Rattle.window_laws.proofs.Order.{filter_all, filter_none}
+use Rattle.stream_base.proofs.Filters.{filter_all, filter_none}
 use Rattle.final_rows.specs.AtEnd.{AreUntied, KeepAll, rows_of_shard}
 use Rattle.final_rows.proofs.Moments.{AreEarly, kept_whole, marks_whole}
 use Rattle.final_rows.proofs.SameTuples.{same_rows}

@@ -17,7 +17,7 @@ use Rattle.stream_base.specs.Model.Watermark.{has_ended, latest_water, source_wa
 use Rattle.stream_base.specs.Model.What.{is_end, is_idle_word, is_late, is_what_within, water_time}
 use Rattle.stream_base.proofs.ChangeFacts.{any_from_member}
 use Rattle.stream_base.proofs.Distinct.{All_from_members}
-use Rattle.stream_base.proofs.Lawful.{never_dropped, told_in_order}
+use Rattle.model_laws.proofs.Lawful.{never_dropped, told_in_order}
 use Rattle.stream_base.proofs.Members.{filter_members, flat_map_members, map_has, map_members, range_members}
 use Rattle.stream_base.proofs.Rising.{Contains-cons_cases, Contains-head, none_in_nil}
 use Rattle.window_laws.proofs.Order.{All-split}

@@ -16,9 +16,9 @@ use Rattle.stream_base.specs.Model.Final.{final_moment}
 use Rattle.stream_base.specs.Model.Journal.{in_event_order, kept_of, marks_in, marks_of, on_time_after, tuples_in}
 use Rattle.stream_base.specs.Model.Watermark.{water_of}
 use Rattle.stream_base.specs.Model.What.{is_late, mark_in, tuple_in, water_time}
-use Rattle.stream_base.proofs.Accepted.{kept_exactly, marks_exactly}
+use Rattle.model_laws.proofs.Accepted.{kept_exactly, marks_exactly}
 use Rattle.stream_base.proofs.EventOrder.{kept_in_event_order}
-use Rattle.stream_base.proofs.WatermarkBounds.{water_at_most}
+use Rattle.model_laws.proofs.WatermarkBounds.{water_at_most}
 use Rattle.window_laws.proofs.Order.{All-split}
 use Rattle.final_rows.specs.AtEnd.{NothingIsDropped}
 

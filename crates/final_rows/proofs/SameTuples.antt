@@ -27,7 +27,7 @@ use Rattle.stream_base.specs.Model.Final.{final_moment}
 use Rattle.stream_base.specs.Model.Functions.{shown_of}
 use Rattle.stream_base.specs.Model.What.{key_in, mark_in, tuple_in}
 use Rattle.stream_base.specs.Model.Windows.{Instance, instances_of, is_complete, standing_of}
-use Rattle.stream_base.proofs.Absent.{bytes_eq_true}
+use Rattle.model_laws.proofs.Absent.{bytes_eq_true}
 use Rattle.stream_base.proofs.Distinct.{All_from_members, less_from_lt, sorted_map}
 use Rattle.stream_base.proofs.EventOrder.{event_order_total}
 use Rattle.stream_base.proofs.Members.{map_has, map_members}

@@ -20,12 +20,12 @@ use Rattle.stream_base.specs.Model.Routes.{IsLawful, entries_from, goes_to, rout
 use Rattle.stream_base.specs.Model.Watermark.{has_ended, water_of}
 use Rattle.stream_base.specs.Model.What.{is_end, is_what_within, key_in, water_time}
 use Rattle.stream_base.proofs.ChangeFacts.{any_from_member}
-use Rattle.stream_base.proofs.ChangeList.{filter_map_has, filter_map_members}
-use Rattle.stream_base.proofs.ChangesAfter.{keys_in_order}
+use Rattle.model_laws.proofs.ChangeList.{filter_map_has, filter_map_members}
+use Rattle.model_laws.proofs.ChangesAfter.{keys_in_order}
 use Rattle.stream_base.proofs.Distinct.{All_from_members}
 use Rattle.stream_base.proofs.Members.{filter_has, filter_members, flat_map_has, flat_map_members}
 use Rattle.stream_base.proofs.Rising.{Contains-head, Contains-tail, key_rising_members, same_members_same_list}
-use Rattle.stream_base.proofs.WatermarkBounds.{final_once_all_ended}
+use Rattle.model_laws.proofs.WatermarkBounds.{final_once_all_ended}
 use Rattle.final_rows.specs.AtEnd.{AreTied, AreUntied, HasNoTies}
 use Rattle.final_rows.proofs.Moments.{AreEarly}
 use Rattle.final_rows.proofs.Pairs.{across_sources, by_source, of_source}

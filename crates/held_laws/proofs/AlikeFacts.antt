@@ -19,7 +19,7 @@ use Rattle.window_laws.specs.Positions.{AreKept}
 use Rattle.window_laws.specs.Settled.{MayLeave, without_first}
 use Rattle.window_laws.proofs.InstanceFacts.{bounds_are_ends}
 use Rattle.window_laws.proofs.LeaveFacts.{EndBy, firsts_leave}
-use Rattle.window_laws.proofs.Order.{filter_none}
+use Rattle.stream_base.proofs.Filters.{filter_none}
 use Rattle.window_laws.proofs.SettledFacts.{all_from, all_member, settled_by_times, times_settle}
 
 pub same_truth : (a b : Bool) → (a ≡ true → b ≡ true) → (b ≡ true → a ≡ true) → a ≡ b

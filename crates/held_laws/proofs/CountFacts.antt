@@ -13,7 +13,7 @@ use Rattle.stream_base.proofs.Members.{filter_same}
 use Rattle.window_laws.specs.After.{at_water}
 use Rattle.window_laws.specs.Runs.{IsAligned}
 use Rattle.window_laws.specs.Settled.{without_first}
-use Rattle.window_laws.proofs.Order.{filter_none}
+use Rattle.stream_base.proofs.Filters.{filter_none}
 use Rattle.slice_store.specs.Entered.{slices_from}
 use Rattle.slice_store.specs.Places.{IsPlaceOf}
 use Rattle.slice_store.specs.Slices.{joined}

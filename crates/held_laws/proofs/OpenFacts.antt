@@ -18,7 +18,8 @@ use Rattle.window_laws.specs.After.{at_water, with_mark, with_tuple}
 use Rattle.window_laws.specs.Positions.{AreKept}
 use Rattle.window_laws.specs.Runs.{IsRun}
 use Rattle.window_laws.specs.Settled.{without_first}
-use Rattle.window_laws.proofs.Order.{filter_all, runs_are_runs}
+use Rattle.stream_base.proofs.Filters.{filter_all}
+use Rattle.window_laws.proofs.Order.{runs_are_runs}
 use Rattle.window_laws.proofs.SettledFacts.{not_all}
 use Rattle.window_laws.proofs.SettledMoves.{mark_settles_none, move_keeps_settled, new_tuple_is_unsettled, tuple_settles_no_other}
 use Rattle.slice_store.specs.Entered.{is_near, slices_from, slices_near}

@@ -11,7 +11,8 @@ ghost use Rattle.key_parts.specs.Calls.{LosesSettled, StandsAt, TakesMark, Takes
 ghost use Rattle.key_parts.specs.Moves.{SettlesUpTo};
 ghost use Rattle.key_parts.specs.Work.{change_work, row_work};
 
-use agg_laws::{AggTree, Bundle, Steps};
+use agg_laws::{AggTree, Steps};
+use aggregates::Bundle;
 use slice_store::SliceStore;
 use std::alloc::Global;
 use stream_base::{Change, Defs, KeyText, NoMemory};

@@ -14,7 +14,8 @@ use Rattle.stream_base.proofs.Members.{filter_members}
 use Rattle.stream_base.proofs.Rising.{Contains-head}
 use Rattle.window_laws.specs.After.{at_water}
 use Rattle.window_laws.specs.Settled.{without_first}
-use Rattle.window_laws.proofs.Order.{filter_all, runs_behind}
+use Rattle.stream_base.proofs.Filters.{filter_all}
+use Rattle.window_laws.proofs.Order.{runs_behind}
 use Rattle.slice_store.specs.declared.slice.Slice.{Slice}
 use Rattle.slice_store.specs.Entered.{slices_from}
 use Rattle.slice_store.specs.Slices.{AreSlices, joined, slice_of}

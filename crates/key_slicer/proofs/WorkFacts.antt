@@ -16,7 +16,7 @@ use Rattle.stream_base.specs.Model.Changes.{Moment, changes_between}
 use Rattle.stream_base.specs.Model.Cuts.{has_cut}
 use Rattle.stream_base.specs.Model.Windows.{first_time}
 use Rattle.window_laws.specs.Runs.{parted_at}
-use Rattle.slice_store.specs.Apart.{IsReachOver}
+use Rattle.partials.specs.Apart.{IsReachOver}
 use Rattle.slice_store.specs.Entered.{is_across, is_near, slices_from, slices_near}
 use Rattle.slice_store.specs.Slices.{joined}
 use Rattle.slice_store.specs.Stored.{IsStore, Stored}

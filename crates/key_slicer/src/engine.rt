@@ -8,7 +8,8 @@ ghost use Rattle.key_slicer.specs.Work.{bounds_mark, bounds_put, catch_up, mark_
 use crate::key_state::{KeyState, all_count_events, is_water, put_in, vouch};
 use crate::parts::Parts;
 use crate::sorted::append_sorted;
-use agg_laws::{AggTree, Bundle, Steps};
+use agg_laws::{AggTree, Steps};
+use aggregates::Bundle;
 use key_parts::AnyPart;
 use key_windows::KeyWindows;
 use slice_store::SliceStore;

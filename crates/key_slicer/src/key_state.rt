@@ -5,7 +5,7 @@ ghost use Rattle.stream_base.specs.declared.kept.Kept.{Kept};
 ghost use Rattle.stream_base.specs.Model.Slices.{is_events};
 ghost use Rattle.stream_base.specs.Model.Windows.{first_time};
 ghost use Rattle.stream_base.specs.declared.limits.TheConstants.{TIME_MAX};
-ghost use Rattle.slice_store.specs.Apart.{IsReachOver};
+ghost use Rattle.partials.specs.Apart.{IsReachOver};
 ghost use Rattle.slice_store.specs.Entered.{slices_near};
 ghost use Rattle.slice_store.specs.Slices.{joined};
 ghost use Rattle.slice_store.specs.Stored.{IsSliced, IsStore, Stored, tuples_of};
@@ -13,7 +13,8 @@ ghost use Rattle.key_windows.specs.Calls.{IsWater, kept_at};
 ghost use Rattle.key_parts.specs.Moves.{Comes, all_count_events};
 
 use crate::parts::Parts;
-use agg_laws::{AggTree, Bundle, Steps};
+use agg_laws::{AggTree, Steps};
+use aggregates::Bundle;
 use key_parts::KeyPart;
 use slice_store::SliceStore;
 use stream_base::{Change, Defs, FINAL, KeyText, Kind, NoMemory, TIME_MAX};

@@ -8,7 +8,8 @@ ghost use Rattle.key_slicer.specs.Parts.{EachPart, rooms};
 ghost use Rattle.key_slicer.specs.States.{Fits, StandsFor};
 
 use crate::key_state::{KeyState, all_count_events, first_time, vouch};
-use agg_laws::{AggTree, Bundle, Steps};
+use agg_laws::{AggTree, Steps};
+use aggregates::Bundle;
 use key_parts::KeyPart;
 use slice_store::SliceStore;
 use stream_base::Defs;

@@ -9,7 +9,8 @@ ghost use Rattle.key_windows.specs.Calls.{IsWater};
 ghost use Rattle.key_slicer.specs.Parts.{AllStandAt, AllTakeMark, AreStanding, EachPart, rooms, turns};
 
 use crate::parts::{Parts, sum_of, window_count};
-use agg_laws::{AggTree, Bundle, Steps};
+use agg_laws::{AggTree, Steps};
+use aggregates::Bundle;
 use key_parts::KeyPart;
 use slice_store::SliceStore;
 use stream_base::{Change, Defs, KeyText, NoMemory};

@@ -10,7 +10,8 @@ ghost use Rattle.key_slicer.specs.Parts.{AllStandAt, AllTakeTuple, AreStanding, 
 ghost use Rattle.key_slicer.specs.Work.{turns_work};
 
 use crate::parts::{Parts, sum_of, window_count};
-use agg_laws::{AggTree, Bundle, Steps};
+use agg_laws::{AggTree, Steps};
+use aggregates::Bundle;
 use key_parts::KeyPart;
 use slice_store::SliceStore;
 use stream_base::{Change, Defs, KeyText, NoMemory};

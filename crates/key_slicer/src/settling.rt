@@ -11,7 +11,8 @@ ghost use Rattle.held_laws.specs.Settling.{NoneSettled};
 ghost use Rattle.key_slicer.specs.States.{Fits};
 
 use crate::key_state::{KeyState, all_count_events, first_time, vouch};
-use agg_laws::{AggTree, Bundle};
+use agg_laws::AggTree;
+use aggregates::Bundle;
 use key_parts::KeyPart;
 use stream_base::{Defs, FINAL, TIME_MAX};
 

@@ -20,7 +20,7 @@ use Rattle.stream_base.proofs.Distinct.{by_start_total, instances_rise, lt_from_
 use Rattle.stream_base.proofs.EventOrder.{times_do_not_fall}
 use Rattle.stream_base.proofs.Members.{filter_has, filter_members}
 use Rattle.stream_base.proofs.Rising.{Contains-cons_cases, below_tail, none_in_nil}
-use Rattle.stream_base.proofs.Selecting.{instances_select}
+use Rattle.model_laws.proofs.Selecting.{instances_select}
 use Rattle.window_laws.specs.Positions.{AreKept, HaveDistinctPositions}
 use Rattle.window_laws.proofs.InstanceFacts.{bounds_are_ends, inside_span, spans_hold_selections}
 use Rattle.window_laws.proofs.SettledFacts.{settled_by_times, settled_earlier, times_settle}

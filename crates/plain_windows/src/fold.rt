@@ -2,12 +2,13 @@
 ghost use Rattle.std.specs.Prelude.{◌≡◌};
 ghost use Rattle.stream_base.specs.Model.Changes.{former_of, row_of};
 ghost use Rattle.stream_base.specs.Model.Functions.{shown_of};
-ghost use Rattle.agg_laws.specs.Bundled.{bundle_of, bundle_of_number, bundles_combined};
+ghost use Rattle.aggregates.specs.Bundled.{bundle_of, bundle_of_number, bundles_combined};
 ghost use Rattle.plain_windows.specs.Extents.{IsExtentIn, instance_in};
 ghost use Rattle.plain_windows.specs.Rows.{values_of};
 
 use crate::extent::Extent;
-use agg_laws::{Bundle, Lift, Monoid, Steps};
+use agg_laws::{Lift, Monoid, Steps};
+use aggregates::Bundle;
 use stream_base::{Def, Former, Func, Kept, KeyText, Row, Shown};
 
 /// Whose rows are made: a window with its place among the definitions, and a key.

@@ -29,15 +29,15 @@ use Rattle.stream_base.specs.Model.Watermark.{least_water, water_of}
 use Rattle.stream_base.specs.Model.What.{is_late, is_progress, is_what_within, key_in, mark_in, tuple_in}
 use Rattle.stream_base.specs.Key.{is_key}
 use Rattle.stream_base.specs.declared.limits.TheConstants.{FINAL, TIME_MAX}
-use Rattle.stream_base.specs.ReadBack.{AreEntriesWithin}
-use Rattle.stream_base.proofs.Absent.{key_comes, keys_stay, nothing_kept}
-use Rattle.stream_base.proofs.Accepted.{kept_times_within, marks_within}
+use Rattle.stream_base.specs.Model.Journals.{AreEntriesWithin}
+use Rattle.model_laws.proofs.Absent.{key_comes, keys_stay, nothing_kept}
+use Rattle.model_laws.proofs.Accepted.{kept_times_within, marks_within}
 use Rattle.stream_base.proofs.ChangeFacts.{changes_at_water, no_changes_at_rest}
-use Rattle.stream_base.proofs.ChangesAfter.{changes_of_keyed, keys_in_order, keys_of_water}
+use Rattle.model_laws.proofs.ChangesAfter.{changes_of_keyed, keys_in_order, keys_of_water}
 use Rattle.stream_base.proofs.EventOrder.{from_the_front, kept_in_event_order, kept_times_do_not_fall, put_in_order_cons}
 use Rattle.stream_base.proofs.Growing.{keys_of_nil, keys_of_push, kept_of_nil, kept_of_push, marks_of_nil, marks_of_other}
 use Rattle.stream_base.proofs.Rising.{Contains-insert_key, Contains-insert_key_cases, nat_rising_increases, same_members_same_list, sorted_insert_key}
-use Rattle.stream_base.proofs.Watermarks.{water_of_nil, water_of_same, water_rises}
+use Rattle.model_laws.proofs.WatermarkFacts.{water_of_nil, water_of_same, water_rises}
 use Rattle.window_laws.specs.After.{at_water, with_mark, with_tuple}
 use Rattle.window_laws.proofs.AfterFacts.{mark_is_keyed, tuple_after_changes_nothing}
 use Rattle.window_laws.proofs.MomentFacts.{moment_of_late, moment_of_mark, moment_of_other, moment_of_progress, moment_of_tuple}

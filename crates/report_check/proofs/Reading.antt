@@ -7,8 +7,8 @@ use Rattle.std.proofs.lemmas.Bool.Decides.{nat_tests}
 use Rattle.stream_base.specs.declared.entry.Entry.{Entry}
 use Rattle.stream_base.specs.Model.Journals.{after_line, after_word, entry_in, is_header, number_in, with_entry}
 use Rattle.stream_base.specs.Model.Text.{line_of}
-use Rattle.stream_base.proofs.Absent.{bytes_eq_true}
-use Rattle.stream_base.proofs.ReadBackExact.{is_header-exact}
+use Rattle.model_laws.proofs.Absent.{bytes_eq_true}
+use Rattle.report_laws.proofs.ReadBackExact.{is_header-exact}
 
 -- one entry more at the last place
 put_at_last : (journals : List (List Entry)) (e : Entry) (d : List Entry) → 0 < length journals

@@ -2,7 +2,7 @@
 use Rattle.std.specs.Prelude.{◌≤◌, List, length}
 use Rattle.stream_base.specs.declared.entry.Entry.{Entry}
 use Rattle.stream_base.specs.declared.limits.TheConstants.{TIME_MAX}
-use Rattle.stream_base.specs.ReadBack.{AreEntriesWithin}
+use Rattle.stream_base.specs.Model.Journals.{AreEntriesWithin}
 
 -- a journal's entries are within their limits, and no more than there are times
 pub record IsReadable (journal : List Entry) : Type 0 where

@@ -29,8 +29,6 @@ mod routes;
 mod same;
 mod step;
 mod tell;
-#[cfg(test)]
-mod tests;
 mod told;
 mod waters;
 mod words;

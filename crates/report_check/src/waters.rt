@@ -146,7 +146,7 @@ pub fn least_water(sources: u16, journal: &[Entry]) -> u64
 }
 
 /// The watermark of a journal, by that of the entries before its last.
-#[tactic(auto, using(stream_base::proofs::Watermarks::water_of_push))]
+#[tactic(auto, using(model_laws::proofs::WatermarkFacts::water_of_push))]
 pub fn water_behind(water: u64, sources: u16, journal: &[Entry]) -> u64
     ensures { (before : List Entry) (e : Entry) → journal.now ≡ before ++ e ∷ []
         → water ≡ water_of sources before → result ≡ water_of sources journal.now }

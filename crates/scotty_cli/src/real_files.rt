@@ -1,8 +1,8 @@
 ghost use Rattle.std.specs.Prelude.{◌≡◌, None};
 
 use crate::real_source::RealSource;
+use outside::{Failed, Files};
 use std::fs;
-use stream_base::{Failed, Files};
 
 /// The files of the system. They tell no bytes.
 #[derive(Drop)]

@@ -1,7 +1,7 @@
 ghost use Rattle.std.specs.Prelude.{◌≡◌, None};
 
+use outside::{Failed, Sink};
 use std::io::{Stdout, Write};
-use stream_base::{Failed, Sink};
 
 /// Standard output. It tells no bytes, and counts each failed write; a write that takes nothing of a
 /// nonempty piece has failed too.

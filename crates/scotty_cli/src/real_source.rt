@@ -1,8 +1,8 @@
 ghost use Rattle.std.specs.Prelude.{◌≡◌, None};
 
+use outside::{Failed, Source};
 use std::fs::File;
 use std::io::Read;
-use stream_base::{Failed, Source};
 
 /// A source over a file of the system. It tells no bytes, and counts each failed read.
 pub struct RealSource {

@@ -28,14 +28,14 @@ use Rattle.stream_base.specs.Model.Watermark.{water_of}
 use Rattle.stream_base.specs.Model.What.{is_late, is_progress}
 use Rattle.stream_base.specs.declared.what.What.{What}
 use Rattle.stream_base.specs.declared.what.What.TheVariants.{Tuple, Mark, Water, Idle, End}
-use Rattle.stream_base.proofs.Absent.{nothing_kept}
+use Rattle.model_laws.proofs.Absent.{nothing_kept}
 use Rattle.stream_base.proofs.ChangeFacts.{changes_at_water, flat_map_same, no_changes_at_rest}
-use Rattle.stream_base.proofs.ChangesAfter.{changes_of_water, keys_in_order, moment_of_water}
+use Rattle.model_laws.proofs.ChangesAfter.{changes_of_water, keys_in_order, moment_of_water}
 use Rattle.stream_base.proofs.Distinct.{All_from_members}
 use Rattle.stream_base.proofs.EventOrder.{kept_times_do_not_fall}
 use Rattle.stream_base.proofs.Members.{filter_has, filter_members, map_has, map_members}
 use Rattle.stream_base.proofs.Rising.{below_tail, Contains-head, Contains-tail, not_below_itself, sorted_cons}
-use Rattle.stream_base.proofs.Watermarks.{water_of_same, water_rises}
+use Rattle.model_laws.proofs.WatermarkFacts.{water_of_same, water_rises}
 use Rattle.stream_base.proofs.Growing.{kept_of_late, marks_of_late}
 use Rattle.shard_core.specs.declared.keys.KeyTable.{KeyTable}
 use Rattle.shard_core.specs.declared.slot.Slot.{Slot}

@@ -5,8 +5,8 @@ use Rattle.stream_base.specs.Limits.{AreWithinLimits}
 use Rattle.stream_base.specs.declared.entry.Entry.{Entry}
 use Rattle.stream_base.specs.Model.Changes.{changes_after, changes_between, moment_of}
 use Rattle.stream_base.specs.Model.What.{key_in}
-use Rattle.stream_base.proofs.ChangesAfter.{changes_of_keyed}
-use Rattle.slice_store.specs.Apart.{IsReachOver}
+use Rattle.model_laws.proofs.ChangesAfter.{changes_of_keyed}
+use Rattle.partials.specs.Apart.{IsReachOver}
 use Rattle.key_slicer.specs.Work.{bounds_mark, bounds_put, slices_gone}
 use Rattle.shard_core.specs.Costs.{IsMarkWithinFolds, IsTupleWithinFolds, slices_in, steps_of_counts, tuples_across, tuples_near}
 use Rattle.shard_core.specs.Shard.{Sharded, sharded_with}

@@ -15,8 +15,8 @@ use Rattle.stream_base.specs.Model.Changes.{Moment, changes_after, changes_betwe
 use Rattle.stream_base.specs.Model.Journal.{kept_of, marks_of, put_in_order}
 use Rattle.stream_base.specs.Model.Watermark.{water_of}
 use Rattle.stream_base.specs.Model.What.{is_late, key_in, mark_in, tuple_in}
-use Rattle.stream_base.proofs.Absent.{bytes_eq_true}
-use Rattle.stream_base.proofs.ChangesAfter.{changes_of_keyed, water_of_keyed}
+use Rattle.model_laws.proofs.Absent.{bytes_eq_true}
+use Rattle.model_laws.proofs.ChangesAfter.{changes_of_keyed, water_of_keyed}
 use Rattle.stream_base.proofs.Growing.{kept_of_other, kept_of_tuple, marks_of_mark, marks_of_other}
 use Rattle.shard_core.specs.declared.keys.KeyTable.{KeyTable}
 use Rattle.shard_core.specs.declared.slot.Slot.{Slot}

@@ -16,7 +16,7 @@ use Rattle.stream_base.specs.declared.entry.Entry.{Entry}
 use Rattle.stream_base.specs.declared.kept.Kept.{Kept}
 use Rattle.stream_base.specs.Model.Journal.{kept_of, marks_of}
 use Rattle.stream_base.specs.Model.Watermark.{water_of}
-use Rattle.stream_base.proofs.Absent.{bytes_eq_true}
+use Rattle.model_laws.proofs.Absent.{bytes_eq_true}
 use Rattle.shard_core.specs.Placed.{AreByKey}
 use Rattle.shard_core.specs.declared.keys.KeyTable.{KeyTable}
 use Rattle.shard_core.specs.declared.slot.Slot.{Slot}

@@ -13,8 +13,8 @@ use Rattle.stream_base.specs.Model.Journals.{is_entry_within}
 use Rattle.stream_base.specs.Model.What.{water_time}
 use Rattle.stream_base.specs.Model.Watermark.{all_ended, awake_waters, has_ended, is_awake, latest_water, least_or_zero, least_water, source_water, water_of}
 use Rattle.stream_base.proofs.EventOrder.{from_the_front}
-use Rattle.stream_base.proofs.Fronts.{All_front}
-use Rattle.stream_base.proofs.Watermarks.{water_of_nil, water_of_push}
+use Rattle.model_laws.proofs.Fronts.{All_front}
+use Rattle.model_laws.proofs.WatermarkFacts.{water_of_nil, water_of_push}
 
 abbrev AreWithin : List Entry → Type 0
 AreWithin journal = All (λ e. is_entry_within e ≡ true) journal

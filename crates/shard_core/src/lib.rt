@@ -12,8 +12,8 @@
 //! or mark comes, and its cost is that of the key alone.
 #![tactic(auto)]
 
-use agg_laws::Bundle;
 use agg_queue::Daba;
+use aggregates::Bundle;
 use fiba_finger::FingerTree;
 use key_slicer::KeyState;
 use window_parts::WindowPart;

@@ -9,14 +9,15 @@ use Rattle.std.proofs.lemmas.List.Elements.{All-append, All-cons, All-filter, Al
 use Rattle.stream_base.specs.declared.kept.Kept.{Kept}
 use Rattle.stream_base.specs.Model.Windows.{first_time, is_within, last_time, within}
 use Rattle.stream_base.proofs.Members.{filter_map_of}
-use Rattle.agg_laws.specs.Bundled.{Bundled, IsBundle, bundle_of, empty_bundle, bundles_combined}
-use Rattle.agg_laws.specs.BundleLaws.{bundle_laws}
+use Rattle.aggregates.specs.Bundled.{Bundled, IsBundle, bundle_of, empty_bundle, bundles_combined}
+use Rattle.aggregates.specs.BundleLaws.{bundle_laws}
 use Rattle.agg_laws.specs.Laws.{total}
 use Rattle.agg_laws.specs.Pairs as pairs
-use Rattle.agg_laws.proofs.Bundles.{bundle_is_value, bundle_of-append}
+use Rattle.aggregates.proofs.Bundles.{bundle_is_value, bundle_of-append}
 use Rattle.agg_laws.proofs.Totals.{total-cons}
 use Rattle.window_laws.specs.Runs.{AreInOrder, IsAligned, runs_within}
-use Rattle.window_laws.proofs.Order.{All-map_of, All-split, filter_all, filter_none}
+use Rattle.stream_base.proofs.Filters.{filter_all, filter_none}
+use Rattle.window_laws.proofs.Order.{All-map_of, All-split}
 use Rattle.slice_store.specs.Places.{IsPlaceOf}
 use Rattle.slice_store.specs.Slices.{AreSlices, joined, values_of}
 use Rattle.slice_store.specs.Stored.{partial_of}

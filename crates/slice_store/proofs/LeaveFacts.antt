@@ -16,12 +16,13 @@ use Rattle.stream_base.specs.Model.Cuts.{cuts_between, has_cut}
 use Rattle.stream_base.specs.Model.Slices.{runs_of}
 use Rattle.stream_base.specs.Model.Windows.{first_time, last_time}
 use Rattle.stream_base.proofs.Members.{filter_map_of}
-use Rattle.agg_laws.specs.Bundled.{bundle_of}
+use Rattle.aggregates.specs.Bundled.{bundle_of}
 use Rattle.agg_laws.specs.Pairs.{without}
-use Rattle.agg_laws.proofs.Places.{part_to_end}
+use Rattle.flat_tree.proofs.Places.{part_to_end}
 use Rattle.agg_laws.proofs.RisingPairs.{without-middle}
 use Rattle.window_laws.specs.Runs.{AreInOrder, AreRuns, IsAligned, IsPartFrom, IsRun}
-use Rattle.window_laws.proofs.Order.{All-split, filter_all, filter_none}
+use Rattle.stream_base.proofs.Filters.{filter_all, filter_none}
+use Rattle.window_laws.proofs.Order.{All-split}
 use Rattle.window_laws.proofs.RunEdits.{parted}
 use Rattle.slice_store.specs.declared.slice.Slice.{Slice}
 use Rattle.slice_store.specs.Entered.{marks_left, slices_from}

@@ -13,4 +13,3 @@ pub mod FoldFacts
 pub mod SplitFacts
 pub mod MarkFacts
 pub mod LeaveFacts
-mod RowFacts

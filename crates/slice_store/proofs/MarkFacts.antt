@@ -20,7 +20,7 @@ use Rattle.stream_base.specs.Model.Cuts.{has_cut}
 use Rattle.stream_base.specs.Model.Slices.{runs_of}
 use Rattle.stream_base.specs.Model.Windows.{first_time, last_time}
 use Rattle.stream_base.proofs.Pieces.{pieces_joined}
-use Rattle.agg_laws.specs.Bundled.{Bundled, bundle_of}
+use Rattle.aggregates.specs.Bundled.{Bundled, bundle_of}
 use Rattle.agg_laws.specs.Pairs.{has_key, inserted, replaced}
 use Rattle.window_laws.specs.Runs.{AreInOrder, parted_at}
 use Rattle.window_laws.proofs.MarkRuns.{runs_after_mark}

@@ -15,7 +15,7 @@ use Rattle.stream_base.specs.Model.Cuts.{has_cut, cuts_between}
 use Rattle.stream_base.specs.Model.Windows.{first_time, last_time}
 use Rattle.window_laws.specs.Runs.{AreInOrder, AreParted, ArePartFrom, AreRuns, IsPartFrom}
 use Rattle.window_laws.proofs.MarkRuns.{earlier_cut, later_cut}
-use Rattle.window_laws.proofs.Order.{filter_all, filter_none}
+use Rattle.stream_base.proofs.Filters.{filter_all, filter_none}
 use Rattle.window_laws.proofs.RunEdits.{added, entered, extended, fronted, merged}
 use Rattle.slice_store.specs.Entered.{is_near}
 use Rattle.slice_store.specs.Places.{IsPlaceOf}

@@ -11,7 +11,8 @@ use Rattle.stream_base.specs.Model.Journal.{put_in_order}
 use Rattle.stream_base.specs.Model.Windows.{first_time, last_time}
 use Rattle.stream_base.proofs.Members.{Contains-insert_new}
 use Rattle.window_laws.specs.Runs.{AreInOrder, IsPartFrom, IsRun}
-use Rattle.window_laws.proofs.RunFacts.{cases_of, put_first, put_behind}
+use Rattle.stream_base.proofs.Filters.{cases_of}
+use Rattle.window_laws.proofs.RunFacts.{put_first, put_behind}
 use Rattle.window_laws.proofs.RunEdits.{parted}
 use Rattle.slice_store.specs.Slices.{joined}
 

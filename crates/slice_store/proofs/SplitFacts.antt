@@ -12,7 +12,7 @@ use Rattle.stream_base.specs.declared.limits.TheConstants.{TIME_MAX}
 use Rattle.stream_base.specs.Laws.{TimesDoNotFall}
 use Rattle.stream_base.specs.Model.Windows.{first_time, last_time}
 use Rattle.window_laws.specs.Runs.{AreInOrder, IsPartFrom, IsRun}
-use Rattle.window_laws.proofs.Order.{filter_all, filter_none}
+use Rattle.stream_base.proofs.Filters.{filter_all, filter_none}
 use Rattle.window_laws.proofs.RunEdits.{parted, replaced}
 use Rattle.slice_store.specs.declared.slice.Slice.{Slice}
 use Rattle.slice_store.specs.Places.{IsPlaceOf}

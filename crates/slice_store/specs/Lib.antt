@@ -5,4 +5,3 @@ pub mod Entered
 pub mod Places
 pub mod Sides
 pub mod Bounds
-pub mod Apart

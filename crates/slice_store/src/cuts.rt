@@ -9,7 +9,7 @@ ghost use Rattle.slice_store.specs.Sides.{IsApartBefore, IsApartBehind, IsFirstE
 use crate::marks::has_mark;
 use crate::runs::Runs;
 use stream_base::Defs;
-use window_defs::cut_between;
+use window_cuts::cut_between;
 
 /// Whether there is a cut between two times, by the definitions or by a mark.
 #[tactic(auto, using(crate::proofs::CutFacts::cut_by_mark))]

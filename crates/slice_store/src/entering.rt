@@ -5,9 +5,10 @@ ghost use Rattle.slice_store.specs.Slices.{CanEnter, entered_at, joined, slices_
 ghost use Rattle.slice_store.specs.Stored.{partial_of};
 
 use crate::lifting::{folded, lifted};
-use crate::partials::Partials;
 use crate::runs::Runs;
-use agg_laws::{AggTree, Bundle, Monoid, Steps};
+use agg_laws::{AggTree, Monoid, Steps};
+use aggregates::Bundle;
+use partials::Partials;
 use stream_base::Kept;
 
 // The tuple becomes a slice of its own.

@@ -2,9 +2,10 @@
 ghost use Rattle.std.specs.Prelude.{◌≡◌, ◌≤◌, ◌+◌, ◌*◌, drop, length, map};
 ghost use Rattle.slice_store.specs.Stored.{partial_of};
 
-use crate::partials::Partials;
 use crate::runs::Runs;
-use agg_laws::{AggTree, Bundle, Steps};
+use agg_laws::{AggTree, Steps};
+use aggregates::Bundle;
+use partials::Partials;
 
 /// Takes out the partials of the first slices.
 pub fn take_first<T: AggTree<Bundle>, L>(

@@ -16,7 +16,6 @@ mod entering;
 mod leaving;
 mod lifting;
 mod marks;
-mod partials;
 mod placed;
 mod places;
 mod runs;

@@ -1,9 +1,10 @@
 //! What tuples come to.
 ghost use Rattle.std.specs.Prelude.{◌≡◌, ◌≤◌, ◌+◌, ◌∷◌, [], length};
-ghost use Rattle.agg_laws.specs.Bundled.{bundle_of, bundle_of_number, bundles_combined};
+ghost use Rattle.aggregates.specs.Bundled.{bundle_of, bundle_of_number, bundles_combined};
 ghost use Rattle.slice_store.specs.Slices.{values_of};
 
-use agg_laws::{Bundle, Lift, Monoid, Steps};
+use agg_laws::{Lift, Monoid, Steps};
+use aggregates::Bundle;
 use stream_base::Kept;
 
 /// What tuples come to in their order, one step for each.

@@ -4,9 +4,10 @@ ghost use Rattle.slice_store.specs.Slices.{CanSplit, split_at};
 ghost use Rattle.slice_store.specs.Stored.{partial_of};
 
 use crate::lifting::folded;
-use crate::partials::Partials;
 use crate::runs::Runs;
-use agg_laws::{AggTree, Bundle, Steps};
+use agg_laws::{AggTree, Steps};
+use aggregates::Bundle;
+use partials::Partials;
 
 /// Splits a slice at a time inside it, and folds the tuples of both parts.
 pub fn split<T: AggTree<Bundle>, L>(

@@ -5,9 +5,11 @@ ghost use Rattle.slice_store.specs.Stored.{IsSliced};
 ghost use Rattle.time_lanes.specs.Spans.{IsWater, is_served};
 
 use crate::told::{Work, again, new};
-use agg_laws::{AggQueue, AggTree, Bundle, FlatTree, Steps};
+use agg_laws::{AggQueue, AggTree, Steps};
 use agg_queue::{Daba, TwoStacks};
+use aggregates::Bundle;
 use fiba_arena::ArenaTree;
+use flat_tree::FlatTree;
 use slice_store::SliceStore;
 use std::alloc::Global;
 use std::process::Abort;

@@ -3,9 +3,11 @@ ghost use Rattle.stream_base.specs.declared.limits.TheConstants.{TIME_MAX};
 ghost use Rattle.slice_tests.specs.Together.{AreOfMarks, HaveCome};
 
 use crate::told::{Work, again, gone, is_cut, new};
-use agg_laws::{AggTree, Bundle, FlatTree, Steps};
+use agg_laws::{AggTree, Steps};
+use aggregates::Bundle;
 use context_windows::MarkWindows;
 use context_windows::laws::slices_part_at_edges;
+use flat_tree::FlatTree;
 use slice_store::SliceStore;
 use std::alloc::Global;
 use std::process::Abort;

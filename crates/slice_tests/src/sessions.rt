@@ -4,9 +4,11 @@ ghost use Rattle.context_windows.specs.Spanned.{IsSessionAt};
 ghost use Rattle.slice_tests.specs.Together.{AreOfSessions};
 
 use crate::told::{Work, again, gone, is_cut, new};
-use agg_laws::{AggTree, Bundle, FlatTree, Steps};
+use agg_laws::{AggTree, Steps};
+use aggregates::Bundle;
 use context_windows::Sessions;
 use context_windows::laws::slices_part_at_sessions;
+use flat_tree::FlatTree;
 use slice_store::SliceStore;
 use std::alloc::Global;
 use std::process::Abort;

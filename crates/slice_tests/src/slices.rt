@@ -2,8 +2,10 @@ ghost use Rattle.std.specs.Prelude.{◌≤◌};
 ghost use Rattle.stream_base.specs.declared.limits.TheConstants.{TIME_MAX};
 ghost use Rattle.slice_store.specs.Stored.{IsSliced};
 
-use agg_laws::{AggTree, Bundle, FlatTree, Steps};
+use agg_laws::{AggTree, Steps};
+use aggregates::Bundle;
 use fiba_arena::ArenaTree;
+use flat_tree::FlatTree;
 use slice_store::{Placed, Slice, SliceStore};
 use std::process::Abort;
 use std::test::Fail;

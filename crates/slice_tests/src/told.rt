@@ -3,7 +3,8 @@ ghost use Rattle.std.specs.Prelude.{◌≤◌};
 ghost use Rattle.slice_store.specs.Stored.{IsSliced};
 ghost use Rattle.context_windows.specs.Aligned.{IsOfWindows};
 
-use agg_laws::{AggTree, Bundle};
+use agg_laws::AggTree;
+use aggregates::Bundle;
 use slice_store::SliceStore;
 use stream_base::{Change, Defs, Former, KeyText, Row, Shown};
 

@@ -1,6 +1,6 @@
 -- One call of `next` on a feed: the feed before, the answer, and the feed after.
 use Rattle.std.specs.Prelude.{◌≡◌, ◌≢◌, ◌≤◌, ◌⊎◌, ℕ, true, false, Option, None, Some, Result, Ok, Err, option_map, IfErr, IfSome, OnOk, IsErrOf}
-use Rattle.stream_base.specs.Outside.{Rose}
+use Rattle.outside.specs.Outside.{Rose}
 use Rattle.stream_base.specs.declared.entry.Entry.{Entry}
 use Rattle.stream_base.specs.Model.What.{is_end}
 use Rattle.stream_base.specs.Model.Journals.{is_entry_within}

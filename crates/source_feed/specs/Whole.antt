@@ -1,6 +1,6 @@
 -- Sources that are read whole.
 use Rattle.std.specs.Prelude.{◌≡◌, ◌+◌, ℕ, List, length, Option}
-use Rattle.stream_base.specs.Outside.{with_front}
+use Rattle.outside.specs.Outside.{with_front}
 
 -- a source gave one byte more than the limit, by the bytes that it told before and tells after
 pub record PassesLimit (limit : ℕ) (old new : Option (List ℕ)) : Type 0 where

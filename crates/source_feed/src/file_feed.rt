@@ -8,9 +8,10 @@ use crate::feed::Feed;
 use crate::feed_fault::FeedFault;
 use crate::rows::Rows;
 use crate::whole::{SOURCE_MAX, read_whole};
+use outside::Source;
 use std::alloc::Global;
 use std::marker::Model;
-use stream_base::{Defs, Entry, Source};
+use stream_base::{Defs, Entry};
 
 // How far the reading of a source is.
 #[derive(Drop)]

@@ -1,10 +1,10 @@
 ghost use Rattle.std.specs.Prelude.{◌≡◌, ◌≢◌, ◌≤◌, [], length, IfOk, IfErr, IfSome, IsErrOf, OnOk};
-ghost use Rattle.stream_base.specs.Outside.{Rose, with_front};
+ghost use Rattle.outside.specs.Outside.{Rose, with_front};
 ghost use Rattle.source_feed.specs.Whole.{PassesLimit};
 
 use crate::whole_fault::WholeFault;
+use outside::Source;
 use std::alloc::Global;
-use stream_base::Source;
 
 /// The most bytes of a source.
 pub const SOURCE_MAX: u64 = 268_435_456;

@@ -1,10 +1,10 @@
 ghost use Rattle.std.specs.Prelude.{◌≡◌};
 ghost use Rattle.source_feed.specs.declared.whole_fault.WholeFault.TheVariants.{NoMemory as MemoryFault, Read as ReadFault};
 
+use outside::Failed;
 use std::alloc::AllocError;
 use std::error::Error;
 use std::fmt;
-use stream_base::Failed;
 
 /// Why a source wasn't read whole.
 #[derive(Clone, Copy, Debug, PartialEq, Eq)]

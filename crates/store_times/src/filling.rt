@@ -2,7 +2,8 @@ ghost use Rattle.std.specs.Prelude.{◌≤◌, ◌^◌};
 ghost use Rattle.slice_store.specs.Stored.{IsSliced};
 
 use crate::order::Order;
-use agg_laws::{AggTree, Bundle, Steps};
+use agg_laws::{AggTree, Steps};
+use aggregates::Bundle;
 use slice_store::SliceStore;
 use stream_base::{Defs, NoMemory};
 

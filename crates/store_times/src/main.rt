@@ -5,8 +5,10 @@
 mod filling;
 mod order;
 
-use agg_laws::{AggTree, Bundle, FlatTree, Steps};
+use agg_laws::{AggTree, Steps};
+use aggregates::Bundle;
 use filling::fill;
+use flat_tree::FlatTree;
 use order::Order;
 use slice_store::SliceStore;
 use std::{env, io};

@@ -1,10 +1,6 @@
 pub mod Key
 pub mod KeyCells
 pub mod Limits
-pub mod Outside
-pub mod Memory
-pub mod MemFile
 pub mod Model
 pub mod Examples
 pub mod Laws
-pub mod ReadBack

@@ -2,11 +2,12 @@ ghost use Rattle.std.specs.Prelude.{◌≡◌, IfOk};
 
 use agg_laws::Steps;
 use fan_in::{Booked, FeedEnd, Gathered, MailFeeds, Outcome, Plan, TurnFeeds, offer};
+use outside::OpenGate;
 use shard_core::{Applied, Shard};
 use source_feed::{MadeFeed, made_defs};
 use std::alloc::Global;
 use std::test::Fail;
-use stream_base::{Entry, NoMemory, OpenGate, What};
+use stream_base::{Entry, NoMemory, What};
 use turnstile::{PassEnd, Turnstile};
 
 // Keeps the steps of a test apart.

@@ -5,7 +5,7 @@ use Rattle.std.proofs.lemmas.Bool.{cases_lt}
 use Rattle.std.proofs.lemmas.List.{append-nil, drop-drop, length-map, map-append}
 use Rattle.std.proofs.Math.Seq.{drop-append_seam}
 use Rattle.stream_base.specs.declared.kept.Kept.{Kept}
-use Rattle.agg_laws.specs.Bundled.{Bundled, bundle_of, bundles_combined, empty_bundle}
+use Rattle.aggregates.specs.Bundled.{Bundled, bundle_of, bundles_combined, empty_bundle}
 use Rattle.agg_laws.specs.Laws.{total}
 use Rattle.agg_laws.specs.Pairs as pairs
 use Rattle.window_laws.specs.Runs.{AreInOrder, IsAligned, runs_within}

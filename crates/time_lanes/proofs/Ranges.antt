@@ -8,7 +8,7 @@ use Rattle.std.proofs.lemmas.List.Elements.{All-cons, All-nil, All-weaker}
 use Rattle.stream_base.specs.declared.kept.Kept.{Kept}
 use Rattle.stream_base.specs.Model.Windows.{first_time, last_time}
 use Rattle.window_laws.specs.Runs.{AreInOrder, IsPartFrom, runs_within}
-use Rattle.window_laws.proofs.Order.{filter_none}
+use Rattle.stream_base.proofs.Filters.{filter_none}
 use Rattle.slice_store.proofs.SliceOrder.{IsApart, first_below_last, reach}
 
 abbrev pub begins_in : ℕ → ℕ → List Kept → Bool

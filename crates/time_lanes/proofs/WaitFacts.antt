@@ -20,7 +20,8 @@ use Rattle.stream_base.proofs.Spans.{starts_of_has}
 use Rattle.window_laws.specs.Late.{length_of, slide_of}
 use Rattle.window_laws.specs.Runs.{AreInOrder, runs_within}
 use Rattle.window_laws.specs.Walk.{next_start_of}
-use Rattle.window_laws.proofs.Order.{All-split, filter_none}
+use Rattle.stream_base.proofs.Filters.{filter_none}
+use Rattle.window_laws.proofs.Order.{All-split}
 use Rattle.window_laws.proofs.WalkFacts.{from_next}
 use Rattle.slice_store.specs.Slices.{joined}
 use Rattle.slice_store.specs.Stored.{IsStore, Stored, tuples_of}

@@ -5,7 +5,7 @@ use Rattle.std.proofs.lemmas.Bool.{cases_lt, le-ltb}
 use Rattle.std.proofs.lemmas.Nat.{le-div}
 use Rattle.stream_base.specs.declared.kept.Kept.{Kept}
 use Rattle.stream_base.specs.Model.Windows.{within}
-use Rattle.agg_laws.specs.Bundled.{Bundled, bundle_of, bundles_combined, empty_bundle}
+use Rattle.aggregates.specs.Bundled.{Bundled, bundle_of, bundles_combined, empty_bundle}
 use Rattle.agg_laws.specs.Laws.{total}
 use Rattle.window_laws.specs.Runs.{AreInOrder, IsAligned, runs_within}
 use Rattle.window_laws.specs.Walk.{next_start}

@@ -3,7 +3,7 @@ use Rattle.std.specs.Prelude.{◌≡◌, ◌≤◌, ◌<◌, ◌+◌, ◌*◌, �
 use Rattle.stream_base.specs.declared.kept.Kept.{Kept}
 use Rattle.stream_base.specs.declared.limits.TheConstants.{FINAL, TIME_MAX}
 use Rattle.stream_base.specs.Model.Windows.{within}
-use Rattle.agg_laws.specs.Bundled.{Bundled}
+use Rattle.aggregates.specs.Bundled.{Bundled}
 use Rattle.window_laws.specs.Runs.{IsAligned, runs_within}
 use Rattle.window_laws.specs.Walk.{IsFirstFrom, due_from, next_start}
 use Rattle.slice_store.specs.declared.slice.Slice.{Slice}

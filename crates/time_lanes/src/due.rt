@@ -12,7 +12,8 @@ use crate::held::Held;
 use crate::next::{next_due, next_slice};
 use crate::owner::Owner;
 use crate::span::Span;
-use agg_laws::{AggQueue, AggTree, Bundle, Steps};
+use agg_laws::{AggQueue, AggTree, Steps};
+use aggregates::Bundle;
 use slice_store::SliceStore;
 use stream_base::Change;
 

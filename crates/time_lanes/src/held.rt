@@ -1,13 +1,14 @@
 //! The slices that a lane holds.
 ghost use Rattle.std.specs.Prelude.{◌≡◌, ◌≤◌, ◌+◌, ◌*◌, ◌++◌, [], ◌∷◌, OnOk, drop, length, max, min};
-ghost use Rattle.agg_laws.specs.Bundled.{bundles_combined, empty_bundle};
+ghost use Rattle.aggregates.specs.Bundled.{bundles_combined, empty_bundle};
 ghost use Rattle.agg_laws.specs.Laws.{total};
 ghost use Rattle.window_laws.specs.Runs.{runs_within};
 ghost use Rattle.time_lanes.specs.Held.{HoldsFrom};
 ghost use Rattle.time_lanes.specs.Lane.{partials_of};
 
 use crate::next::next_slice;
-use agg_laws::{AggQueue, AggTree, Bundle, Steps};
+use agg_laws::{AggQueue, AggTree, Steps};
+use aggregates::Bundle;
 use slice_store::SliceStore;
 use std::alloc::Global;
 use std::marker::Model;

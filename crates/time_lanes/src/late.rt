@@ -2,7 +2,7 @@
 ghost use Rattle.std.specs.Prelude.{◌≡◌, ◌≤◌, ◌<◌, ◌+◌, ◌-◌, ◌*◌, ◌/◌, ◌^◌, ◌++◌, ℕ, length, map, vec_len, vec_capacity};
 ghost use Rattle.stream_base.specs.declared.limits.TheConstants.{FINAL, TIME_MAX};
 ghost use Rattle.stream_base.specs.Model.Windows.{within};
-ghost use Rattle.agg_laws.specs.Bundled.{bundle_of};
+ghost use Rattle.aggregates.specs.Bundled.{bundle_of};
 ghost use Rattle.slice_store.specs.Slices.{values_of};
 ghost use Rattle.slice_store.specs.Stored.{tuples_of};
 ghost use Rattle.time_lanes.specs.Late.{again_or_new, complete_starts, ended, former_at, starts_from, told_at, told_late};
@@ -10,7 +10,8 @@ ghost use Rattle.time_lanes.specs.Spans.{ArePartedAt};
 
 use crate::owner::{Owner, former};
 use crate::span::Span;
-use agg_laws::{AggTree, Bundle, Steps};
+use agg_laws::{AggTree, Steps};
+use aggregates::Bundle;
 use slice_store::SliceStore;
 use stream_base::{Change, Former, Func, Row};
 

@@ -8,7 +8,8 @@ ghost use Rattle.time_lanes.specs.Held.{IsEndFrom, IsNextDue, IsNextIn};
 ghost use Rattle.time_lanes.specs.Spans.{ArePartedAt};
 
 use crate::span::Span;
-use agg_laws::{AggTree, Bundle};
+use agg_laws::AggTree;
+use aggregates::Bundle;
 use slice_store::{Slice, SliceStore};
 use stream_base::FINAL;
 

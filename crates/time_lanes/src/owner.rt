@@ -3,11 +3,11 @@ ghost use Rattle.std.specs.Prelude.{◌≡◌, ◌<◌, ◌+◌, ◌^◌, ℕ, �
 ghost use Rattle.stream_base.specs.declared.kept.Kept.{Kept};
 ghost use Rattle.stream_base.specs.Model.Changes.{row_of};
 ghost use Rattle.stream_base.specs.Model.Windows.{interval, within};
-ghost use Rattle.agg_laws.specs.Bundled.{bundle_of};
+ghost use Rattle.aggregates.specs.Bundled.{bundle_of};
 ghost use Rattle.slice_store.specs.Slices.{values_of};
 ghost use Rattle.time_lanes.specs.Late.{former_if};
 
-use agg_laws::Bundle;
+use aggregates::Bundle;
 use stream_base::{Former, Func, KeyText, Row, Shown};
 
 /// Whose rows are told: a window with its place among the definitions, and a key.

@@ -7,7 +7,8 @@ ghost use Rattle.slice_store.specs.Stored.{IsSliced, IsStore};
 ghost use Rattle.time_lanes.specs.Spans.{ArePartedAt, IsWindowAt, is_served};
 
 use crate::span::Span;
-use agg_laws::{AggTree, Bundle};
+use agg_laws::AggTree;
+use aggregates::Bundle;
 use slice_store::SliceStore;
 use stream_base::{Def, Defs};
 

@@ -27,7 +27,7 @@ use Rattle.window_laws.specs.Positions.{AreKept, HaveDistinctPositions}
 use Rattle.window_laws.specs.Settled.{MayLeave, last_end_of, without_first}
 use Rattle.window_laws.specs.Walk.{next_start}
 use Rattle.window_laws.proofs.LeaveFacts.{not_within}
-use Rattle.window_laws.proofs.Order.{filter_none}
+use Rattle.stream_base.proofs.Filters.{filter_none}
 use Rattle.window_laws.proofs.SettledFacts.{all_member}
 use Rattle.window_laws.proofs.SettleTimes.{timed_settles}
 use Rattle.window_laws.proofs.WalkFacts.{from_next}

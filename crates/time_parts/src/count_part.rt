@@ -7,7 +7,8 @@ ghost use Rattle.key_parts.specs.Calls.{window_at};
 ghost use Rattle.time_parts.specs.Counted.{CountsAt};
 
 use crate::ends::end_or_never;
-use agg_laws::{AggTree, Bundle, Steps};
+use agg_laws::{AggTree, Steps};
+use aggregates::Bundle;
 use count_shift::CountLane;
 use key_parts::KeyPart;
 use slice_store::SliceStore;

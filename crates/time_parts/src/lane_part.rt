@@ -5,7 +5,8 @@ ghost use Rattle.key_windows.specs.Calls.{IsWater};
 ghost use Rattle.time_parts.specs.Lanes.{IsTimedAt, late_room};
 
 use crate::ends::end_or_never;
-use agg_laws::{AggQueue, AggTree, Bundle, Steps};
+use agg_laws::{AggQueue, AggTree, Steps};
+use aggregates::Bundle;
 use key_parts::KeyPart;
 use slice_store::SliceStore;
 use std::alloc::Global;

@@ -1,7 +1,8 @@
 ghost use Rattle.std.specs.Prelude.{◌≡◌, ◌≤◌, ◌^◌, []};
 
 use crate::order::Order;
-use agg_laws::{AggTree, Lift, Probes, Steps, Sum};
+use agg_laws::{AggTree, Lift, Probes, Steps};
+use aggregates::Sum;
 use fiba_arena::ArenaTree;
 use stream_base::NoMemory;
 

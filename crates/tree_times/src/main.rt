@@ -8,7 +8,8 @@ mod filling;
 mod near;
 mod order;
 
-use agg_laws::{AggTree, Probes, Steps, Sum};
+use agg_laws::{AggTree, Probes, Steps};
+use aggregates::Sum;
 use fiba_arena::ArenaTree;
 use fiba_finger::FingerTree;
 use filling::{drain, fill};

@@ -1,6 +1,7 @@
 ghost use Rattle.std.specs.Prelude.{◌≡◌, ◌≤◌, ◌^◌, []};
 
-use agg_laws::{AggTree, Lift, Probes, Steps, Sum};
+use agg_laws::{AggTree, Lift, Probes, Steps};
+use aggregates::Sum;
 use stream_base::NoMemory;
 
 /// Keys in order, and late ones that each come at the same distance from the greatest.

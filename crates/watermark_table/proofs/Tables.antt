@@ -12,7 +12,7 @@ use Rattle.stream_base.specs.declared.what.What.{What}
 use Rattle.stream_base.specs.declared.what.What.TheVariants.{Tuple, Mark, Water, Idle, End}
 use Rattle.stream_base.specs.Model.What.{is_end, is_idle_word, is_progress, key_in, water_time}
 use Rattle.stream_base.specs.Model.Watermark.{all_ended, awake_waters, has_ended, is_awake, is_idle, least_or_zero, least_water, source_water, water_of}
-use Rattle.stream_base.proofs.Watermarks.{has_ended_push, is_idle_push, source_water_own, source_water_other, water_of_nil, water_of_push, water_of_same}
+use Rattle.model_laws.proofs.WatermarkFacts.{has_ended_push, is_idle_push, source_water_own, source_water_other, water_of_nil, water_of_push, water_of_same}
 use Rattle.watermark_table.specs.declared.standing.Standing.{Standing}
 use Rattle.watermark_table.specs.declared.standing.Standing.TheVariants.{Awake, Ended}
 use Rattle.watermark_table.specs.declared.tally.Tally.{Tally}

@@ -1,12 +1,10 @@
-//! Window definitions, read from TOML, and the cuts that they make.
+//! Window definitions, read from TOML.
 //!
 //! *From* the bytes of a definitions file, *to* a `Defs`. *Stands on* stream_base and toml. *Promise*:
 //! bytes are read as definitions, or refused with the first fault, exactly as the definition of a
-//! definitions file says; and two times have a cut between them exactly where a start or end of a
-//! window lies after the first and at or before the second, or where they are a session gap apart.
+//! definitions file says.
 #![tactic(auto)]
 
-mod cut;
 mod defs_fault;
 mod kind_name;
 mod limits;
@@ -17,7 +15,6 @@ mod table;
 mod top;
 mod window;
 
-pub use cut::cut_between;
 pub use defs_fault::DefsFault;
 pub use limits::bytes_max_is_this_number;
 pub use read::{BYTES_MAX, read_defs};

@@ -25,8 +25,8 @@ use Rattle.stream_base.specs.Model.Watermark.{water_of}
 use Rattle.stream_base.specs.Model.What.{is_late, key_in, mark_in, tuple_in}
 use Rattle.stream_base.specs.Model.Windows.{Instance, instances_of, interval, is_complete, is_selecting, is_within, last_time, ranks, sessions, standing_of, stretches, within}
 use Rattle.stream_base.proofs.ChangeFacts.{no_changes}
-use Rattle.stream_base.proofs.ChangesAfter.{changes_of_keyed, rises_after, water_of_keyed}
-use Rattle.stream_base.proofs.Absent.{bytes_eq_true, tuple_is_keyed}
+use Rattle.model_laws.proofs.ChangesAfter.{changes_of_keyed, rises_after, water_of_keyed}
+use Rattle.model_laws.proofs.Absent.{bytes_eq_true, tuple_is_keyed}
 use Rattle.stream_base.proofs.EventOrder.{kept_times_do_not_fall}
 use Rattle.stream_base.proofs.Growing.{kept_of_other, kept_of_tuple, marks_of_mark, marks_of_other}
 use Rattle.stream_base.proofs.Members.{Contains-insert_new, filter_members, map_same, range_members}
@@ -36,7 +36,8 @@ use Rattle.window_laws.specs.Sessions.{IsPutInSessions, joined_session}
 use Rattle.window_laws.specs.Stretches.{if_selecting}
 use Rattle.window_laws.proofs.CountFacts.{same_chosen, standing_of_counts, upper_put_passes, upper_rises}
 use Rattle.window_laws.proofs.InstanceFacts.{bounds_are_ends, sessions_select}
-use Rattle.window_laws.proofs.Order.{All-split, filter_none}
+use Rattle.stream_base.proofs.Filters.{filter_none}
+use Rattle.window_laws.proofs.Order.{All-split}
 use Rattle.window_laws.proofs.SessionFacts.{put_times, sessions_after_put}
 use Rattle.window_laws.proofs.StretchFacts.{stretches_after_mark, stretches_after_put}
 

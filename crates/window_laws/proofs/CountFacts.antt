@@ -27,7 +27,8 @@ use Rattle.window_laws.specs.Counts.{changes_of_shift, filled, ranks_between, sh
 use Rattle.window_laws.specs.Positions.{HaveDistinctPositions}
 use Rattle.window_laws.proofs.InstanceFacts.{in_counts, ranks_bound}
 use Rattle.window_laws.proofs.LateFacts.{filter_map_map, filter_map_none, find_none, find_start, one_more, same_itself}
-use Rattle.window_laws.proofs.Order.{filter_none, nd_head, nd_tail}
+use Rattle.stream_base.proofs.Filters.{filter_none}
+use Rattle.window_laws.proofs.Order.{nd_head, nd_tail}
 use Rattle.window_laws.proofs.SessionFacts.{put_times}
 
 -- a tuple is at or before a time exactly where it is among so many first ones

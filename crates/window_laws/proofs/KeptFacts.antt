@@ -20,7 +20,8 @@ use Rattle.stream_base.proofs.EventOrder.{All_put, from_the_front, kept_position
 use Rattle.stream_base.proofs.Growing.{kept_of_nil, kept_of_push}
 use Rattle.window_laws.specs.Positions.{AreKept, HaveDistinctPositions}
 use Rattle.window_laws.proofs.Order.{All-split}
-use Rattle.window_laws.proofs.RunFacts.{cases_of, put_behind, put_first}
+use Rattle.stream_base.proofs.Filters.{cases_of}
+use Rattle.window_laws.proofs.RunFacts.{put_behind, put_first}
 use Rattle.window_laws.proofs.SessionFacts.{put_times}
 
 -- distinct positions with one tuple more of another position

@@ -16,7 +16,8 @@ use Rattle.stream_base.specs.Model.Slices.{runs_of}
 use Rattle.stream_base.specs.Model.Windows.{first_time, last_time}
 use Rattle.stream_base.proofs.Pieces.{pieces_joined}
 use Rattle.window_laws.specs.Runs.{AreParted, AreRuns, IsPartFrom, IsRun, parted_at}
-use Rattle.window_laws.proofs.Order.{IsApart, IsNear, filter_all, filter_none, pieces_in_order, run_spans}
+use Rattle.stream_base.proofs.Filters.{filter_all, filter_none}
+use Rattle.window_laws.proofs.Order.{IsApart, IsNear, pieces_in_order, run_spans}
 use Rattle.window_laws.proofs.RunEdits.{runs_are_pieces}
 use Rattle.window_laws.proofs.RunFacts.{cut_earlier, cut_farther}
 

@@ -9,10 +9,10 @@ use Rattle.stream_base.specs.Limits.{Definitions}
 use Rattle.stream_base.specs.Model.Changes.{moment_of}
 use Rattle.stream_base.specs.Model.Watermark.{water_of}
 use Rattle.stream_base.specs.Model.What.{is_late, is_progress, mark_in, tuple_in}
-use Rattle.stream_base.proofs.Absent.{tuple_is_keyed}
-use Rattle.stream_base.proofs.ChangesAfter.{moment_of_water, water_of_keyed}
+use Rattle.model_laws.proofs.Absent.{tuple_is_keyed}
+use Rattle.model_laws.proofs.ChangesAfter.{moment_of_water, water_of_keyed}
 use Rattle.stream_base.proofs.Growing.{kept_of_late, kept_of_other, kept_of_tuple, marks_of_late, marks_of_mark, marks_of_other}
-use Rattle.stream_base.proofs.Watermarks.{water_of_same}
+use Rattle.model_laws.proofs.WatermarkFacts.{water_of_same}
 use Rattle.window_laws.specs.After.{at_water, with_mark, with_tuple}
 use Rattle.window_laws.proofs.AfterFacts.{mark_is_keyed, mark_is_no_tuple, tuple_is_no_mark}
 

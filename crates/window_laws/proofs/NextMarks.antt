@@ -16,7 +16,7 @@ use Rattle.stream_base.specs.Model.Windows.{Instance, instances_of, interval, is
 use Rattle.stream_base.proofs.Distinct.{All_from_members}
 use Rattle.stream_base.proofs.Members.{filter_has, filter_members}
 use Rattle.stream_base.proofs.Rising.{Contains-head, Contains-tail}
-use Rattle.stream_base.proofs.Selecting.{instances_select}
+use Rattle.model_laws.proofs.Selecting.{instances_select}
 use Rattle.window_laws.specs.Due.{first_open}
 use Rattle.window_laws.specs.Positions.{AreKept}
 use Rattle.window_laws.specs.Stretches.{IsPutInStretches, if_selecting, last_mark, next_mark}

@@ -79,15 +79,6 @@ amid (y ∷ ys) x c =
       | inr d ↦ (let h : IsAmid ys x = amid ys x d in record { front = y ∷ h.front; back = h.back; is = ap (λ l. y ∷ l) h.is })
     ]
 
--- ---- filters
-pub filter_all : {X : Type 0} (p : X → Bool) (xs : List X) → All (λ x. p x ≡ true) xs → filter p xs ≡ xs
-filter_all p [] a = refl
-filter_all p (x ∷ xs) a = ap (λ b. cond b (x ∷ filter p xs) (filter p xs)) (All-head (λ x. p x ≡ true) x xs a) ∙ ap (λ l. x ∷ l) (filter_all p xs (All-tail (λ x. p x ≡ true) x xs a))
-
-pub filter_none : {X : Type 0} (p : X → Bool) (xs : List X) → All (λ x. p x ≡ false) xs → filter p xs ≡ []
-filter_none p [] a = refl
-filter_none p (x ∷ xs) a = ap (λ b. cond b (x ∷ filter p xs) (filter p xs)) (All-head (λ x. p x ≡ false) x xs a) ∙ filter_none p xs (All-tail (λ x. p x ≡ false) x xs a)
-
 -- ---- runs of which each begins behind the last
 module _ (near apart : ℕ → ℕ → Type 0) (gap : ℕ) (step : (a b : ℕ) → near a b → a ≤ b) (far : (a b : ℕ) → apart a b → a + gap ≤ b) where
   pub run_spans : (run : List Kept) → IsRun near run → All (λ x. (first_time run ≤ x.time) × (x.time ≤ last_time run)) run × (first_time run ≤ last_time run)

@@ -16,6 +16,7 @@ use Rattle.stream_base.specs.Model.Slices.{runs_of}
 use Rattle.stream_base.specs.Model.Windows.{glued, pieces_of}
 use Rattle.stream_base.proofs.EventOrder.{put_in_order_cons}
 use Rattle.window_laws.specs.Runs.{IsPutInRuns}
+use Rattle.stream_base.proofs.Filters.{cases_of}
 
 -- a tuple stands before the first, or behind it
 pub put_first : (y : Kept) (ys : List Kept) (x : Kept) → nat_lt x.time y.time ≡ true → put_in_order (y ∷ ys) x ≡ x ∷ y ∷ ys
@@ -23,10 +24,6 @@ put_first y ys x h = put_in_order_cons y ys x ∙ ap (λ b. cond b (x ∷ y ∷ 
 
 pub put_behind : (y : Kept) (ys : List Kept) (x : Kept) → nat_lt x.time y.time ≡ false → put_in_order (y ∷ ys) x ≡ y ∷ put_in_order ys x
 put_behind y ys x h = put_in_order_cons y ys x ∙ ap (λ b. cond b (x ∷ y ∷ ys) (y ∷ put_in_order ys x)) h
-
-pub cases_of : (b : Bool) → (b ≡ true) ⊎ (b ≡ false)
-cases_of true = inl refl
-cases_of false = inr refl
 
 -- more pieces in front
 put_in_more : (run : List Kept) (old new : List (List Kept)) (x : Kept) → IsPutInRuns old x new → IsPutInRuns (run ∷ old) x (run ∷ new)

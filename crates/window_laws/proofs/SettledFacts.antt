@@ -28,7 +28,8 @@ use Rattle.window_laws.specs.Runs.{IsRun}
 use Rattle.window_laws.specs.Settled.{IsSettledAt, settled}
 use Rattle.window_laws.proofs.EdgeFacts.{edge_is_cut}
 use Rattle.window_laws.proofs.InstanceFacts.{gap_cut, inside_span, session_far, session_near, session_runs, spans_hold_selections}
-use Rattle.window_laws.proofs.Order.{IsApart, IsNear, filter_all, filter_none, nd_head, nd_tail, run_spans, runs_are_runs}
+use Rattle.stream_base.proofs.Filters.{filter_all, filter_none}
+use Rattle.window_laws.proofs.Order.{IsApart, IsNear, nd_head, nd_tail, run_spans, runs_are_runs}
 use Rattle.window_laws.proofs.StretchFacts.{stretch_holding}
 
 -- ---- members and tests

@@ -24,7 +24,7 @@ use Rattle.window_laws.specs.Stretches.{IsMarkedInStretches, IsPutInStretches, i
 use Rattle.window_laws.proofs.DueFacts.{least_below, least_of}
 use Rattle.window_laws.proofs.InstanceFacts.{inside_span}
 use Rattle.window_laws.proofs.LateFacts.{some_of_member}
-use Rattle.window_laws.proofs.Order.{filter_none}
+use Rattle.stream_base.proofs.Filters.{filter_none}
 
 -- the times between which the intervals of a window of marks lie
 abbrev pub edges_of : List ℕ → List ℕ

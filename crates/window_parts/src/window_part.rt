@@ -1,5 +1,6 @@
 //! The part of a window of any kind.
-use agg_laws::{AggQueue, AggTree, Bundle, Steps};
+use agg_laws::{AggQueue, AggTree, Steps};
+use aggregates::Bundle;
 use context_parts::{MarkPart, SessionPart};
 use key_parts::{AnyPart, KeyPart};
 use slice_store::SliceStore;

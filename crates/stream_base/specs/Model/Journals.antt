@@ -1,5 +1,5 @@
 -- The journals that are read back from a text.
-use Rattle.std.specs.Prelude.{◌+◌, ◌-◌, ◌*◌, ◌^◌, ◌==◌, ◌&&◌, ℕ, ℤ, pos, negsuc, Bool, not, List, [], ◌∷◌, ◌++◌, drop, fold, length, take_while, Option, None, Some, codes, decimal, if◌then◌else◌, nat_lt}
+use Rattle.std.specs.Prelude.{◌≡◌, ◌+◌, ◌-◌, ◌*◌, ◌^◌, ◌==◌, ◌&&◌, ℕ, ℤ, pos, negsuc, Bool, true, not, List, [], ◌∷◌, ◌++◌, drop, fold, length, take_while, All, Option, None, Some, codes, decimal, if◌then◌else◌, nat_lt}
 use Rattle.std.specs.Option.{option_map_or}
 use Rattle.std.specs.Str.{bytes_eq}
 use Rattle.stream_base.specs.declared.entry.Entry.{Entry}
@@ -53,6 +53,10 @@ guessed_entry line =
 -- an entry within its limits: what it says is, and its source is below 2^16
 abbrev pub is_entry_within : Entry → Bool
 is_entry_within e = nat_lt e.source (2 ^ 16) && is_what_within e.what
+
+-- each entry's source, time, value and key are within their limits
+abbrev pub AreEntriesWithin : List Entry → Type 0
+AreEntriesWithin entries = All (λ e. is_entry_within e ≡ true) entries
 
 -- the entry whose journal line this is, if it is one
 abbrev pub entry_in : List ℕ → Option Entry

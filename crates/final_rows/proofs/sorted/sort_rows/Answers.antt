@@ -8,7 +8,8 @@ use Rattle.source_feed.specs.Generated.{made_definitions, made_sources}
 use Rattle.final_rows.specs.AtEnd.{rows_of_shards}
 use Rattle.final_rows.proofs.AllShards.{rows_of_all_shards}
 use Rattle.final_rows.proofs.GeneratedSources.{count_sources, made_keep_all, made_untied}
-use Rattle.final_rows.proofs.InOrder.{by_row_total, final_rows_in_order}
+use Rattle.model_laws.proofs.StandingRows.{by_row_total}
+use Rattle.final_rows.proofs.InOrder.{final_rows_in_order}
 use Rattle.final_rows.proofs.Sorting.{sorted_by_calls}
 use Rattle.final_rows.proofs.sorted.sort_rows.Goals as goal
 

@@ -3,7 +3,7 @@ use Rattle.stream_base.specs.declared.entry.Entry.{Entry}
 use Rattle.stream_base.specs.declared.what.What.TheVariants.{Water, End}
 use Rattle.stream_base.specs.Examples.{end, from, one_source, one_source_by_shard, water}
 use Rattle.stream_base.specs.Model.Routes.{entries_from, routed}
-use Rattle.stream_base.proofs.Lawful.{all_below}
+use Rattle.model_laws.proofs.Lawful.{all_below}
 use Rattle.model_examples.proofs.routes.lawful_journals.Goals as goal
 
 known_by_shard : (k i : ℕ) (e : Entry) → k < 2 → i < length (get_or one_source_by_shard k []) → (get_or (get_or one_source_by_shard k []) i e).source < 1

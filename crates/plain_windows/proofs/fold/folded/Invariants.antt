@@ -1,7 +1,7 @@
 -- What is folded so far, with the tuples that are left, is all.
 use Rattle.std.proofs.Common.{◌≡◌, drop}
 use Rattle.std.specs.List.{fold}
-use Rattle.agg_laws.specs.Bundled.{empty_bundle}
+use Rattle.aggregates.specs.Bundled.{empty_bundle}
 use Rattle.plain_windows.proofs.Folds.{with_tuple}
 use Rattle.plain_windows.proofs.fold.folded.Given as goal
 

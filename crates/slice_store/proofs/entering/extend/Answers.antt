@@ -4,9 +4,9 @@ use Rattle.std.specs.Prelude.{FitsSigned}
 use Rattle.std.specs.Int.{w64}
 use Rattle.std.proofs.lemmas.List.Elements.{All-cons, All-nil}
 use Rattle.stream_base.specs.Model.Windows.{first_time}
-use Rattle.agg_laws.specs.Bundled.{bundle_of, bundles_combined}
+use Rattle.aggregates.specs.Bundled.{bundle_of, bundles_combined}
 use Rattle.agg_laws.specs.Pairs.{has_key, replaced, value_at}
-use Rattle.agg_laws.proofs.Bundles.{bundle_of-append}
+use Rattle.aggregates.proofs.Bundles.{bundle_of-append}
 use Rattle.slice_store.specs.declared.slice.Slice.{Slice}
 use Rattle.slice_store.specs.Slices.{values_of}
 use Rattle.slice_store.specs.Stored.{partial_of}

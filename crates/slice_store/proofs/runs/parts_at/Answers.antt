@@ -1,6 +1,6 @@
 -- The parts stand before the place of the time and behind it.
 use Rattle.std.proofs.Common.{◌∙◌, ◌<◌, ap, arith, sym, length, length-take, length-drop}
-use Rattle.agg_laws.proofs.Places.{part_to_end}
+use Rattle.flat_tree.proofs.Places.{part_to_end}
 use Rattle.slice_store.specs.declared.slice.Slice.{Slice}
 use Rattle.slice_store.specs.Slices.{slice_of}
 use Rattle.slice_store.proofs.SplitFacts.{back_is, cut_above, cut_below, front_is, some_tuples, whole_is}

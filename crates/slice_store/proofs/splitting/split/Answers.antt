@@ -4,7 +4,7 @@ use Rattle.std.specs.Prelude.{nat_le}
 use Rattle.std.specs.List.{filter}
 use Rattle.stream_base.specs.declared.kept.Kept.{Kept}
 use Rattle.stream_base.specs.Model.Windows.{first_time}
-use Rattle.agg_laws.specs.Bundled.{bundle_of}
+use Rattle.aggregates.specs.Bundled.{bundle_of}
 use Rattle.agg_laws.specs.Pairs.{has_key, inserted, replaced}
 use Rattle.window_laws.specs.Runs.{AreInOrder}
 use Rattle.slice_store.specs.declared.slice.Slice.{Slice}

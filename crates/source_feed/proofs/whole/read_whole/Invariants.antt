@@ -1,6 +1,6 @@
 -- The bytes so far, and those that are left, are those that there were.
 use Rattle.std.proofs.Common.{◌≡◌, ◌≤◌, ◌+◌, ◌-◌, length}
-use Rattle.stream_base.specs.Outside.{with_front}
+use Rattle.outside.specs.Outside.{with_front}
 use Rattle.source_feed.proofs.whole.read_whole.Given as goal
 
 abbrev pub invariant-pieces : goal.invariant-pieces

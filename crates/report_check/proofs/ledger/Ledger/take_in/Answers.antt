@@ -5,7 +5,7 @@ use Rattle.stream_base.specs.declared.change.Change.TheVariants.{Dropped}
 use Rattle.stream_base.specs.Model.Changes.{changes_of_key}
 use Rattle.stream_base.specs.Model.Watermark.{water_of}
 use Rattle.stream_base.specs.Model.What.{is_late}
-use Rattle.stream_base.proofs.ChangesAfter.{late_is_dropped, on_time_changes}
+use Rattle.model_laws.proofs.ChangesAfter.{late_is_dropped, on_time_changes}
 use Rattle.report_check.proofs.Following.{ledger_by_late}
 use Rattle.report_check.proofs.ledger.Ledger.take_in.Goals as goal
 

@@ -3,7 +3,7 @@ use Rattle.std.proofs.Common.{◌≡◌, ◌∙◌, ◌≤◌, ℕ, ap, arith, l
 use Rattle.stream_base.specs.Limits.{AreWithinLimits}
 use Rattle.stream_base.specs.Model.Journal.{kept_of, marks_of}
 use Rattle.stream_base.specs.Model.Watermark.{water_of}
-use Rattle.stream_base.proofs.Watermarks.{water_rises}
+use Rattle.model_laws.proofs.WatermarkFacts.{water_rises}
 use Rattle.shard_core.specs.declared.keys.KeyTable.{KeyTable}
 use Rattle.shard_core.specs.Engines.{AreCurrent, due_places}
 use Rattle.shard_core.proofs.Advance.{appended, due_movable, moved_table, same_table, values_within}

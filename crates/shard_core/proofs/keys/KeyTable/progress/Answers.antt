@@ -3,7 +3,7 @@ use Rattle.std.proofs.Common.{◌≡◌, ◌∙◌, ◌++◌, ◌∷◌, [], ap,
 use Rattle.std.proofs.lemmas.List.{append-nil}
 use Rattle.key_windows.specs.Calls.{IsWater}
 use Rattle.stream_base.specs.Model.Watermark.{water_of}
-use Rattle.stream_base.proofs.ChangesAfter.{no_news_no_changes}
+use Rattle.model_laws.proofs.ChangesAfter.{no_news_no_changes}
 use Rattle.shard_core.proofs.Advance.{progress_stays, still_table}
 use Rattle.shard_core.proofs.Journals.{within_push}
 use Rattle.shard_core.proofs.Waters.{water_is_water}

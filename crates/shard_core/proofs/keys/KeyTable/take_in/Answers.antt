@@ -4,7 +4,7 @@ use Rattle.std.proofs.lemmas.Result.{on_ok_weaker}
 use Rattle.stream_base.specs.declared.what.What.TheVariants.{Tuple, Mark}
 use Rattle.stream_base.specs.Model.Watermark.{water_of}
 use Rattle.stream_base.specs.Model.What.{is_late}
-use Rattle.stream_base.proofs.ChangesAfter.{late_is_dropped}
+use Rattle.model_laws.proofs.ChangesAfter.{late_is_dropped}
 use Rattle.shard_core.specs.Flat.{sharded}
 use Rattle.shard_core.specs.Work.{IsTakenWithin}
 use Rattle.shard_core.proofs.Advance.{late_leaves_water, late_stays, still_table}

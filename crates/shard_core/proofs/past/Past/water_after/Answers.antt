@@ -1,7 +1,7 @@
 -- A tuple or mark leaves the watermark, and all entries are within their limits.
 use Rattle.std.proofs.Common.{◌∙◌, ap, sym, ⊎_elim}
 use Rattle.stream_base.specs.Model.What.{key_in}
-use Rattle.stream_base.proofs.ChangesAfter.{water_of_keyed}
+use Rattle.model_laws.proofs.ChangesAfter.{water_of_keyed}
 use Rattle.watermark_table.specs.Watched.{sources_of}
 use Rattle.shard_core.proofs.past.Past.water_after.Goals as goal
 

@@ -1,0 +1,5 @@
+pub mod Values
+pub mod Aggregates
+pub mod Shapes
+pub mod Bundled
+pub mod BundleLaws

@@ -1,6 +1,0 @@
-mod faults;
-mod findings;
-mod lines;
-mod reports;
-mod summaries;
-mod writes;

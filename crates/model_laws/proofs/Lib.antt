@@ -1,0 +1,14 @@
+pub mod WatermarkFacts
+pub mod Selecting
+pub mod ChangeList
+pub mod ChangeOrder
+pub mod ChangesAfter
+pub mod Absent
+pub mod Lawful
+pub mod Fronts
+pub mod WatermarkBounds
+pub mod Accepted
+pub mod Positions
+pub mod CutLaws
+pub mod PiecesBetween
+pub mod StandingRows

@@ -1,0 +1,5 @@
+use Rattle.model_laws.proofs.Selecting.{instances_select}
+use Rattle.model_laws.proofs.windows.instances_select_tuples.Goals as goal
+
+pub returns : goal.returns
+returns c = instances_select

@@ -1,0 +1,2 @@
+mod OnePair
+mod RowFacts

@@ -1,0 +1,12 @@
+-- No pair of the tree lies in a range that begins at the edge or behind.
+use Rattle.std.proofs.Common.{◌∙◌, ap, sym}
+use Rattle.aggregates.specs.Bundled.{bundles_combined, empty_bundle}
+use Rattle.agg_laws.specs.Laws.{total}
+use Rattle.agg_laws.specs.Pairs.{values_of}
+use Rattle.partials.proofs.RowFacts.{none_behind}
+use Rattle.partials.proofs.partials.fold_below.Goals as goal
+
+pub returns-then-edge-low-clause-value : goal.returns-then-edge-low-clause-value
+returns-then-edge-low-clause-value g c =
+    c.unit.ensures
+    ∙ sym (ap (λ l. total empty_bundle bundles_combined (values_of l)) (none_behind c.args.edge c.args.low c.args.high (g.T.AggTree.pairs c.args.tree.now) c.if-edge-low.true c.requires))

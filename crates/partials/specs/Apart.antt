@@ -1,0 +1,37 @@
+-- Pairs in a tree, and the newest ones in a row beside it.
+use Rattle.std.specs.Prelude.{◌≡◌, ◌≤◌, ◌<◌, ◌+◌, ◌-◌, ◌/◌, ◌^◌, ℕ, List, length, max, All}
+use Rattle.aggregates.specs.Bundled.{Bundled}
+
+-- pairs of the time of a slice's first tuple and the slice's partial, for how many more there is room, and what the bounds on steps go by
+pub record Sums : Type 0 where
+  pub pairs : List (ℕ × Bundled)
+  pub spare : ℕ
+  pub reach : ℕ
+
+-- all keys are below an edge
+abbrev pub AreBelow : {M : Type 0} → ℕ → List (ℕ × M) → Type 0
+AreBelow edge pairs = All (λ p. p.0 < edge) pairs
+
+-- none is
+abbrev pub AreFrom : {M : Type 0} → ℕ → List (ℕ × M) → Type 0
+AreFrom edge pairs = All (λ p. edge ≤ p.0) pairs
+
+-- the keys in a tree are below an edge, and those in the row beside it aren't, of which there are at most 256
+pub record AreApart (inside near : List (ℕ × Bundled)) (edge : ℕ) : Type 0 where
+  pub below : AreBelow edge inside
+  pub from : AreFrom edge near
+  pub few : length near ≤ 256
+
+-- the reach of a tree that folds as fast as a row of so many pairs
+abbrev pub row_reach : ℕ → ℕ
+row_reach pairs = pairs / 32 - 1
+
+-- a reach is that of a tree over at most so many slices, or that of a row of them, whichever is greater
+pub record IsReachOver (bounded : ℕ → ℕ → Type 0) (slices reach : ℕ) : Type 0 where
+  pub of_tree : ℕ
+  pub pairs : ℕ
+  pub few : pairs ≤ slices
+  pub tree : bounded of_tree pairs
+  pub of_row : ℕ
+  pub row : 2 ^ of_row ≤ slices + 1
+  pub is : reach ≡ max of_tree of_row

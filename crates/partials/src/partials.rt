@@ -1,0 +1,301 @@
+//! The partials of slices.
+ghost use Rattle.std.specs.Prelude.{◌≡◌, ◌≤◌, ◌<◌, ◌+◌, ◌*◌, ◌^◌, ◌++◌, ◌∷◌, ℕ, [], None, Some, length, OnOk, IsTrue, true, false};
+ghost use Rattle.stream_base.specs.declared.limits.TheConstants.{TIME_MAX};
+ghost use Rattle.aggregates.specs.Bundled.{Bundled, IsBundle, bundles_combined, empty_bundle};
+ghost use Rattle.agg_laws.specs.Laws.{total};
+ghost use Rattle.agg_laws.specs.Pairs.{has_key, inserted, least_key, replaced, value_at, values_of, within, without};
+ghost use Rattle.partials.specs.Apart.{AreBelow, AreFrom, IsReachOver};
+
+use agg_laws::{AggTree, Monoid, Probes, Steps};
+use aggregates::Bundle;
+use flat_tree::FlatTree;
+use std::alloc::Global;
+use std::marker::Model;
+use stream_base::NoMemory;
+
+// So many partials stand in the row at most.
+const NEAR: u64 = 256;
+
+/// The partials of slices, each under the time of the slice's first tuple. The newest ones stand in a
+/// row, where tuples in order find them at once; the older ones stand in a tree. Where the row is
+/// full, its first one goes into the tree when another one comes behind it. Contracts see the pairs
+/// of both, for how many more there is room, and what the bounds on steps go by: the reach of the
+/// tree, or that of a tree which folds as fast as the row, whichever is greater.
+#[derive(Drop)]
+pub struct Partials<T: AggTree<Bundle>> {
+    tree: T,
+    near: FlatTree<Bundle>,
+    // The keys in the tree are below it, and those in the row aren't.
+    edge: u64,
+}
+
+impl<T: AggTree<Bundle>> Model for Partials<T> {
+    ghost use Rattle.std.specs.Prelude.{◌++◌, length, max, min};
+    ghost use Rattle.partials.specs.Apart.{Sums, AreApart, row_reach};
+
+    ghost Value = { Sums };
+
+    ghost view = { λ p. record {
+      pairs = T.pairs p.tree ++ p.near.pairs;
+      spare = min (T.spare p.tree) p.near.spare;
+      reach = max (T.reach p.tree) (row_reach (length p.near.pairs));
+    } };
+
+    ghost invariant = { λ p. AreApart (T.pairs p.tree) p.near.pairs p.edge };
+}
+
+impl<T: AggTree<Bundle>> Partials<T> {
+    /// No partial.
+    pub fn new(alloc: Global) -> Partials<T>
+        ensures pairs { (result).pairs ≡ [] }
+        ensures reach { (result).reach ≡ 0 }
+    {
+        Partials {
+            tree: T::fresh(alloc),
+            near: FlatTree::fresh(alloc),
+            edge: 0,
+        }
+    }
+
+    /// Makes room for one more.
+    pub fn reserve(&mut self) -> Result<(), NoMemory>
+        ensures room { OnOk result (1 ≤ (self.new).spare) }
+        ensures spare { (self.old).spare ≤ (self.new).spare }
+        ensures pairs { (self.new).pairs ≡ (self.old).pairs }
+        ensures reach { (self.new).reach ≡ (self.old).reach }
+    {
+        self.tree.reserve(1)?;
+        self.near.reserve(1)
+    }
+
+    // Changes nothing, and tells a proof how the reach is bounded.
+    pub fn vouch(&self)
+        ensures { IsReachOver T.bounded (length (self.now).pairs) (self.now).reach }
+    {
+        let _count = self.tree.len();
+    }
+
+    /// Puts a partial under a time that has none.
+    pub fn insert<L>(&mut self, low: u64, partial: Bundle, steps: &mut Steps<L>)
+        requires absent { has_key low (self.old).pairs ≡ false }
+        requires room { 1 ≤ (self.old).spare }
+        ensures inserted { (self.new).pairs ≡ inserted low partial (self.old).pairs }
+        ensures spare { (self.old).spare ≤ (self.new).spare + 1 }
+        ensures reach { (self.new).reach ≤ (self.old).reach + 1 }
+        ensures cost { steps.new ≤ steps.old + 64 * ((self.old).reach + 2) }
+    {
+        let mut probes = Probes::new();
+        if is_near(&self.near, self.edge, low) {
+            self.edge = make_way(&mut self.tree, &mut self.near, self.edge, steps);
+            self.near.insert(low, partial, &mut probes, steps);
+        } else {
+            self.tree.insert(low, partial, &mut probes, steps);
+            self.edge = self.edge.max(low + 1);
+        }
+    }
+
+    /// Puts another partial under a time that has one.
+    pub fn set<L>(&mut self, low: u64, partial: Bundle, steps: &mut Steps<L>)
+        requires { IsTrue (has_key low (self.old).pairs) }
+        ensures replaced { (self.new).pairs ≡ replaced low partial (self.old).pairs }
+        ensures spare { (self.old).spare ≤ (self.new).spare }
+        ensures reach { (self.new).reach ≤ (self.old).reach }
+        ensures cost { steps.new ≤ steps.old + 64 * ((self.old).reach + 2) }
+    {
+        let mut probes = Probes::new();
+        if low < self.edge {
+            self.tree.set(low, partial, &mut probes, steps);
+        } else {
+            self.near.set(low, partial, &mut probes, steps);
+        }
+    }
+
+    /// Combines the partial under a time with another one behind it.
+    pub fn extend<L>(&mut self, low: u64, more: &Bundle, steps: &mut Steps<L>)
+        requires time { low ≤ TIME_MAX }
+        requires there { IsTrue (has_key low (self.old).pairs) }
+        ensures extended { (b : Bundled) → IsBundle b → value_at low (self.old).pairs ≡ Some b
+            → (self.new).pairs ≡ replaced low (bundles_combined b more.now) (self.old).pairs }
+        ensures spare { (self.old).spare ≤ (self.new).spare }
+        ensures reach { (self.new).reach ≤ (self.old).reach }
+        ensures cost { steps.new ≤ steps.old + 64 * ((self.old).reach + 3) }
+    {
+        let own = self.read(low, steps);
+        self.set(low, own.combine(more, steps), steps);
+    }
+
+    /// Takes out the partial under a time.
+    pub fn take<L>(&mut self, low: u64, steps: &mut Steps<L>) -> Bundle
+        ensures value { (b : Bundled) → value_at low (self.old).pairs ≡ Some b → result ≡ b }
+        ensures pairs { (self.new).pairs ≡ without low (self.old).pairs }
+        ensures spare { (self.old).spare ≤ (self.new).spare }
+        ensures reach { (self.new).reach ≤ (self.old).reach }
+        ensures cost { steps.new ≤ steps.old + 64 * ((self.old).reach + 2) }
+    {
+        if low < self.edge {
+            take_from(&mut self.tree, low, steps)
+        } else {
+            take_near(&mut self.near, low, steps)
+        }
+    }
+
+    /// The partial under a time, at most one step.
+    pub fn read<L>(&self, low: u64, steps: &mut Steps<L>) -> Bundle
+        requires { low ≤ TIME_MAX }
+        ensures value { (b : Bundled) → IsBundle b → value_at low (self.now).pairs ≡ Some b
+            → result ≡ b }
+        ensures cost { steps.new ≤ steps.old + 1 }
+    {
+        if low < self.edge {
+            let mut probes = Probes::new();
+            self.tree.fold_range(low, low + 1, &mut probes, steps)
+        } else {
+            self.near.get(low).unwrap_or(Bundle::unit())
+        }
+    }
+
+    /// The partials with `low <= key < high` combined in the order of keys.
+    pub fn fold_range<L>(&self, low: u64, high: u64, steps: &mut Steps<L>) -> Bundle
+        ensures value { result ≡ total empty_bundle bundles_combined
+            (values_of (within low high (self.now).pairs)) }
+        ensures one_each { steps.new ≤ steps.old + length (within low high (self.now).pairs) }
+        ensures cost { steps.new ≤ steps.old + 64 * ((self.now).reach + 2) }
+    {
+        let older = fold_below(&self.tree, self.edge, low, high, steps);
+        self.near.fold_onto(older, low, high, steps)
+    }
+}
+
+// Whether a key belongs into the row: it lies behind those in the tree, and where the row is full
+// also behind the first one there, which then leaves.
+fn is_near(near: &FlatTree<Bundle>, edge: u64, key: u64) -> bool
+    requires from { AreFrom edge near.now.pairs }
+    requires absent { has_key key near.now.pairs ≡ false }
+    ensures edge { result ≡ true → edge ≤ key }
+    ensures first { result ≡ true → 256 ≤ length near.now.pairs
+        → (low : ℕ) → least_key near.now.pairs ≡ Some low → low < key }
+    ensures before { result ≡ false → AreFrom (key + 1) near.now.pairs }
+    ensures within { result ≡ false → key + 1 < 2 ^ 64 }
+{
+    if near.len() < NEAR {
+        return edge <= key;
+    }
+    match near.first_key() {
+        Some(first) => first < key,
+        None => true,
+    }
+}
+
+// Brings the first pair of a full row into a tree, and answers where the row begins then.
+fn make_way<T: AggTree<Bundle>, L>(
+    tree: &mut T,
+    near: &mut FlatTree<Bundle>,
+    edge: u64,
+    steps: &mut Steps<L>,
+) -> u64
+    requires below { AreBelow edge (T.pairs tree.old) }
+    requires from { AreFrom edge near.old.pairs }
+    requires few { length near.old.pairs ≤ 256 }
+    requires first { 256 ≤ length near.old.pairs
+        → (low : ℕ) → least_key near.old.pairs ≡ Some low → low + 1 < 2 ^ 64 }
+    requires room { 1 ≤ T.spare tree.old }
+    ensures pairs { T.pairs tree.new ++ near.new.pairs ≡ T.pairs tree.old ++ near.old.pairs }
+    ensures below { AreBelow result (T.pairs tree.new) }
+    ensures from { AreFrom result near.new.pairs }
+    ensures edge { (key : ℕ) → edge ≤ key → (256 ≤ length near.old.pairs
+        → (low : ℕ) → least_key near.old.pairs ≡ Some low → low < key) → result ≤ key }
+    ensures few { length near.new.pairs < 256 }
+    ensures row { length near.new.pairs ≤ length near.old.pairs }
+    ensures row_spare { near.old.spare ≤ near.new.spare }
+    ensures spare { T.spare tree.old ≤ T.spare tree.new + 1 }
+    ensures reach { T.reach tree.new ≤ T.reach tree.old + 1 }
+    ensures cost { steps.new ≤ steps.old + 64 * (T.reach tree.old + 2) }
+{
+    if near.len() < NEAR {
+        return edge;
+    }
+    bring_in(tree, near, edge, steps)
+}
+
+// Brings the first pair of a row into a tree, and answers where the row begins then.
+fn bring_in<T: AggTree<Bundle>, L>(
+    tree: &mut T,
+    near: &mut FlatTree<Bundle>,
+    edge: u64,
+    steps: &mut Steps<L>,
+) -> u64
+    requires below { AreBelow edge (T.pairs tree.old) }
+    requires from { AreFrom edge near.old.pairs }
+    requires some { 1 ≤ length near.old.pairs }
+    requires first { (low : ℕ) → least_key near.old.pairs ≡ Some low → low + 1 < 2 ^ 64 }
+    requires room { 1 ≤ T.spare tree.old }
+    ensures pairs { T.pairs tree.new ++ near.new.pairs ≡ T.pairs tree.old ++ near.old.pairs }
+    ensures below { AreBelow result (T.pairs tree.new) }
+    ensures from { AreFrom result near.new.pairs }
+    ensures edge { (low : ℕ) → least_key near.old.pairs ≡ Some low → result ≤ low + 1 }
+    ensures row { length near.new.pairs + 1 ≡ length near.old.pairs }
+    ensures row_spare { near.old.spare ≤ near.new.spare }
+    ensures spare { T.spare tree.new + 1 ≡ T.spare tree.old }
+    ensures reach { T.reach tree.new ≤ T.reach tree.old + 1 }
+    ensures cost { steps.new ≤ steps.old + 64 * (T.reach tree.old + 2) }
+{
+    let mut probes = Probes::new();
+    let Some(low) = near.first_key() else {
+        return edge;
+    };
+    let partial = take_near(near, low, steps);
+    tree.insert(low, partial, &mut probes, steps);
+    low + 1
+}
+
+// The fold of a range of a tree whose keys are below an edge; nothing of it where the range begins
+// there or behind.
+fn fold_below<T: AggTree<Bundle>, L>(
+    tree: &T,
+    edge: u64,
+    low: u64,
+    high: u64,
+    steps: &mut Steps<L>,
+) -> Bundle
+    requires { AreBelow edge (T.pairs tree.now) }
+    ensures value { result ≡ total empty_bundle bundles_combined
+        (values_of (within low high (T.pairs tree.now))) }
+    ensures one_each { steps.new ≤ steps.old + length (within low high (T.pairs tree.now)) }
+    ensures cost { steps.new ≤ steps.old + 32 * (T.reach tree.now + 2) }
+{
+    if edge <= low {
+        return Bundle::unit();
+    }
+    let mut probes = Probes::new();
+    tree.fold_range(low, high, &mut probes, steps)
+}
+
+// Takes the partial under a time out of a tree.
+fn take_from<T: AggTree<Bundle>, L>(tree: &mut T, low: u64, steps: &mut Steps<L>) -> Bundle
+    ensures value { (b : Bundled) → value_at low (T.pairs tree.old) ≡ Some b → result ≡ b }
+    ensures pairs { T.pairs tree.new ≡ without low (T.pairs tree.old) }
+    ensures spare { T.spare tree.old ≤ T.spare tree.new }
+    ensures reach { T.reach tree.new ≤ T.reach tree.old }
+    ensures cost { steps.new ≤ steps.old + 64 * (T.reach tree.old + 2) }
+{
+    let mut probes = Probes::new();
+    match tree.remove(low, &mut probes, steps) {
+        Some(bundle) => bundle,
+        None => Bundle::unit(),
+    }
+}
+
+// Takes the partial under a time out of a row.
+fn take_near<L>(near: &mut FlatTree<Bundle>, low: u64, steps: &mut Steps<L>) -> Bundle
+    ensures value { (b : Bundled) → value_at low near.old.pairs ≡ Some b → result ≡ b }
+    ensures pairs { near.new.pairs ≡ without low near.old.pairs }
+    ensures spare { near.old.spare ≤ near.new.spare }
+    ensures row { length near.new.pairs ≤ length near.old.pairs }
+    ensures no_step { steps.new ≡ steps.old }
+{
+    let mut probes = Probes::new();
+    match near.remove(low, &mut probes, steps) {
+        Some(bundle) => bundle,
+        None => Bundle::unit(),
+    }
+}

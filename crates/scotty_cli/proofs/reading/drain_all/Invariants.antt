@@ -1,7 +1,0 @@
--- The first feeds were read to their ends, and those behind them weren't touched.
-use Rattle.report_check.specs.Findings.{lists_of}
-use Rattle.scotty_cli.proofs.Draining.{AreDraining}
-use Rattle.scotty_cli.proofs.reading.drain_all.Given as goal
-
-abbrev pub invariant-loop-i : goal.invariant-loop-i
-invariant-loop-i g l = AreDraining g.S.Source.rest g.S.Source.faults l.initial.feeds.items l.feeds.items (lists_of l.all.items) l.i

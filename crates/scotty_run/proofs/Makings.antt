@@ -1,0 +1,131 @@
+-- The feeds and the shards of a made run.
+use Rattle.std.proofs.Common.{◌≡◌, ◌∙◌, ◌<◌, ◌≤◌, ◌+◌, ◌++◌, ◌⊎◌, ℕ, List, [], ◌∷◌, All, length, map, take, get_or, ap, sym, subst, arith, inl, inr, ⊎_elim, length-append, IfSome}
+use Rattle.std.specs.List.{range_with_len}
+use Rattle.std.proofs.lemmas.Bool.{cases_lt}
+use Rattle.std.proofs.lemmas.Grind.{flat_map-append}
+use Rattle.std.proofs.lemmas.List.{append-nil, get_or-map, get_or_append_left, get_or_push, length-map, map-append, take_more}
+use Rattle.std.proofs.lemmas.List.FromFn.{get_or-range_with_len, length-range_with_len}
+use Rattle.stream_base.specs.Model.Changes.{standing_rows}
+use Rattle.stream_base.specs.Model.Routes.{entries_from, routed}
+use Rattle.stream_base.specs.declared.entry.Entry.{Entry}
+use Rattle.stream_base.specs.declared.row.Row.{Row}
+use Rattle.shard_core.specs.Shard.{Sharded}
+use Rattle.source_feed.specs.FeedState.{FeedState}
+use Rattle.source_feed.specs.Generated.{made_definitions, made_entries, made_sources}
+use Rattle.source_feed.specs.declared.feed_fault.FeedFault.{FeedFault}
+use Rattle.fan_in.specs.declared.gathered.FeedEnd.{FeedEnd}
+use Rattle.fan_in.specs.declared.outcome.Outcome.{Outcome}
+use Rattle.fan_in.specs.declared.outcome.Outcome.TheVariants.{Done}
+use Rattle.fan_in.specs.Gathering.{HoldsPart, IsFault, IsGathered}
+use Rattle.final_rows.specs.AtEnd.{rows_of_shards}
+use Rattle.scotty_run.specs.Making.{AreMadeFeeds, AreMadeShards, AreOfDefinitions, IsMadeFeed}
+use Rattle.scotty_run.proofs.Opened.{some_of}
+
+abbrev Feed : Type 0
+Feed = FeedState FeedFault
+
+abbrev End : Type 0
+End = FeedEnd Feed
+
+-- the rows of one shard more
+pub standing_more : (sources : ℕ) (shards : List Sharded) (i : ℕ) (s : Sharded) (rows own : List Row) → i < length shards → s ≡ get_or shards i s → AreOfDefinitions sources shards
+    → rows ≡ rows_of_shards made_definitions sources (map (λ s. s.journal) (take i shards)) → own ≡ standing_rows s.defs s.sources s.journal
+    → rows ++ own ≡ rows_of_shards made_definitions sources (map (λ s. s.journal) (take (i + 1) shards))
+standing_more sources shards i s rows own l is alike before mine =
+    let journal : Sharded → List Entry = λ (x : Sharded). x.journal in
+    let of = alike i s l in
+    let here : own ≡ standing_rows made_definitions sources s.journal =
+    mine ∙ ap (λ d. standing_rows d s.sources s.journal) (ap (λ (x : Sharded). x.defs) is ∙ of.0) ∙ ap (λ n. standing_rows made_definitions n s.journal) (ap (λ (x : Sharded). x.sources) is ∙ of.1) in
+    let single : own ≡ rows_of_shards made_definitions sources (s.journal ∷ []) = here ∙ sym (append-nil (standing_rows made_definitions sources s.journal)) in
+    ap (λ r. r ++ own) before
+    ∙ ap (λ r. rows_of_shards made_definitions sources (map journal (take i shards)) ++ r) single
+    ∙ sym (flat_map-append (standing_rows made_definitions sources) (map journal (take i shards)) (s.journal ∷ []))
+    ∙ ap (rows_of_shards made_definitions sources) (sym (map-append journal (take i shards) (s ∷ [])) ∙ ap (map journal) (ap (λ x. take i shards ++ x ∷ []) is ∙ sym (take_more shards i s l)))
+
+module _ (seed rows sources : ℕ) where
+  -- one feed more
+  pub made_more : (feeds : List Feed) (feed : Feed) (n : ℕ) → length feeds ≡ n → AreMadeFeeds seed rows sources feeds → IsMadeFeed seed rows sources n feed → AreMadeFeeds seed rows sources (feeds ++ feed ∷ [])
+  made_more feeds feed n many h is i f l =
+      ⊎_elim (λ (less : i < length feeds). subst (IsMadeFeed seed rows sources i) (sym (get_or_append_left feeds (feed ∷ []) f i less)) (h i f less))
+      (λ ge.
+      let same : n ≡ i = let size = length-append feeds (feed ∷ []) in omega (arith, ge, many, l, size) in
+      subst (IsMadeFeed seed rows sources i) (sym (get_or_push feeds feed f i (many ∙ same))) (subst (λ k. IsMadeFeed seed rows sources k feed) same is))
+      (cases_lt i (length feeds))
+
+  made_count : length (made_sources seed rows sources) ≡ sources
+  made_count = length-map (range_with_len 0 sources) (made_entries seed rows sources) ∙ length-range_with_len 0 sources
+
+  made_at : (i : ℕ) → i < sources → get_or (made_sources seed rows sources) i [] ≡ made_entries seed rows sources i
+  made_at i l =
+      let inside : i < length (range_with_len 0 sources) = let n = length-range_with_len 0 sources in omega (arith, l, n) in
+      let zero : 0 + i ≡ i = omega arith in
+      get_or-map (made_entries seed rows sources) (range_with_len 0 sources) i 0 [] inside ∙ ap (made_entries seed rows sources) (get_or-range_with_len 0 sources i 0 l ∙ zero)
+
+  module _ (k : ℕ) (feeds : List Feed) (ends : List End) (shards : List Sharded)
+      (some : 1 ≤ sources) (one_each : length feeds ≡ sources) (many : length ends ≡ sources)
+      (count : (shards ≡ []) ⊎ (length shards ≡ k))
+      (none : shards ≡ [] → (i : ℕ) (e : End) → i < sources → IsFault (get_or ends i e).outcome)
+      (alike : (j : ℕ) (s : Sharded) → j < length shards → IsGathered made_definitions sources (get_or shards j s))
+      (parts : (j i : ℕ) (s : Sharded) (f : Feed) (e : End) → j < length shards → i < sources → IfSome (get_or feeds i f).rest (λ stream. HoldsPart k j i stream (get_or ends i e).outcome (get_or shards j s).journal))
+      (made : AreMadeFeeds seed rows sources feeds)
+      (done : All (λ o. o ≡ Done) (map (λ e. e.outcome) ends)) where
+    end_at : (i : ℕ) → i < sources → End
+    end_at i l = some_of ends i (omega (arith, l, many))
+
+    done_at : (i : ℕ) (e : End) → i < sources → (get_or ends i e).outcome ≡ Done
+    done_at i e l =
+        let outcome : End → Outcome = λ (x : End). x.outcome in
+        let inside : i < length ends = omega (arith, l, many) in
+        let below : i < length (map outcome ends) = let n = length-map ends outcome in omega (arith, inside, n) in
+        sym (get_or-map outcome ends i e Done inside) ∙ done i Done below
+
+    back : length shards ≡ k
+    back = by count
+      where
+        by : (shards ≡ []) ⊎ (length shards ≡ k) → length shards ≡ k
+        by (inl empty) =
+            let l : 0 < sources = omega (arith, some) in
+            let e = end_at 0 l in
+            absurd (subst IsFault (done_at 0 e l) (none empty 0 e l))
+        by (inr all) = all
+
+    journals : List (List Entry)
+    journals = map (λ s. s.journal) shards
+
+    inside : (j : ℕ) → j < length journals → j < length shards
+    unfolding journals
+    inside j l = let n = length-map shards (λ (s : Sharded). s.journal) in omega (arith, l, n)
+
+    journal_at : (j : ℕ) (s : Sharded) → j < length shards → get_or journals j [] ≡ (get_or shards j s).journal
+    unfolding journals
+    journal_at j s l = get_or-map (λ (x : Sharded). x.journal) shards j s [] l
+
+    known : (j i : ℕ) (e : Entry) → j < length journals → i < length (get_or journals j []) → (get_or (get_or journals j []) i e).source < length (made_sources seed rows sources)
+    known j i e l m =
+        let l2 = inside j l in
+        let s = some_of shards j l2 in
+        let below = subst (λ (es : List Entry). All (λ x. x.source < sources) es) (sym (journal_at j s l2)) (((alike j s l2).journal).known).known_sources in
+        let b : (get_or (get_or journals j []) i e).source < sources = below i e m in
+        omega (arith, b, made_count)
+
+    held : (j i : ℕ) → j < length journals → i < length (made_sources seed rows sources) → entries_from i (get_or journals j []) ≡ routed k j (get_or (made_sources seed rows sources) i [])
+    held j i l m =
+        let l2 = inside j l in
+        let li : i < sources = omega (arith, m, made_count) in
+        let s = some_of shards j l2 in
+        let f = some_of feeds i (omega (arith, li, one_each)) in
+        let e = end_at i li in
+        let told = ap (λ (x : Feed). x.rest) (made i f (omega (arith, li, one_each))).state in
+        let part = subst (λ o. IfSome o (λ stream. HoldsPart k j i stream (get_or ends i e).outcome (get_or shards j s).journal)) told (parts j i s f e l2 li) in
+        ap (entries_from i) (journal_at j s l2) ∙ part.whole (done_at i e li) ∙ ap (routed k j) (sym (made_at i li))
+
+    pub made_shards : AreMadeShards seed rows sources k shards
+    unfolding journals
+    made_shards = record {
+      alike = λ j s l. let a = alike j s l in (a.defs, a.sources_are);
+      lawful = record {
+        count = length-map shards (λ s. s.journal) ∙ back;
+        known = known;
+        held = held;
+      };
+    }

@@ -1,0 +1,41 @@
+-- What stops the reading of the report is told by the bytes that were read and by the counts.
+use Rattle.std.proofs.Common.{◌≡◌, ◌<◌, ◌∷◌, ℕ, List, Option, subst}
+use Rattle.std.specs.Prelude.{IfOk, IsErrOf}
+use Rattle.source_feed.specs.Whole.{PassesLimit}
+use Rattle.source_feed.specs.declared.whole_fault.WholeFault.TheVariants.{Read, TooLong}
+use Rattle.source_feed.specs.declared.whole.TheConstants.{SOURCE_MAX}
+use Rattle.outside.specs.Outside.{Rose, with_front}
+use Rattle.scotty_run.specs.Outside.{counts_of}
+use Rattle.scotty_run.proofs.Judged.{report_stops, text_is_told}
+use Rattle.scotty_run.proofs.Told.{on_ok}
+use Rattle.scotty_run.proofs.judging.read_report.Goals as goal
+
+pub returns-in-Err-clause-stopped : goal.returns-in-Err-clause-stopped
+returns-in-Err-clause-stopped g c rest planned = (c.in-Err.ensures.failed, c.in-Err.ensures.unopened (c.args.name.now ∷ rest) planned)
+
+pub returns-in-Ok-clause-opened : goal.returns-in-Ok-clause-opened
+returns-in-Ok-clause-opened g c rest planned =
+    on_ok c.text_of.result (g.F.Files.may_open c.give_back.new.self rest) (c.give_back.ensures.planned rest (c.in-Ok.ensures.opened rest planned))
+
+pub returns-in-Ok-clause-ok : goal.returns-in-Ok-clause-ok
+returns-in-Ok-clause-ok g c =
+    let told = g.F.Files.told c.args.files.now c.args.name.now in
+    let read = c.read_whole-bytes in
+    let left = g.F.Input.Source.rest read.new.source in
+    let from : g.F.Input.Source.rest c.in-Ok.source ≡ told = c.in-Ok.ensures.content in
+    let whole = subst (λ (o : Option (List ℕ)). IfOk read.result (λ b. o ≡ with_front b.items left)) from read.ensures.whole in
+    text_is_told told left read.result c.text_of.result c.text_of.ensures.ok whole read.ensures.ends read.ensures.within
+
+pub returns-in-Ok-clause-stopped : goal.returns-in-Ok-clause-stopped
+returns-in-Ok-clause-stopped g c rest planned =
+    let f = g.F.Files in
+    let told = f.told c.args.files.now c.args.name.now in
+    let read = c.read_whole-bytes in
+    let left = g.F.Input.Source.rest read.new.source in
+    let faults = g.F.Input.Source.faults read.new.source in
+    let from : g.F.Input.Source.rest c.in-Ok.source ≡ told = c.in-Ok.ensures.content in
+    let counts = counts_of f.failed_opens f.failed_reads f.may_open c.args.files.now c.give_back.new.self in
+    let long = subst (λ (o : Option (List ℕ)). IsErrOf read.result TooLong → PassesLimit SOURCE_MAX o left) from read.ensures.too_long in
+    let failed = subst (λ (n : ℕ). IsErrOf read.result Read → Rose n faults) c.in-Ok.ensures.fresh read.ensures.read in
+    let rose = subst (λ (n : ℕ). 0 < faults → Rose n counts.reads.after) c.in-Ok.ensures.reads c.give_back.ensures.failed in
+    report_stops told left (c.args.name.now ∷ rest) counts faults read.result c.text_of.result c.text_of.ensures.stopped long failed rose

@@ -1,0 +1,10 @@
+-- The entries so far, and what the feed has left, are what it told.
+use Rattle.std.proofs.Common.{◌-◌, ◌^◌, vec_len}
+use Rattle.scotty_run.proofs.Draining.{IsDraining}
+use Rattle.scotty_run.proofs.reading.drain.Given as goal
+
+abbrev pub invariant-loop-all : goal.invariant-loop-all
+invariant-loop-all g l = IsDraining (g.F.Feed.state l.initial.feed) (g.F.Feed.state l.feed) l.all.items (g.F.Feed.faults l.initial.feed) (g.F.Feed.faults l.feed)
+
+abbrev pub decreases-loop-all : goal.decreases-loop-all
+decreases-loop-all g l = 2 ^ 64 - vec_len l.all

@@ -1,0 +1,17 @@
+use Rattle.scotty_run.proofs.WordFacts.{checks_are_no_others, one_check, one_made, one_run, runs_are_not_made}
+use Rattle.scotty_run.proofs.words.commands_are_told_apart_by_their_words.Goals as goal
+
+pub returns-clause-one_run : goal.returns-clause-one_run
+returns-clause-one_run c = one_run
+
+pub returns-clause-one_made : goal.returns-clause-one_made
+returns-clause-one_made c = one_made
+
+pub returns-clause-apart : goal.returns-clause-apart
+returns-clause-apart c = runs_are_not_made
+
+pub returns-clause-one_check : goal.returns-clause-one_check
+returns-clause-one_check c = one_check
+
+pub returns-clause-apart_from_checks : goal.returns-clause-apart_from_checks
+returns-clause-apart_from_checks c = checks_are_no_others

@@ -1,0 +1,219 @@
+//! The top call.
+ghost use Rattle.std.specs.Prelude.{◌≡◌, ◌≢◌, ◌≤◌, ◌↔◌, ◌⊎◌, ◌∷◌, ℕ, [], length, map, string_bytes, IfOk, IfErr, OnOk};
+ghost use Rattle.emission_text.specs.Findings.{finding_line};
+ghost use Rattle.emission_text.specs.Report.{form_of, report_text};
+ghost use Rattle.emission_text.specs.Sending.{Appends, Fails};
+ghost use Rattle.source_feed.specs.declared.made_feed.TheConstants.{MADE_ROWS_MAX};
+ghost use Rattle.scotty_run.specs.Answer.{IsAnswer, IsCheckAnswer, IsMadeAnswer, Says};
+ghost use Rattle.scotty_run.specs.Causes.{AreShardsOfFiles, StopsAtFiles};
+ghost use Rattle.scotty_run.specs.Outside.{counts_of};
+ghost use Rattle.scotty_run.specs.Statuses.{finding_status, status_of};
+ghost use Rattle.scotty_run.specs.Words.{Check, IsCheck, IsCheckOf, IsCommand, IsMadeOf, IsRun, IsRunOf, Made, Run, check_of, made_of, run_of};
+
+use crate::definitions::read_definitions;
+use crate::gathering::gather_sources;
+use crate::judging::find;
+use crate::making::{make_rows, print_summary};
+use crate::status::{Status, status_of, status_of_finding};
+use crate::words::{CheckWords, MadeWords, RunWords, check_of, made_of, run_of};
+use emission_text::{Fault, ReportForm, write_fault, write_finding, write_form};
+use outside::{Files, Gate, Sink};
+use report_check::Finding;
+use shard_core::Shard;
+use std::alloc::Global;
+use std::sync::Wait;
+use std::thread::Threads;
+use stream_base::NoMemory;
+
+/// Runs the command that the words say. A run is answered with the report that its files call for,
+/// or with the first fault in the order of causes; in place of it an open, a read or a write may have
+/// failed, by its count, or memory ran out. A made run is answered with the summary of its final
+/// rows; in place of it a write may have failed, or memory ran out. It is so in every schedule of the
+/// feeds. A check is answered with the line of what is found of its report, by the bytes of the
+/// definitions, the report and the sources, or with the first fault, with the same exceptions as a
+/// run. Other words are answered with a fault of their own.
+///
+/// A run opens its definitions and then its sources, a check its definitions, its report and its
+/// sources: each once, in this order, and nothing else. Behind a report or a finding none is left;
+/// where one can't be opened, it is named, and those from it on are left.
+pub fn scotty<F: Files, K: Sink, G: Gate, R: Threads + Wait + Sync>(
+    alloc: Global,
+    rt: &R,
+    words: &[String],
+    files: &mut F,
+    sink: &mut K,
+    gate: &G,
+) -> Status
+    requires opens_run { (run : Run) → IsRunOf (map string_bytes words.now) run
+        → F.may_open files.old (run.defs ∷ run.sources) }
+    requires opens_check { (c : Check) → IsCheckOf (map string_bytes words.now) c
+        → F.may_open files.old (c.defs ∷ c.report ∷ c.sources) }
+    ensures answer { (run : Run) → IsRunOf (map string_bytes words.now) run
+        → IsAnswer K.written K.faults run (F.told files.old)
+        (counts_of F.failed_opens F.failed_reads F.may_open files.old files.new)
+        sink.old sink.new result }
+    ensures made { (m : Made) → IsMadeOf (map string_bytes words.now) m
+        → IsMadeAnswer K.written K.faults m sink.old sink.new result }
+    ensures check { (c : Check) → IsCheckOf (map string_bytes words.now) c
+        → IsCheckAnswer K.written K.faults c (F.told files.old)
+        (counts_of F.failed_opens F.failed_reads F.may_open files.old files.new)
+        sink.old sink.new result }
+    ensures usage { (result ≡ Status.Usage) ↔ ¬ (IsCommand (map string_bytes words.now)) }
+    ensures usage_said { result ≡ Status.Usage
+        → Says K.written K.faults Fault.Usage sink.old sink.new }
+    ensures unopened { ¬ (IsRun (map string_bytes words.now))
+        → ¬ (IsCheck (map string_bytes words.now)) → files.new ≡ files.old }
+    ensures out { F.out files.new ≡ F.out files.old }
+{
+    match run_of(words) {
+        Some(command) => run(alloc, rt, &command, files, sink, gate),
+        None => match made_of(words) {
+            Some(command) => make(alloc, rt, command, sink, gate),
+            None => match check_of(words) {
+                Some(command) => check(alloc, rt, &command, files, sink),
+                None => print_fault(&Fault::Usage, sink),
+            },
+        },
+    }
+}
+
+fn run<F: Files, K: Sink, G: Gate, R: Threads + Wait + Sync>(
+    alloc: Global,
+    rt: &R,
+    command: &RunWords,
+    files: &mut F,
+    sink: &mut K,
+    gate: &G,
+) -> Status
+    requires some_sources { 1 ≤ length command.now.sources.now }
+    requires few_sources { length command.now.sources.now ≤ 16 }
+    requires some_shards { 1 ≤ command.now.shards }
+    requires few_shards { command.now.shards ≤ 16 }
+    requires planned { F.may_open files.old (command.now.defs.now
+        ∷ map string_bytes command.now.sources.now) }
+    ensures answer { IsAnswer K.written K.faults
+        (run_of command.now.form command.now.defs.now command.now.shards command.now.way
+        (map string_bytes command.now.sources.now)) (F.told files.old)
+        (counts_of F.failed_opens F.failed_reads F.may_open files.old files.new)
+        sink.old sink.new result }
+    ensures out { F.out files.new ≡ F.out files.old }
+{
+    match fill_shards(alloc, rt, command, files, gate) {
+        Ok(shards) => print_report(command.form, &shards, sink),
+        Err(fault) => print_fault(&fault, sink),
+    }
+}
+
+// The report of the shards.
+fn print_report<K: Sink>(form: ReportForm, shards: &[Shard], sink: &mut K) -> Status
+    ensures either { (result ≡ Status.Done) ⊎ (result ≡ Status.WriteFault) }
+    ensures done { result ≡ Status.Done → Appends K.written K.faults
+        (report_text (form_of form) shards.now) sink.old sink.new }
+    ensures failed { result ≡ Status.WriteFault → Fails K.written K.faults
+        (report_text (form_of form) shards.now) sink.old sink.new }
+{
+    match write_form(form, shards, sink) {
+        Ok(()) => Status::Done,
+        Err(_) => Status::WriteFault,
+    }
+}
+
+// A made run.
+fn make<K: Sink, G: Gate, R: Threads + Wait + Sync>(
+    alloc: Global,
+    rt: &R,
+    command: MadeWords,
+    sink: &mut K,
+    gate: &G,
+) -> Status
+    requires some_rows { 1 ≤ command.rows }
+    requires few_rows { command.rows ≤ MADE_ROWS_MAX }
+    requires some_sources { 1 ≤ command.sources }
+    requires few_sources { command.sources ≤ 16 }
+    requires some_shards { 1 ≤ command.shards }
+    requires few_shards { command.shards ≤ 16 }
+    ensures answer { IsMadeAnswer K.written K.faults
+        (made_of command.seed command.rows command.sources command.shards command.way)
+        sink.old sink.new result }
+{
+    match make_rows(alloc, rt, command, gate) {
+        Ok(rows) => print_summary(command.rows, &rows, sink),
+        Err(NoMemory) => print_fault(&Fault::NoMemory, sink),
+    }
+}
+
+// A check of a report.
+fn check<F: Files, K: Sink, R: Threads>(
+    alloc: Global,
+    rt: &R,
+    command: &CheckWords,
+    files: &mut F,
+    sink: &mut K,
+) -> Status
+    requires few_sources { length command.now.sources.now ≤ 16 }
+    requires few_shards { command.now.shards ≤ 16 }
+    requires planned { F.may_open files.old (command.now.defs.now
+        ∷ command.now.report.now ∷ map string_bytes command.now.sources.now) }
+    ensures answer { IsCheckAnswer K.written K.faults
+        (check_of command.now.defs.now command.now.shards command.now.report.now
+        (map string_bytes command.now.sources.now)) (F.told files.old)
+        (counts_of F.failed_opens F.failed_reads F.may_open files.old files.new)
+        sink.old sink.new result }
+    ensures out { F.out files.new ≡ F.out files.old }
+{
+    match find(alloc, rt, command, files) {
+        Ok(finding) => print_finding(&finding, sink),
+        Err(fault) => print_fault(&fault, sink),
+    }
+}
+
+// The line of a finding.
+fn print_finding<K: Sink>(finding: &Finding, sink: &mut K) -> Status
+    ensures { ((result ≡ finding_status finding.now)
+        × Appends K.written K.faults (finding_line finding.now) sink.old sink.new)
+        ⊎ ((result ≡ Status.WriteFault)
+        × Fails K.written K.faults (finding_line finding.now) sink.old sink.new) }
+{
+    if write_finding(finding, sink).is_err() {
+        return Status::WriteFault;
+    }
+    status_of_finding(finding)
+}
+
+fn print_fault<K: Sink>(fault: &Fault, sink: &mut K) -> Status
+    ensures status { result ≡ status_of fault.now }
+    ensures said { Says K.written K.faults fault.now sink.old sink.new }
+{
+    let _ = write_fault(fault, sink);
+    status_of(fault)
+}
+
+// The shards with all entries of the sources, under the definitions that the run names.
+fn fill_shards<F: Files, G: Gate, R: Threads + Wait + Sync>(
+    alloc: Global,
+    rt: &R,
+    command: &RunWords,
+    files: &mut F,
+    gate: &G,
+) -> Result<Vec<Shard>, Fault>
+    requires some_sources { 1 ≤ length command.now.sources.now }
+    requires few_sources { length command.now.sources.now ≤ 16 }
+    requires some_shards { 1 ≤ command.now.shards }
+    requires few_shards { command.now.shards ≤ 16 }
+    requires planned { F.may_open files.old (command.now.defs.now
+        ∷ map string_bytes command.now.sources.now) }
+    ensures ok { IfOk result (λ shards. AreShardsOfFiles (F.told files.old)
+        (run_of command.now.form command.now.defs.now command.now.shards command.now.way
+        (map string_bytes command.now.sources.now)) shards.items) }
+    ensures opened { OnOk result (F.may_open files.new []) }
+    ensures stopped { IfErr result (StopsAtFiles (F.told files.old)
+        (run_of command.now.form command.now.defs.now command.now.shards command.now.way
+        (map string_bytes command.now.sources.now))
+        (counts_of F.failed_opens F.failed_reads F.may_open files.old files.new)) }
+    ensures out { F.out files.new ≡ F.out files.old }
+{
+    match read_definitions(alloc, files, command.defs) {
+        Err(fault) => Err(fault),
+        Ok(defs) => gather_sources(alloc, rt, command, files, defs, gate),
+    }
+}

@@ -1,0 +1,58 @@
+//! The definitions file is opened, read and refused or accepted.
+ghost use Rattle.std.specs.Prelude.{◌≡◌, ◌≤◌, ◌∷◌, ℕ, List, Ok, IfOk, IfErr, OnOk, IsOkAnd};
+ghost use Rattle.window_defs.specs.Reading.{reading_of};
+ghost use Rattle.scotty_run.specs.Outside.{counts_of};
+ghost use Rattle.scotty_run.specs.Causes.{AreDefsOf, StopsAtBytes, StopsAtDefs, StopsAtReading};
+
+use emission_text::Fault;
+use outside::Files;
+use source_feed::{WholeFault, read_whole};
+use std::alloc::Global;
+use stream_base::Defs;
+use window_defs::{BYTES_MAX, DefsFault, read_defs};
+
+/// The definitions in the file of this name, where they are accepted. The file is given back.
+pub fn read_definitions<F: Files>(alloc: Global, files: &mut F, name: &str) -> Result<Defs, Fault>
+    requires planned { (rest : List (List ℕ)) × F.may_open files.old (name.now ∷ rest) }
+    ensures ok { IfOk result (AreDefsOf (F.told files.old name.now)) }
+    ensures opened { (rest : List (List ℕ)) → F.may_open files.old (name.now ∷ rest)
+        → OnOk result (F.may_open files.new rest) }
+    ensures stopped { (rest : List (List ℕ)) → F.may_open files.old (name.now ∷ rest)
+        → IfErr result (StopsAtDefs (F.told files.old name.now) (name.now ∷ rest)
+        (counts_of F.failed_opens F.failed_reads F.may_open files.old files.new)) }
+    ensures opens { F.failed_opens files.old ≤ F.failed_opens files.new }
+    ensures reads { F.failed_reads files.old ≤ F.failed_reads files.new }
+    ensures out { F.out files.new ≡ F.out files.old }
+    ensures same { (which : List ℕ) → F.told files.new which ≡ F.told files.old which }
+{
+    match files.open_file(name) {
+        Err(_) => Err(Fault::Unopened { place: None }),
+        Ok(mut source) => {
+            let bytes = read_whole(alloc, &mut source, BYTES_MAX as u64);
+            files.give_back(source);
+            accept(alloc, bytes)
+        }
+    }
+}
+
+fn accept(alloc: Global, bytes: Result<Vec<u8>, WholeFault>) -> Result<Defs, Fault>
+    ensures read { IfOk result (λ defs. IsOkAnd bytes (λ read. reading_of read.items ≡ Ok defs)) }
+    ensures stopped { IfErr result (StopsAtReading bytes) }
+{
+    match bytes {
+        Err(WholeFault::Read) => Err(Fault::Read { place: None }),
+        Err(WholeFault::TooLong) => Err(Fault::Defs(DefsFault::Long)),
+        Err(WholeFault::NoMemory) => Err(Fault::NoMemory),
+        Ok(bytes) => read_bytes(alloc, &bytes),
+    }
+}
+
+fn read_bytes(alloc: Global, bytes: &[u8]) -> Result<Defs, Fault>
+    ensures ok { IfOk result (λ defs. reading_of bytes.now ≡ Ok defs) }
+    ensures stopped { IfErr result (StopsAtBytes bytes.now) }
+{
+    match read_defs(alloc, bytes) {
+        Ok(defs) => Ok(defs),
+        Err(fault) => Err(Fault::Defs(fault)),
+    }
+}

@@ -1,0 +1,28 @@
+//! A run of the program over any files, any sink and any gate: the words of the command line in, the
+//! report or the first fault out, and a status.
+//!
+//! *From* the words *to* a status. *Stands on* everything below. *Promise*: the contract of `scotty`,
+//! the call that the program makes.
+#![tactic(auto)]
+
+mod command;
+mod deciding;
+mod definitions;
+mod gathering;
+mod judging;
+mod making;
+mod opening;
+mod reading;
+mod settling;
+mod status;
+mod way;
+mod words;
+
+pub use command::scotty;
+pub use deciding::refused_definitions_call_for_their_fault;
+pub use status::Status;
+pub use way::Way;
+pub use words::{
+    CheckWords, MadeWords, RunWords, check_of, commands_are_told_apart_by_their_words, made_of,
+    run_of,
+};

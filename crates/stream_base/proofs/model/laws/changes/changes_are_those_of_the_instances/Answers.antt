@@ -1,5 +1,0 @@
-use Rattle.stream_base.proofs.ChangesAfter.{changes_are_those_caused}
-use Rattle.stream_base.proofs.model.laws.changes.changes_are_those_of_the_instances.Goals as goal
-
-pub returns : goal.returns
-returns c = changes_are_those_caused

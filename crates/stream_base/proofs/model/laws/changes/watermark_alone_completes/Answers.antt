@@ -1,8 +1,0 @@
-use Rattle.stream_base.proofs.ChangesAfter.{changes_of_water, no_news_no_changes}
-use Rattle.stream_base.proofs.model.laws.changes.watermark_alone_completes.Goals as goal
-
-pub returns-clause-completes : goal.returns-clause-completes
-returns-clause-completes c = changes_of_water
-
-pub returns-clause-stays : goal.returns-clause-stays
-returns-clause-stays c = no_news_no_changes

@@ -1,8 +1,0 @@
-use Rattle.stream_base.proofs.Absent.{nothing_kept, nothing_stands}
-use Rattle.stream_base.proofs.model.laws.kept.absent_key_has_nothing.Goals as goal
-
-pub returns-clause-kept : goal.returns-clause-kept
-returns-clause-kept c = nothing_kept
-
-pub returns-clause-stands : goal.returns-clause-stands
-returns-clause-stands c = nothing_stands

@@ -1,5 +1,0 @@
-use Rattle.stream_base.proofs.ReadBack.{journals_of-within}
-use Rattle.stream_base.proofs.model.read_back.journals_read_back_are_within_the_limits.Goals as goal
-
-pub returns : goal.returns
-returns c = journals_of-within

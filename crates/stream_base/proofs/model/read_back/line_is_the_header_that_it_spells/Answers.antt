@@ -1,5 +1,0 @@
-use Rattle.stream_base.proofs.ReadBackExact.{is_header-exact}
-use Rattle.stream_base.proofs.model.read_back.line_is_the_header_that_it_spells.Goals as goal
-
-pub returns : goal.returns
-returns c = is_header-exact

@@ -1,5 +1,0 @@
-use Rattle.stream_base.proofs.ReadBackChanges.{changes_under-other}
-use Rattle.stream_base.proofs.model.read_back.lines_of_changes_under_an_entry_are_other_lines.Goals as goal
-
-pub returns : goal.returns
-returns c = changes_under-other

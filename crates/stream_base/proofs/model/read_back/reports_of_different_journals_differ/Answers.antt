@@ -1,5 +1,0 @@
-use Rattle.stream_base.proofs.ReadBack.{report_of-injective}
-use Rattle.stream_base.proofs.model.read_back.reports_of_different_journals_differ.Goals as goal
-
-pub returns : goal.returns
-returns c = report_of-injective
