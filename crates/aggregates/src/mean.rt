@@ -42,7 +42,8 @@ impl Monoid for Mean {
 impl Mean {
     // This aggregate's values, and then those of `right`. Whoever calls it counts the step.
     pub(crate) fn with(self, right: Mean) -> Mean
-        ensures { result ≡ mean_of (averaging.combine (self.sum, self.count) (right.sum, right.count)) }
+        ensures { result ≡ mean_of (averaging.combine
+            (self.sum, self.count) (right.sum, right.count)) }
     {
         Mean {
             sum: self.sum.wrapping_add(right.sum),

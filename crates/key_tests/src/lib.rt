@@ -1,10 +1,8 @@
-//! Tests of watermarks, keys and shards through the public calls of their crates: worked cases whose
-//! answers were worked out by hand.
+//! Tests of watermarks and of the plain engine through their public calls: worked cases whose answers
+//! were worked out by hand.
 #![tactic(auto)]
 
 #[cfg(test)]
 mod keys;
-#[cfg(test)]
-mod shards;
 #[cfg(test)]
 mod watermarks;
