@@ -2,10 +2,10 @@
 ghost use Rattle.std.specs.Prelude.{◌≡◌, ◌≤◌, ◌+◌, ◌*◌, drop, length, map};
 ghost use Rattle.slice_store.specs.Stored.{partial_of};
 
-use crate::runs::Runs;
 use agg_laws::{AggTree, Steps};
 use aggregates::Bundle;
 use partials::Partials;
+use slice_runs::Runs;
 
 /// Takes out the partials of the first slices.
 pub fn take_first<T: AggTree<Bundle>, L>(

@@ -1,13 +1,13 @@
 //! A slice is split in two.
 ghost use Rattle.std.specs.Prelude.{◌≡◌, ◌≤◌, ◌+◌, ◌*◌, [], length, map, slice_index_or};
-ghost use Rattle.slice_store.specs.Slices.{CanSplit, split_at};
+ghost use Rattle.slice_runs.specs.Slices.{CanSplit, split_at};
 ghost use Rattle.slice_store.specs.Stored.{partial_of};
 
 use crate::lifting::folded;
-use crate::runs::Runs;
 use agg_laws::{AggTree, Steps};
 use aggregates::Bundle;
 use partials::Partials;
+use slice_runs::Runs;
 
 /// Splits a slice at a time inside it, and folds the tuples of both parts.
 pub fn split<T: AggTree<Bundle>, L>(

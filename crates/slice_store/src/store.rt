@@ -13,21 +13,19 @@ ghost use Rattle.stream_base.specs.Model.Windows.{first_time, last_time, within}
 ghost use Rattle.aggregates.specs.Bundled.{bundle_of};
 ghost use Rattle.window_laws.specs.Runs.{IsAligned, parted_at, runs_within};
 ghost use Rattle.partials.specs.Apart.{IsReachOver};
-ghost use Rattle.slice_store.specs.Entered.{IsPut, is_across, is_last, marks_left, placed_in, slices_from, slices_near};
-ghost use Rattle.slice_store.specs.Slices.{joined, kept_at, slice_of, values_of};
+ghost use Rattle.slice_runs.specs.Touched.{is_across, marks_left, slices_from};
+ghost use Rattle.slice_store.specs.Entered.{IsPut, is_last, placed_in, slices_near};
+ghost use Rattle.slice_runs.specs.Slices.{joined, kept_at, slice_of, values_of};
 ghost use Rattle.slice_store.specs.Stored.{IsAsBefore, IsSliced, IsStore, tuples_of};
 
-use crate::cuts::{first_entered, last_entered};
 use crate::entering::enter;
 use crate::leaving::take_first;
-use crate::marks::{add_mark, keep_last};
 use crate::placed::Placed;
-use crate::runs::Runs;
-use crate::slice::Slice;
 use crate::splitting::split;
 use agg_laws::{AggTree, Steps};
 use aggregates::Bundle;
 use partials::Partials;
+use slice_runs::{Runs, Slice, add_mark, first_entered, keep_last, last_entered};
 use std::alloc::Global;
 use std::marker::Model;
 use stream_base::{Defs, Kept, NoMemory};

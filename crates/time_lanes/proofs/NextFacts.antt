@@ -22,12 +22,12 @@ use Rattle.window_laws.proofs.NextFacts.{next_of_timed, none_next_of_timed}
 use Rattle.window_laws.proofs.Order.{All-split}
 use Rattle.window_laws.proofs.RunEdits.{parted}
 use Rattle.window_laws.proofs.WalkFacts.{none_due, walks_on}
-use Rattle.slice_store.specs.declared.slice.Slice.{Slice}
-use Rattle.slice_store.specs.Slices.{AreSlices, joined, slice_of}
+use Rattle.slice_runs.specs.declared.slice.Slice.{Slice}
+use Rattle.slice_runs.specs.Slices.{AreSlices, joined, slice_of}
 use Rattle.slice_store.specs.Stored.{IsStore, Stored, tuples_of}
-use Rattle.slice_store.proofs.FoldFacts.{within_aligned}
-use Rattle.slice_store.proofs.PartialFacts.{all_end}
-use Rattle.slice_store.proofs.SliceOrder.{IsApart, IsNear, first_below_last, run_above_first, run_below_last, above_slice}
+use Rattle.slice_runs.proofs.WithinFacts.{within_aligned}
+use Rattle.slice_runs.proofs.SliceFacts.{all_end}
+use Rattle.slice_runs.proofs.SliceOrder.{IsApart, IsNear, first_below_last, run_above_first, run_below_last, above_slice}
 use Rattle.time_lanes.specs.Held.{IsEndFrom, IsNextDue, IsNextIn}
 use Rattle.time_lanes.specs.Moves.{moment}
 use Rattle.time_lanes.specs.Spans.{IsSpan}

@@ -6,8 +6,8 @@ use Rattle.stream_base.specs.Model.Windows.{within}
 use Rattle.aggregates.specs.Bundled.{Bundled}
 use Rattle.window_laws.specs.Runs.{IsAligned, runs_within}
 use Rattle.window_laws.specs.Walk.{IsFirstFrom, due_from, next_start}
-use Rattle.slice_store.specs.declared.slice.Slice.{Slice}
-use Rattle.slice_store.specs.Slices.{joined, slice_of}
+use Rattle.slice_runs.specs.declared.slice.Slice.{Slice}
+use Rattle.slice_runs.specs.Slices.{joined, slice_of}
 use Rattle.slice_store.specs.Stored.{Stored, tuples_of}
 use Rattle.time_lanes.specs.Lane.{partials_of}
 

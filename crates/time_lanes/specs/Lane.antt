@@ -6,7 +6,7 @@ use Rattle.aggregates.specs.Bundled.{Bundled, bundle_of}
 use Rattle.window_laws.specs.Late.{length_of, slide_of}
 use Rattle.window_laws.specs.Runs.{runs_within}
 use Rattle.window_laws.specs.Walk.{next_start_of}
-use Rattle.slice_store.specs.Slices.{values_of}
+use Rattle.slice_runs.specs.Slices.{values_of}
 use Rattle.slice_store.specs.Stored.{Stored}
 use Rattle.time_lanes.specs.Spans.{IsEdge, last_end_of}
 

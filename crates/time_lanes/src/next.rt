@@ -10,7 +10,8 @@ ghost use Rattle.time_lanes.specs.Spans.{ArePartedAt};
 use crate::span::Span;
 use agg_laws::AggTree;
 use aggregates::Bundle;
-use slice_store::{Slice, SliceStore};
+use slice_runs::Slice;
+use slice_store::SliceStore;
 use stream_base::FINAL;
 
 // The first slice that begins in an interval.

@@ -4,7 +4,7 @@ ghost use Rattle.stream_base.specs.declared.kept.Kept.{Kept};
 ghost use Rattle.stream_base.specs.Model.Changes.{row_of};
 ghost use Rattle.stream_base.specs.Model.Windows.{interval, within};
 ghost use Rattle.aggregates.specs.Bundled.{bundle_of};
-ghost use Rattle.slice_store.specs.Slices.{values_of};
+ghost use Rattle.slice_runs.specs.Slices.{values_of};
 ghost use Rattle.time_lanes.specs.Late.{former_if};
 
 use aggregates::Bundle;

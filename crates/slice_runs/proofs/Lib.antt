@@ -1,0 +1,13 @@
+pub mod CutFacts
+pub mod PlaceFacts
+pub mod SliceOrder
+pub mod SliceEdits
+pub mod BoundEdits
+pub mod SliceParts
+pub mod SliceFacts
+pub mod NearFacts
+pub mod PutFacts
+pub mod WithinFacts
+pub mod SplitFacts
+pub mod MarkFacts
+pub mod LeaveFacts

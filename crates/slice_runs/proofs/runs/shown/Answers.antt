@@ -1,0 +1,6 @@
+-- By the first tuple and the last.
+use Rattle.slice_runs.proofs.SplitFacts.{shown_is}
+use Rattle.slice_runs.proofs.runs.shown.Goals as goal
+
+pub returns : goal.returns
+returns c = shown_is c.args.tuples.now
