@@ -1,5 +1,5 @@
 -- The change takes out the pair with the key, if there is one.
-use Rattle.std.proofs.Common.{true, ◌≡◌, ◌-◌, None, Some, length, sym, ap, ◌∙◌, arith, rules}
+use Rattle.std.proofs.Common.{true, ◌≡◌, ◌-◌, None, Some, length, sym, ap, ◌∙◌, arith}
 use Rattle.std.specs.Option.{option_map}
 use Rattle.agg_laws.specs.Pairs.{has_key, value_at, without}
 use Rattle.fiba_arena.specs.Changes.{pairs_of}
@@ -10,7 +10,7 @@ pub invariant_of-self : goal.invariant_of-self
 invariant_of-self g c =
     let m = g.M.Monoid in
     let changed = c.take-changed.ensures.changed in
-    let none : c.take-changed.result.taken ≡ None = search rules in
+    let none : c.take-changed.result.taken ≡ None = c.in_err-item.was in
     let zero : length (pairs_of c.take-changed.result.taken) ≡ 0 = ap (λ o. length (pairs_of o)) none in
     record { arena = arena_removed m.is_value m.empty m.op true true c.self.inside.nodes c.take-changed.new.nodes c.self.inside.root c.take-changed.result.root c.self.inside.count c.self.inside.limit c.self.invariant.arena (omega (arith, c.self.ranges)) c.args.key c.take-changed.result.taken c.self.inside.count (omega (arith, zero)) changed; first = c.start_of-self-inside.ensures.front; last = c.end_of-self-inside.ensures.finger }
 
@@ -21,7 +21,7 @@ pub invariant_of-self-2 : goal.invariant_of-self-2
 invariant_of-self-2 g c =
     let m = g.M.Monoid in
     let changed = c.take-changed.ensures.changed in
-    let some : c.take-changed.result.taken ≡ Some c.in_ok-item.item = search rules in
+    let some : c.take-changed.result.taken ≡ Some c.in_ok-item.item = c.in_ok-item.was in
     let done = removed_of m.is_value m.empty m.op true true c.self.inside.nodes c.take-changed.new.nodes c.self.inside.root c.take-changed.result.root c.self.inside.count c.self.inside.limit c.self.invariant.arena (omega (arith, c.self.ranges)) c.args.key c.take-changed.result.taken changed in
     let one : length (pairs_of c.take-changed.result.taken) ≡ 1 = ap (λ o. length (pairs_of o)) some in
     record { arena = arena_removed m.is_value m.empty m.op true true c.self.inside.nodes c.take-changed.new.nodes c.self.inside.root c.take-changed.result.root c.self.inside.count c.self.inside.limit c.self.invariant.arena (omega (arith, c.self.ranges)) c.args.key c.take-changed.result.taken (c.self.inside.count - 1) (omega (arith, one, done.fewer, c.self.invariant.arena.counted)) changed; first = c.start_of-self-inside.ensures.front; last = c.end_of-self-inside.ensures.finger }
@@ -31,8 +31,8 @@ returns-in_err-item-clause-value g c =
     let m = g.M.Monoid in
     let view = ap (λ v. v.pairs) c.self.view_is in
     let changed = c.take-changed.ensures.changed in
-    let none : c.take-changed.result.taken ≡ None = search rules in
-    let answer : c.from_residual.result ≡ None = search rules in
+    let none : c.take-changed.result.taken ≡ None = c.in_err-item.was in
+    let answer : c.from_residual.result ≡ None = c.from_residual.ensures in
     let done = removed_of m.is_value m.empty m.op true true c.self.inside.nodes c.take-changed.new.nodes c.self.inside.root c.take-changed.result.root c.self.inside.count c.self.inside.limit c.self.invariant.arena (omega (arith, c.self.ranges)) c.args.key c.take-changed.result.taken changed in
     answer ∙ sym (ap (option_map (λ x. x.value)) none) ∙ done.value ∙ ap (value_at c.args.key) view
 
@@ -41,8 +41,8 @@ returns-in_err-item-clause-none g c =
     let m = g.M.Monoid in
     let view = ap (λ v. v.pairs) c.self.view_is in
     let changed = c.take-changed.ensures.changed in
-    let none : c.take-changed.result.taken ≡ None = search rules in
-    let answer : c.from_residual.result ≡ None = search rules in
+    let none : c.take-changed.result.taken ≡ None = c.in_err-item.was in
+    let answer : c.from_residual.result ≡ None = c.from_residual.ensures in
     let done = removed_of m.is_value m.empty m.op true true c.self.inside.nodes c.take-changed.new.nodes c.self.inside.root c.take-changed.result.root c.self.inside.count c.self.inside.limit c.self.invariant.arena (omega (arith, c.self.ranges)) c.args.key c.take-changed.result.taken changed in
     (λ e. sym (ap (has_key c.args.key) view) ∙ done.none.0 none, λ e. answer)
 
@@ -59,7 +59,7 @@ returns-clause-value g c =
     let m = g.M.Monoid in
     let view = ap (λ v. v.pairs) c.self.view_is in
     let changed = c.take-changed.ensures.changed in
-    let some : c.take-changed.result.taken ≡ Some c.in_ok-item.item = search rules in
+    let some : c.take-changed.result.taken ≡ Some c.in_ok-item.item = c.in_ok-item.was in
     let done = removed_of m.is_value m.empty m.op true true c.self.inside.nodes c.take-changed.new.nodes c.self.inside.root c.take-changed.result.root c.self.inside.count c.self.inside.limit c.self.invariant.arena (omega (arith, c.self.ranges)) c.args.key c.take-changed.result.taken changed in
     sym (ap (option_map (λ x. x.value)) some) ∙ done.value ∙ ap (value_at c.args.key) view
 

@@ -9,7 +9,7 @@ pub returns-in-Some-clause-replaced : goal.returns-in-Some-clause-replaced
 returns-in-Some-clause-replaced g c =
     let pairs = c.self.inside.pairs.items in
     let at = c.in-Some.at in
-    let stands : StandsAt c.args.key at pairs = search rules in
+    let stands : StandsAt c.args.key at pairs = subst (StandsAt c.args.key at) c.deref.ensures.value c.in-Some.ensures.found in
     let changed = found_replaced c.args.key at pairs (get_or pairs at (c.args.key, c.args.value)) c.self.invariant stands (read_at pairs at (c.args.key, c.args.value) stands.within) c.args.value in
     rw (← c.self.view_is) (sym changed)
 
@@ -17,6 +17,6 @@ pub returns-in-Some-clause-rising : goal.returns-in-Some-clause-rising
 returns-in-Some-clause-rising g c =
     let pairs = c.self.inside.pairs.items in
     let at = c.in-Some.at in
-    let stands : StandsAt c.args.key at pairs = search rules in
+    let stands : StandsAt c.args.key at pairs = subst (StandsAt c.args.key at) c.deref.ensures.value c.in-Some.ensures.found in
     let changed = found_replaced c.args.key at pairs (get_or pairs at (c.args.key, c.args.value)) c.self.invariant stands (read_at pairs at (c.args.key, c.args.value) stands.within) c.args.value in
     subst AreRising changed (rising-replaced c.args.key c.args.value pairs c.self.invariant)

@@ -1,5 +1,5 @@
 -- All from the other time on are held.
-use Rattle.std.proofs.Common.{◌≡◌, ◌∙◌, [], ap, drop, length, sym, rules}
+use Rattle.std.proofs.Common.{◌≡◌, ◌∙◌, [], ap, drop, length, sym}
 use Rattle.std.specs.Prelude.{min}
 use Rattle.window_laws.specs.Runs.{runs_within}
 use Rattle.time_lanes.specs.Held.{Holding}
@@ -10,7 +10,7 @@ use Rattle.time_lanes.proofs.held.Held.shed.Goals as goal
 pub returns-clause-held : goal.returns-clause-held
 returns-clause-held g c = λ le h.
     let s = c.args.store.now.slices in
-    let none : runs_within c.loop-slice.at c.min-end.result s ≡ [] = search rules in
+    let none : runs_within c.loop-slice.at c.min-end.result s ≡ [] = c.in_default.ensures.none in
     let end_is = c.min-end.ensures ∙ ap (λ (h : Holding). min c.args.to h.to) c.self.view_is in
     sym (ap (λ l. drop (length l) c.loop-slice.self.partials) none ∙ drop_none c.loop-slice.self.partials)
     ∙ c.loop-slice.invariant.partials
