@@ -98,6 +98,7 @@ impl Monoid for Bundle {
         self.trace.vouch();
     }
 
+    #[inline(always)]
     fn combine<L>(&self, right: &Bundle, steps: &mut Steps<L>) -> Bundle
         ensures value { result ≡ bundles_combined self.now right.now }
         ensures counted { steps.new ≡ next_count steps.old }

@@ -1,4 +1,4 @@
-ghost use Rattle.std.specs.Prelude.{◌≡◌, ◌≤◌, ◌<◌, ◌+◌, ◌*◌, ◌^◌, ◌↔◌, [], None, IfSome, IfNone, IsTrue, length, take, drop, fold, false};
+ghost use Rattle.std.specs.Prelude.{◌≡◌, ◌≤◌, ◌<◌, ◌+◌, ◌*◌, ◌^◌, ◌↔◌, [], None, Some, IfSome, IfNone, IsTrue, length, take, drop, fold, false};
 ghost use Rattle.agg_laws.specs.Pairs.{AreRising, StandsAt, has_key, inserted, pairs_below, pairs_from, replaced, value_at, within, without, values_of};
 
 use agg_laws::{AggTree, Monoid, Probes, Steps};
@@ -32,6 +32,21 @@ impl<M: Monoid> FlatTree<M> {
     {
         let at = index_of(&self.pairs, key)?;
         Some(self.pairs[at].1)
+    }
+
+    /// Combines the value under a key with another one behind it, in one step.
+    pub fn extend<L>(&mut self, key: u64, more: &M, steps: &mut Steps<L>)
+        requires { IsTrue (has_key key self.old.pairs) }
+        ensures extended { (value : M) → value_at key self.old.pairs ≡ Some value
+            → self.new.pairs ≡ replaced key (M.op value more.now) self.old.pairs }
+        ensures spare { self.old.spare ≤ self.new.spare }
+        ensures reach { length self.new.pairs ≤ length self.old.pairs }
+        ensures cost { steps.new ≤ steps.old + 1 }
+    {
+        if let Some(at) = index_of(&self.pairs, key) {
+            let sum = self.pairs[at].1.combine(more, steps);
+            self.pairs[at] = (key, sum);
+        }
     }
 
     /// A sum with the values with `low <= key < high` behind it, in the order of keys.
@@ -144,12 +159,16 @@ fn place_of<M>(pairs: &[(u64, M)], key: u64) -> usize
     pairs.partition_point(|pair| pair.0 < key)
 }
 
-// Where the pair with this key stands.
+// Where the pair with this key stands, which is often the last one.
 fn index_of<M>(pairs: &[(u64, M)], key: u64) -> Option<usize>
     requires { AreRising pairs.now }
     ensures found { IfSome result (λ at. StandsAt key at pairs.now) }
     ensures none { IfNone result (has_key key pairs.now ≡ false) }
 {
+    let last = pairs.len().saturating_sub(1);
+    if last < pairs.len() && pairs[last].0 == key {
+        return Some(last);
+    }
     let at = place_of(pairs, key);
     if at < pairs.len() && pairs[at].0 == key {
         Some(at)

@@ -164,6 +164,15 @@ module _ {M : Type 0} where
       ap (λ c. option_map (λ (q : ℕ × M). q.1) (cond c (Some p) (find (λ q. q.0 == k) (xs ++ ys)))) (left_false (p.0 == k) (has_key k xs) e)
       ∙ value_near k xs ys (right_false (p.0 == k) (has_key k xs) e)
 
+  -- a key that is there has a value
+  pub value_there : (k : ℕ) (ys : List (ℕ × M)) → has_key k ys ≡ true → (v : M) × (value_at k ys ≡ Some v)
+  value_there k [] h = absurd cc
+  value_there k (p ∷ ys) h = by (p.0 == k) h (value_there k ys)
+    where
+      by : (b : Bool) → (b || has_key k ys) ≡ true → (has_key k ys ≡ true → (v : M) × (value_at k ys ≡ Some v)) → (v : M) × (option_map (λ (q : ℕ × M). q.1) (cond b (Some p) (find (λ q. q.0 == k) ys)) ≡ Some v)
+      by true h later = (p.1, refl)
+      by false h later = later h
+
   -- ---- the first key of a row
   first_is : (k : ℕ) (p : ℕ × M) (zs : List (ℕ × M)) → least_key (p ∷ zs) ≡ Some k → p.0 ≡ k
   first_is k p zs e = cc

@@ -120,8 +120,12 @@ impl<T: AggTree<Bundle>> Partials<T> {
         ensures reach { (self.new).reach ≤ (self.old).reach }
         ensures cost { steps.new ≤ steps.old + 64 * ((self.old).reach + 3) }
     {
-        let own = self.read(low, steps);
-        self.set(low, own.combine(more, steps), steps);
+        if low < self.edge {
+            let own = self.read(low, steps);
+            self.set(low, own.combine(more, steps), steps);
+        } else {
+            self.near.extend(low, more, steps);
+        }
     }
 
     /// Takes out the partial under a time.

@@ -4,8 +4,7 @@
 //! *From* tuples and times *to* the slices behind them. *Stands on* `stream_base`, `window_laws` and
 //! `window_cuts` for where the cuts are. *Promise*: slices are lists of tuples, and an edit makes of
 //! those lists what its contract says: a tuple enters up to two neighbours, which become one, a time
-//! splits a slice in two, and the first slices leave. How slices show is kept beside the tuples, and
-//! a look at it costs no walk.
+//! splits a slice in two, and the first slices leave.
 #![tactic(auto)]
 
 mod bounds;

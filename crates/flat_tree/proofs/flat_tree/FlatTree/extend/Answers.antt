@@ -1,0 +1,27 @@
+-- The list falls apart around the pair whose value another one is combined with.
+use Rattle.std.proofs.Common.{◌≡◌, ◌∙◌, Some, subst, sym, ap}
+use Rattle.agg_laws.specs.Pairs.{AreRising, StandsAt, replaced, value_at}
+use Rattle.agg_laws.proofs.RisingPairs.{rising-replaced}
+use Rattle.flat_tree.proofs.Places.{found_replaced, found_value}
+use Rattle.flat_tree.proofs.flat_tree.FlatTree.extend.Goals as goal
+
+same_value : {M : Type 0} (x y : M) → Some x ≡ Some y → x ≡ y
+same_value x y e = cc
+
+pub invariant_of-self : goal.invariant_of-self
+invariant_of-self g c =
+    let pairs = c.self.inside.pairs.items in
+    let at = c.in-Some.at in
+    let stands : StandsAt c.args.key at pairs = subst (StandsAt c.args.key at) c.deref.ensures.value c.in-Some.ensures.found in
+    subst AreRising (found_replaced c.args.key at pairs c.index.result.now c.self.invariant stands c.index.ensures c.combine-sum.result) (rising-replaced c.args.key c.combine-sum.result pairs c.self.invariant)
+
+pub returns-in-Some-clause-extended : goal.returns-in-Some-clause-extended
+returns-in-Some-clause-extended g c value e =
+    let pairs = c.self.inside.pairs.items in
+    let at = c.in-Some.at in
+    let p = c.index.result.now in
+    let stands : StandsAt c.args.key at pairs = subst (StandsAt c.args.key at) c.deref.ensures.value c.in-Some.ensures.found in
+    let found : value_at c.args.key c.args.self.now.pairs ≡ Some p.1 = rw (← c.self.view_is) (found_value c.args.key at pairs p c.self.invariant stands c.index.ensures) in
+    let own : p.1 ≡ value = same_value p.1 value (sym found ∙ e) in
+    let sum : c.combine-sum.result ≡ g.M.Monoid.op value c.args.more.now = c.combine-sum.ensures.value ∙ ap (λ v. g.M.Monoid.op v c.args.more.now) own in
+    rw (← c.self.view_is) (sym (found_replaced c.args.key at pairs p c.self.invariant stands c.index.ensures c.combine-sum.result) ∙ ap (λ v. replaced c.args.key v pairs) sum)

@@ -1,0 +1,32 @@
+-- The pair with the key is in the tree where the key is below the edge, and else in the row.
+use Rattle.std.proofs.Common.{◌∙◌, ◌++◌, ap, sym, subst, arith}
+use Rattle.partials.specs.Apart.{AreFrom}
+use Rattle.aggregates.specs.Bundled.{bundles_combined}
+use Rattle.partials.proofs.RowFacts.{absent_behind, from_replaced, replaced_near, there_near, value_near, value_there}
+use Rattle.partials.proofs.partials.Partials.extend.Goals as goal
+
+pub extend-requires : goal.extend-requires
+extend-requires g c =
+    let s = c.self.inside in
+    let xs = g.T.AggTree.pairs s.tree in
+    there_near c.args.low xs s.near.pairs (rw (← c.self.view_is) at c.requires.there) (absent_behind s.edge c.args.low xs c.if-low-self.false c.self.invariant.below)
+
+pub invariant_of-self : goal.invariant_of-self
+invariant_of-self g c =
+    let s = c.self.inside in
+    let xs = g.T.AggTree.pairs s.tree in
+    let there = value_there c.args.low s.near.pairs (there_near c.args.low xs s.near.pairs (rw (← c.self.view_is) at c.requires.there) (absent_behind s.edge c.args.low xs c.if-low-self.false c.self.invariant.below)) in
+    record {
+      below = c.self.invariant.below;
+      from = subst (AreFrom s.edge) (sym (c.extend.ensures.extended there.0 there.1)) (from_replaced s.edge c.args.low (bundles_combined there.0 c.args.more.now) s.near.pairs c.self.invariant.from);
+      few = omega (arith, c.self.invariant.few, c.extend.ensures.reach);
+    }
+
+pub returns-else-low-self-clause-extended : goal.returns-else-low-self-clause-extended
+returns-else-low-self-clause-extended g c b is e =
+    let s = c.self.inside in
+    let xs = g.T.AggTree.pairs s.tree in
+    let absent = absent_behind s.edge c.args.low xs c.if-low-self.false c.self.invariant.below in
+    rw (← c.self.view_is)
+    (ap (λ l. xs ++ l) (c.extend.ensures.extended b (sym (value_near c.args.low xs s.near.pairs absent) ∙ (rw (← c.self.view_is) at e)))
+    ∙ sym (replaced_near c.args.low (bundles_combined b c.args.more.now) xs s.near.pairs absent))
