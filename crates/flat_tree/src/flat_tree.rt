@@ -1,26 +1,26 @@
 ghost use Rattle.std.specs.Prelude.{◌≡◌, ◌≤◌, ◌<◌, ◌+◌, ◌*◌, ◌^◌, ◌↔◌, [], None, Some, IfSome, IfNone, IsTrue, length, take, drop, fold, false};
 ghost use Rattle.agg_laws.specs.Pairs.{AreRising, StandsAt, has_key, inserted, pairs_below, pairs_from, replaced, value_at, within, without, values_of};
 
+use crate::front_vec::FrontVec;
 use agg_laws::{AggTree, Monoid, Probes, Steps};
 use std::alloc::Global;
 use std::marker::Model;
 use stream_base::NoMemory;
 
 /// The plain tree of aggregates: a vector of pairs, sorted by key. It has no nodes and so no
-/// height; its reach is its length.
+/// height; its reach is its length. Its first pair leaves without a move of the others.
 #[derive(Debug, Drop)]
 pub struct FlatTree<M> {
-    pairs: Vec<(u64, M)>,
+    pairs: FrontVec<(u64, M)>,
 }
 
 impl<M> Model for FlatTree<M> {
-    ghost use Rattle.std.specs.Prelude.{◌-◌, vec_len, vec_capacity};
     ghost use Rattle.flat_tree.specs.Flat.{Flat};
     ghost use Rattle.agg_laws.specs.Pairs.{AreRising};
 
     ghost Value = { Flat M };
 
-    ghost view = { λ t. record { pairs = t.pairs.items; spare = vec_capacity t.pairs - vec_len t.pairs } };
+    ghost view = { λ t. record { pairs = t.pairs.items; spare = t.pairs.spare } };
 
     ghost invariant = { λ t. AreRising t.pairs.items };
 }
@@ -30,11 +30,12 @@ impl<M: Monoid> FlatTree<M> {
     pub fn get(&self, key: u64) -> Option<M>
         ensures { result ≡ value_at key self.now.pairs }
     {
-        let at = index_of(&self.pairs, key)?;
-        Some(self.pairs[at].1)
+        let pairs = self.pairs.as_slice();
+        let at = index_of(pairs, key)?;
+        Some(pairs[at].1)
     }
 
-    /// Combines the value under a key with another one behind it, in one step.
+    /// Combines the value under a key with another one behind it, in one step at most.
     pub fn extend<L>(&mut self, key: u64, more: &M, steps: &mut Steps<L>)
         requires { IsTrue (has_key key self.old.pairs) }
         ensures extended { (value : M) → value_at key self.old.pairs ≡ Some value
@@ -43,9 +44,10 @@ impl<M: Monoid> FlatTree<M> {
         ensures reach { length self.new.pairs ≤ length self.old.pairs }
         ensures cost { steps.new ≤ steps.old + 1 }
     {
-        if let Some(at) = index_of(&self.pairs, key) {
-            let sum = self.pairs[at].1.combine(more, steps);
-            self.pairs[at] = (key, sum);
+        let pairs = self.pairs.as_slice();
+        if let Some(at) = index_of(pairs, key) {
+            let sum = pairs[at].1.combine(more, steps);
+            self.pairs.set(at, (key, sum));
         }
     }
 
@@ -54,7 +56,7 @@ impl<M: Monoid> FlatTree<M> {
         ensures value { result ≡ fold M.op sum (values_of (within low high self.now.pairs)) }
         ensures cost { steps.new ≤ steps.old + length (within low high self.now.pairs) }
     {
-        fold_pairs(sum, range_of(&self.pairs, low, high), steps)
+        fold_pairs(sum, range_of(self.pairs.as_slice(), low, high), steps)
     }
 }
 
@@ -69,13 +71,12 @@ impl<M: Monoid> AggTree<M> for FlatTree<M> {
 
     fn fresh(alloc: Global) -> FlatTree<M> {
         FlatTree {
-            pairs: Vec::new(alloc),
+            pairs: FrontVec::new(alloc),
         }
     }
 
     fn reserve(&mut self, room: u64) -> Result<(), NoMemory> {
-        self.pairs.reserve(room as usize)?;
-        Ok(())
+        self.pairs.reserve(room as usize)
     }
 
     /// Puts a value under a key that isn't there, behind those with lower keys. No step.
@@ -90,8 +91,8 @@ impl<M: Monoid> AggTree<M> for FlatTree<M> {
         ensures cost { steps.new ≤ steps.old + 64 * (length self.old.pairs + 2) }
         ensures no_step { steps.new ≡ steps.old }
     {
-        let at = place_of(&self.pairs, key);
-        self.pairs.insert(at, (key, value)).unwrap();
+        let at = place_of(self.pairs.as_slice(), key);
+        self.pairs.insert(at, (key, value));
     }
 
     /// Puts another value under a key that is there. No step.
@@ -105,8 +106,8 @@ impl<M: Monoid> AggTree<M> for FlatTree<M> {
         ensures cost { steps.new ≤ steps.old + 64 * (length self.old.pairs + 2) }
         ensures no_step { steps.new ≡ steps.old }
     {
-        if let Some(at) = index_of(&self.pairs, key) {
-            self.pairs[at] = (key, value);
+        if let Some(at) = index_of(self.pairs.as_slice(), key) {
+            self.pairs.set(at, (key, value));
         }
     }
 
@@ -123,20 +124,20 @@ impl<M: Monoid> AggTree<M> for FlatTree<M> {
         ensures cost { steps.new ≤ steps.old + 64 * (length self.old.pairs + 2) }
         ensures no_step { steps.new ≡ steps.old }
     {
-        let at = index_of(&self.pairs, key)?;
+        let at = index_of(self.pairs.as_slice(), key)?;
         Some(self.pairs.remove(at).1)
     }
 
     fn first_key(&self) -> Option<u64> {
-        self.pairs.first().map(|pair| pair.0)
+        self.pairs.as_slice().first().map(|pair| pair.0)
     }
 
     fn fold_range<L>(&self, low: u64, high: u64, _probes: &mut Probes, steps: &mut Steps<L>) -> M {
-        fold_pairs(M::unit(), range_of(&self.pairs, low, high), steps)
+        fold_pairs(M::unit(), range_of(self.pairs.as_slice(), low, high), steps)
     }
 
     fn len(&self) -> u64 {
-        self.pairs.len() as u64
+        self.pairs.as_slice().len() as u64
     }
 
     /// A vector has no nodes, and so no height.

@@ -5,5 +5,6 @@
 #![tactic(auto)]
 
 mod flat_tree;
+mod front_vec;
 
 pub use flat_tree::FlatTree;

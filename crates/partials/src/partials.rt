@@ -121,11 +121,26 @@ impl<T: AggTree<Bundle>> Partials<T> {
         ensures cost { steps.new ≤ steps.old + 64 * ((self.old).reach + 3) }
     {
         if low < self.edge {
-            let own = self.read(low, steps);
-            self.set(low, own.combine(more, steps), steps);
+            self.extend_older(low, more, steps);
         } else {
             self.near.extend(low, more, steps);
         }
+    }
+
+    // The same, by reading the partial and putting the sum in its place. Inside `extend` its local
+    // variables would be cleared for each tuple in order, too.
+    #[inline(always)]
+    fn extend_older<L>(&mut self, low: u64, more: &Bundle, steps: &mut Steps<L>)
+        requires time { low ≤ TIME_MAX }
+        requires there { IsTrue (has_key low (self.old).pairs) }
+        ensures extended { (b : Bundled) → IsBundle b → value_at low (self.old).pairs ≡ Some b
+            → (self.new).pairs ≡ replaced low (bundles_combined b more.now) (self.old).pairs }
+        ensures spare { (self.old).spare ≤ (self.new).spare }
+        ensures reach { (self.new).reach ≤ (self.old).reach }
+        ensures cost { steps.new ≤ steps.old + 64 * ((self.old).reach + 3) }
+    {
+        let own = self.read(low, steps);
+        self.set(low, own.combine(more, steps), steps);
     }
 
     /// Takes out the partial under a time.

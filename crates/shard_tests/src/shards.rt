@@ -39,6 +39,24 @@ fn put(
     Ok(shard.apply(&entry, steps)?)
 }
 
+// Entries of so many sources, one after another.
+fn put_all(
+    rt: &impl Abort,
+    shard: &mut Shard,
+    sources: u16,
+    entries: &[(u16, What)],
+    steps: &mut Steps<Work>,
+) -> Result<(), Fail>
+    requires { shard.old.sources ≡ sources }
+    ensures { OnOk result (shard.new.sources ≡ sources) }
+{
+    for (source, what) in entries {
+        assert!(rt; *source < sources);
+        put(rt, shard, *source, *what, steps)?;
+    }
+    Ok(())
+}
+
 // Three entries of the first source.
 fn put_three(
     rt: &impl Abort,
@@ -210,17 +228,20 @@ fn an_idle_source_holds_nobody_back(rt: HostRuntime) -> Result<(), Fail> {
     let mut steps: Steps<Work> = Steps::start(&rt);
     let mut shard = empty_shard(rt.alloc(), Func::Sum, 2)?;
     let a = KeyText::from_bytes(b"a")?;
-    put(&rt, &mut shard, 0, tuple(a, 5, 1), &mut steps)?;
-    put(&rt, &mut shard, 0, water(20), &mut steps)?;
-    put(&rt, &mut shard, 1, What::Idle, &mut steps)?;
-    put(&rt, &mut shard, 1, water(3), &mut steps)?;
-    put(&rt, &mut shard, 1, tuple(a, 15, 2), &mut steps)?;
-    put(&rt, &mut shard, 1, tuple(a, 25, 4), &mut steps)?;
-    put(&rt, &mut shard, 1, What::Idle, &mut steps)?;
-    put(&rt, &mut shard, 0, What::Idle, &mut steps)?;
-    put(&rt, &mut shard, 0, water(30), &mut steps)?;
-    put(&rt, &mut shard, 0, What::End, &mut steps)?;
-    put(&rt, &mut shard, 1, What::End, &mut steps)?;
+    let entries = [
+        (0, tuple(a, 5, 1)),
+        (0, water(20)),
+        (1, What::Idle),
+        (1, water(3)),
+        (1, tuple(a, 15, 2)),
+        (1, tuple(a, 25, 4)),
+        (1, What::Idle),
+        (0, What::Idle),
+        (0, water(30)),
+        (0, What::End),
+        (1, What::End),
+    ];
+    put_all(&rt, &mut shard, 2, &entries, &mut steps)?;
     let first = [emission(a, 0, 10, 1, 1)];
     assert_eq!(rt; under(&rt, &shard, 2), first.as_slice());
     let dropped = [Change::Dropped];

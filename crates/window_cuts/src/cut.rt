@@ -1,13 +1,13 @@
 ghost use Rattle.std.specs.Prelude.{◌≡◌, ◌≤◌, ◌↔◌, [], IsTrue};
 ghost use Rattle.std.specs.List.{Any};
 ghost use Rattle.stream_base.specs.Limits.{IsKindWithin};
-ghost use Rattle.stream_base.specs.Model.Cuts.{CutsBetween, cuts_between, has_cut, bounds_up_to, has_bound};
+ghost use Rattle.stream_base.specs.Model.Cuts.{CutsBetween, cuts_between, has_cut, has_bound};
 
 use stream_base::{Defs, Kind, TIME_MAX};
 
 /// Whether there is a cut between two times: a tumbling or sliding window starts or ends after
 /// `low` and at or before `high`, or they are at least the least session gap apart. No interval is
-/// walked: the starts and ends up to either time are counted by a division.
+/// walked: how far the last start or end lies before `high` is the remainder of a division.
 pub fn cut_between(defs: &Defs, low: u64, high: u64) -> bool
     requires ordered { low ≤ high }
     requires in_time { high ≤ TIME_MAX }
@@ -22,7 +22,6 @@ pub fn cut_between(defs: &Defs, low: u64, high: u64) -> bool
 fn cuts(kind: &Kind, low: u64, high: u64) -> bool
     requires kind { IsKindWithin kind.now }
     requires ordered { low ≤ high }
-    requires in_time { high ≤ TIME_MAX }
     ensures { result ≡ cuts_between kind.now low high }
 {
     match *kind {
@@ -35,23 +34,14 @@ fn cuts(kind: &Kind, low: u64, high: u64) -> bool
     }
 }
 
+// The last bound at or before `high` lies as far before it as the remainder says.
 fn has_bound(offset: u64, slide: u64, low: u64, high: u64) -> bool
     requires slide { 1 ≤ slide }
     requires ordered { low ≤ high }
-    requires in_time { high ≤ TIME_MAX }
     ensures { result ≡ has_bound offset slide low high }
 {
-    bounds_up_to(offset, slide, low) < bounds_up_to(offset, slide, high)
-}
-
-fn bounds_up_to(offset: u64, slide: u64, time: u64) -> u64
-    requires slide { 1 ≤ slide }
-    requires in_time { time ≤ TIME_MAX }
-    ensures { result ≡ bounds_up_to offset slide time }
-{
-    if time < offset {
-        0
-    } else {
-        (time - offset) / slide + 1
+    if high < offset {
+        return false;
     }
+    low < offset || (high - offset) % slide < high - low
 }

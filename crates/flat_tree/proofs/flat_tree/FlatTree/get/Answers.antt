@@ -1,5 +1,5 @@
 -- The pair with the key is the one that stands at its place, and where there is none, no value.
-use Rattle.std.proofs.Common.{◌≡◌, None, false, sym, ◌∙◌, rules, get_or}
+use Rattle.std.proofs.Common.{◌≡◌, None, Some, false, ap, sym, ◌∙◌, rules, get_or}
 use Rattle.agg_laws.specs.Pairs.{StandsAt, has_key}
 use Rattle.flat_tree.proofs.Places.{found_value}
 use Rattle.agg_laws.proofs.RisingPairs.{value_at-absent}
@@ -14,7 +14,7 @@ returns-in_err-at g c =
 pub returns : goal.returns
 returns g c =
     let pairs = c.self.inside.pairs.items in
-    let p = c.index.result.now in
+    let p = c.index-pairs-at.result in
     let stands : StandsAt c.args.key c.in_ok-at.at pairs = search rules in
     let read : p ≡ get_or pairs c.in_ok-at.at p = search rules in
-    rw (← c.self.view_is) (sym (found_value c.args.key c.in_ok-at.at pairs p c.self.invariant stands read))
+    rw (← c.self.view_is) (ap (λ q. Some q.1) (sym c.index-pairs-at.is) ∙ sym (found_value c.args.key c.in_ok-at.at pairs p c.self.invariant stands read))

@@ -8,7 +8,7 @@ use Rattle.flat_tree.proofs.flat_tree.FlatTreeAggTree.remove.Goals as goal
 pub invariant_of-self : goal.invariant_of-self
 invariant_of-self g c =
     let pairs = c.self.inside.pairs.items in
-    let stands : StandsAt c.args.key c.in_ok-at.at pairs = subst (StandsAt c.args.key c.in_ok-at.at) c.deref.ensures.value c.in_ok-at.ensures.found in
+    let stands : StandsAt c.args.key c.in_ok-at.at pairs = subst (StandsAt c.args.key c.in_ok-at.at) c.as_slice.ensures c.in_ok-at.ensures.found in
     let rest = found_without c.args.key c.in_ok-at.at pairs c.remove.result c.self.invariant stands c.remove.ensures.value in
     subst AreRising (rest ∙ sym c.remove.ensures.items) (rising-without c.args.key pairs c.self.invariant)
 
@@ -18,13 +18,13 @@ returns-clause-rising g c = invariant_of-self g c
 pub returns-clause-value : goal.returns-clause-value
 returns-clause-value g c =
     let pairs = c.self.inside.pairs.items in
-    let stands : StandsAt c.args.key c.in_ok-at.at pairs = subst (StandsAt c.args.key c.in_ok-at.at) c.deref.ensures.value c.in_ok-at.ensures.found in
+    let stands : StandsAt c.args.key c.in_ok-at.at pairs = subst (StandsAt c.args.key c.in_ok-at.at) c.as_slice.ensures c.in_ok-at.ensures.found in
     rw (← c.self.view_is) (sym (found_value c.args.key c.in_ok-at.at pairs c.remove.result c.self.invariant stands c.remove.ensures.value))
 
 pub returns-clause-rest : goal.returns-clause-rest
 returns-clause-rest g c =
     let pairs = c.self.inside.pairs.items in
-    let stands : StandsAt c.args.key c.in_ok-at.at pairs = subst (StandsAt c.args.key c.in_ok-at.at) c.deref.ensures.value c.in_ok-at.ensures.found in
+    let stands : StandsAt c.args.key c.in_ok-at.at pairs = subst (StandsAt c.args.key c.in_ok-at.at) c.as_slice.ensures c.in_ok-at.ensures.found in
     let rest = found_without c.args.key c.in_ok-at.at pairs c.remove.result c.self.invariant stands c.remove.ensures.value in
     rw (← c.self.view_is) (c.remove.ensures.items ∙ sym rest)
 
