@@ -20,7 +20,7 @@ use Rattle.stream_base.proofs.Rising.{Contains-insert_key, Contains-insert_key_c
 use Rattle.window_laws.specs.Runs.{AreParted, IsAligned}
 use Rattle.window_laws.proofs.Order.{All-split, IsApart, IsNear, pieces_in_order}
 use Rattle.slice_runs.specs.Slices.{joined}
-use Rattle.slice_store.specs.Stored.{Stored, tuples_of}
+use Rattle.agg_store.specs.Stored.{Stored, tuples_of}
 use Rattle.context_windows.specs.declared.span.Span.{Span}
 use Rattle.context_windows.specs.Aligned.{IsOfWindows}
 use Rattle.context_windows.specs.Held.{AreAlignedWith, IsAlignedWith}

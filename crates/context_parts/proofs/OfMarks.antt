@@ -23,7 +23,7 @@ use Rattle.window_laws.specs.After.{at_water}
 use Rattle.window_laws.specs.Settled.{MayLeave, without_first}
 use Rattle.window_laws.proofs.InstanceFacts.{between_ends}
 use Rattle.window_laws.proofs.Order.{All-map_of}
-use Rattle.slice_store.specs.Stored.{Stored, tuples_of}
+use Rattle.agg_store.specs.Stored.{Stored, tuples_of}
 use Rattle.context_windows.specs.declared.span.Span.{Span}
 use Rattle.context_windows.specs.Ahead.{start_after}
 use Rattle.context_windows.specs.Marked.{AreIntervals, FollowsMarks, HoldsStretches, IsEdge, Marked, marks_window, stretches_after}

@@ -15,7 +15,7 @@ use Rattle.stream_base.proofs.ChangeFacts.{none_emitted, none_retracted}
 use Rattle.stream_base.proofs.Distinct.{All_from_members, standing_rises}
 use Rattle.window_laws.specs.After.{with_mark}
 use Rattle.window_laws.specs.Settled.{MayLeave}
-use Rattle.slice_store.specs.Stored.{Stored, tuples_of}
+use Rattle.agg_store.specs.Stored.{Stored, tuples_of}
 use Rattle.context_windows.specs.Aligned.{IsOfSessions}
 use Rattle.context_windows.specs.Held.{HoldsSessions}
 use Rattle.context_windows.specs.Spanned.{Follows, IsSession, IsSessionAt, Spanned, gap_at, gap_of, sessions_after, window_at}

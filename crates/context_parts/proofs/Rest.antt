@@ -26,7 +26,7 @@ use Rattle.window_laws.proofs.LeaveChanges.{may_leave_after_tuple, tuple_enters_
 use Rattle.window_laws.proofs.LeaveFacts.{EndBy, firsts_leave}
 use Rattle.window_laws.proofs.RunFacts.{put_behind, put_first}
 use Rattle.window_laws.proofs.SettledFacts.{all_member, settled_by_times}
-use Rattle.slice_store.specs.Stored.{IsSliced, Stored, tuples_of}
+use Rattle.agg_store.specs.Stored.{IsSliced, Stored, tuples_of}
 use Rattle.context_windows.specs.Aligned.{IsOfWindows}
 use Rattle.context_windows.specs.Spanned.{window_at}
 use Rattle.context_windows.proofs.Parts.{fewer_pass, filter_alike}

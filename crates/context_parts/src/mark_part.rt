@@ -3,11 +3,10 @@ ghost use Rattle.std.specs.Prelude.{◌≡◌, ◌<◌, length};
 ghost use Rattle.context_windows.specs.Spanned.{window_at};
 
 use crate::settled::settled_with;
-use agg_laws::{AggTree, Steps};
-use aggregates::Bundle;
+use agg_laws::Steps;
+use agg_store::AggStore;
 use context_windows::MarkWindows;
 use key_parts::KeyPart;
-use slice_store::SliceStore;
 use std::alloc::Global;
 use stream_base::{Change, Defs, Func, KeyText, NoMemory};
 
@@ -95,11 +94,11 @@ impl KeyPart for MarkPart {
         self.windows.reserve(window, time, water)
     }
 
-    fn before<T: AggTree<Bundle>, L>(
+    fn before<S: AggStore, L>(
         &mut self,
         defs: &Defs,
         window: u32,
-        store: &SliceStore<T>,
+        store: &S,
         time: u64,
         water: u64,
         steps: &mut Steps<L>,
@@ -108,11 +107,11 @@ impl KeyPart for MarkPart {
         self.windows.before(window, func, store, time, water, steps);
     }
 
-    fn put<T: AggTree<Bundle>, L>(
+    fn put<S: AggStore, L>(
         &mut self,
         defs: &Defs,
         window: u32,
-        store: &SliceStore<T>,
+        store: &S,
         key: &KeyText,
         pos: u64,
         time: u64,
@@ -139,11 +138,11 @@ impl KeyPart for MarkPart {
         self.windows.reserve(window, time, water)
     }
 
-    fn mark<T: AggTree<Bundle>, L>(
+    fn mark<S: AggStore, L>(
         &mut self,
         defs: &Defs,
         window: u32,
-        store: &SliceStore<T>,
+        store: &S,
         key: &KeyText,
         time: u64,
         water: u64,
@@ -155,11 +154,11 @@ impl KeyPart for MarkPart {
             .mark(window, func, store, key, time, water, out, steps);
     }
 
-    fn reserve_water<T: AggTree<Bundle>>(
+    fn reserve_water<S: AggStore>(
         &mut self,
         defs: &Defs,
         window: u32,
-        store: &SliceStore<T>,
+        store: &S,
         old: u64,
         new: u64,
     ) -> Result<u64, NoMemory> {
@@ -168,11 +167,11 @@ impl KeyPart for MarkPart {
         Ok(self.windows.due(window, old, new))
     }
 
-    fn water<T: AggTree<Bundle>, L>(
+    fn water<S: AggStore, L>(
         &mut self,
         defs: &Defs,
         window: u32,
-        store: &SliceStore<T>,
+        store: &S,
         key: &KeyText,
         old: u64,
         new: u64,
@@ -184,13 +183,7 @@ impl KeyPart for MarkPart {
             .water(window, func, store, key, old, new, out, steps);
     }
 
-    fn next_due<T: AggTree<Bundle>>(
-        &self,
-        defs: &Defs,
-        window: u32,
-        store: &SliceStore<T>,
-        water: u64,
-    ) -> u64 {
+    fn next_due<S: AggStore>(&self, defs: &Defs, window: u32, store: &S, water: u64) -> u64 {
         let _ = defs;
         let _ = window;
         let _ = store;

@@ -1,12 +1,11 @@
 //! The part of a session window in the state of a key.
-ghost use Rattle.std.specs.Prelude.{◌≡◌, ◌≤◌, ◌-◌, ℕ, length};
+ghost use Rattle.std.specs.Prelude.{◌≤◌, ◌-◌, length};
 
 use crate::settled::settled_with;
-use agg_laws::{AggTree, Steps};
-use aggregates::Bundle;
+use agg_laws::Steps;
+use agg_store::AggStore;
 use context_windows::Sessions;
 use key_parts::KeyPart;
-use slice_store::SliceStore;
 use std::alloc::Global;
 use stream_base::{Change, Defs, KeyText, NoMemory};
 
@@ -83,11 +82,11 @@ impl KeyPart for SessionPart {
         self.sessions.reserve(defs, window, time, water)
     }
 
-    fn before<T: AggTree<Bundle>, L>(
+    fn before<S: AggStore, L>(
         &mut self,
         defs: &Defs,
         window: u32,
-        store: &SliceStore<T>,
+        store: &S,
         time: u64,
         water: u64,
         steps: &mut Steps<L>,
@@ -96,11 +95,11 @@ impl KeyPart for SessionPart {
             .before(defs, window, store, time, water, steps);
     }
 
-    fn put<T: AggTree<Bundle>, L>(
+    fn put<S: AggStore, L>(
         &mut self,
         defs: &Defs,
         window: u32,
-        store: &SliceStore<T>,
+        store: &S,
         key: &KeyText,
         pos: u64,
         time: u64,
@@ -128,11 +127,11 @@ impl KeyPart for SessionPart {
     }
 
     // A mark changes no session.
-    fn mark<T: AggTree<Bundle>, L>(
+    fn mark<S: AggStore, L>(
         &mut self,
         defs: &Defs,
         window: u32,
-        store: &SliceStore<T>,
+        store: &S,
         key: &KeyText,
         time: u64,
         water: u64,
@@ -140,11 +139,11 @@ impl KeyPart for SessionPart {
         steps: &mut Steps<L>,
     ) {}
 
-    fn reserve_water<T: AggTree<Bundle>>(
+    fn reserve_water<S: AggStore>(
         &mut self,
         defs: &Defs,
         window: u32,
-        store: &SliceStore<T>,
+        store: &S,
         old: u64,
         new: u64,
     ) -> Result<u64, NoMemory> {
@@ -152,11 +151,11 @@ impl KeyPart for SessionPart {
         Ok(self.sessions.due(defs, window, old, new))
     }
 
-    fn water<T: AggTree<Bundle>, L>(
+    fn water<S: AggStore, L>(
         &mut self,
         defs: &Defs,
         window: u32,
-        store: &SliceStore<T>,
+        store: &S,
         key: &KeyText,
         old: u64,
         new: u64,
@@ -167,13 +166,7 @@ impl KeyPart for SessionPart {
             .water(defs, window, store, key, old, new, out, steps);
     }
 
-    fn next_due<T: AggTree<Bundle>>(
-        &self,
-        defs: &Defs,
-        window: u32,
-        store: &SliceStore<T>,
-        water: u64,
-    ) -> u64 {
+    fn next_due<S: AggStore>(&self, defs: &Defs, window: u32, store: &S, water: u64) -> u64 {
         let _ = defs;
         let _ = window;
         let _ = store;

@@ -18,7 +18,7 @@ use Rattle.stream_base.proofs.Rising.{Contains-head}
 use Rattle.window_laws.specs.Runs.{IsAligned}
 use Rattle.window_laws.proofs.EdgeFacts.{aligned, end_is_cut, marks_align, start_is_cut}
 use Rattle.window_laws.proofs.Order.{All-map_of}
-use Rattle.slice_store.specs.Stored.{Stored, tuples_of}
+use Rattle.agg_store.specs.Stored.{Stored, tuples_of}
 use Rattle.context_windows.specs.declared.span.Span.{Span}
 use Rattle.context_windows.specs.Aligned.{IsOfSessions, IsOfWindows}
 use Rattle.context_windows.specs.Held.{AreAlignedWith, IsAlignedWith}

@@ -19,7 +19,7 @@ use Rattle.stream_base.proofs.Rising.{Contains-head, Contains-tail}
 use Rattle.window_laws.specs.After.{complete_at, emissions_between, retractions_between, with_tuple}
 use Rattle.window_laws.specs.Sessions.{AreChangesOfNear, IsPutInSessions, joined_session}
 use Rattle.window_laws.proofs.PartFacts.{session_changes}
-use Rattle.slice_store.specs.Stored.{Stored, tuples_of}
+use Rattle.agg_store.specs.Stored.{Stored, tuples_of}
 use Rattle.slice_runs.proofs.SliceEdits.{put_length}
 use Rattle.context_windows.specs.declared.span.Span.{Span}
 use Rattle.context_windows.specs.declared.standing.Standing.{Standing}

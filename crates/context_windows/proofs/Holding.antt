@@ -5,7 +5,7 @@ use Rattle.stream_base.specs.declared.change.Change.TheVariants.{New}
 use Rattle.stream_base.specs.declared.func.Func.{Func}
 use Rattle.stream_base.specs.Model.Changes.{row_of}
 use Rattle.stream_base.specs.Model.Windows.{Instance}
-use Rattle.slice_store.specs.Stored.{Stored}
+use Rattle.agg_store.specs.Stored.{Stored}
 use Rattle.context_windows.specs.declared.span.Span.{Span}
 use Rattle.context_windows.specs.declared.standing.Standing.{Standing}
 use Rattle.context_windows.specs.Held.{AreHeld, IsHeld}

@@ -22,7 +22,7 @@ use Rattle.window_laws.specs.Stretches.{AreChangesOfHolder, AreChangesOfParting,
 use Rattle.stream_base.proofs.Filters.{filter_all}
 use Rattle.window_laws.proofs.PartFacts.{holder_changes, parting_changes}
 use Rattle.window_laws.proofs.StretchFacts.{empty_interval}
-use Rattle.slice_store.specs.Stored.{Stored, tuples_of}
+use Rattle.agg_store.specs.Stored.{Stored, tuples_of}
 use Rattle.context_windows.specs.declared.span.Span.{Span}
 use Rattle.context_windows.specs.declared.standing.Standing.{Standing}
 use Rattle.context_windows.specs.Held.{IsHeld}

@@ -25,7 +25,7 @@ use Rattle.stream_base.proofs.Filters.{filter_all}
 use Rattle.window_laws.proofs.Order.{All-split}
 use Rattle.window_laws.proofs.SessionFacts.{put_times}
 use Rattle.window_laws.proofs.StretchFacts.{edges_of, span_of_holder, stretches_after_mark, stretches_after_put}
-use Rattle.slice_store.specs.Stored.{Stored, tuples_of}
+use Rattle.agg_store.specs.Stored.{Stored, tuples_of}
 use Rattle.context_windows.specs.declared.span.Span.{Span}
 use Rattle.context_windows.specs.declared.standing.Standing.{Standing}
 use Rattle.context_windows.specs.Held.{AreHeld, IsHeld}

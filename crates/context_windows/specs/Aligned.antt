@@ -6,7 +6,7 @@ use Rattle.stream_base.specs.declared.kept.Kept.{Kept}
 use Rattle.stream_base.specs.declared.limits.TheConstants.{FINAL}
 use Rattle.stream_base.specs.Laws.{TimesDoNotFall}
 use Rattle.stream_base.specs.Limits.{IsKindWithin}
-use Rattle.slice_store.specs.Stored.{IsSliced, Stored, tuples_of}
+use Rattle.agg_store.specs.Stored.{IsSliced, Stored, tuples_of}
 use Rattle.context_windows.specs.Spanned.{IsSession}
 
 -- the slices are those of tuples in order under these definitions

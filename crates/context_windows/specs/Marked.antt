@@ -14,7 +14,7 @@ use Rattle.stream_base.specs.Model.Changes.{row_of}
 use Rattle.stream_base.specs.Model.Windows.{Instance, stretches, within}
 use Rattle.window_laws.specs.After.{complete_at}
 use Rattle.window_laws.specs.Stretches.{last_mark, next_mark}
-use Rattle.slice_store.specs.Stored.{Stored, tuples_of}
+use Rattle.agg_store.specs.Stored.{Stored, tuples_of}
 use Rattle.context_windows.specs.declared.span.Span.{Span}
 use Rattle.context_windows.specs.declared.standing.Standing.{Standing}
 use Rattle.context_windows.specs.Spans.{AreApart, head_standing, is_near, near_of, span_of, stands}

@@ -5,7 +5,7 @@ ghost use Rattle.stream_base.specs.declared.def.Def.{Def};
 ghost use Rattle.stream_base.specs.declared.kept.Kept.{Kept};
 ghost use Rattle.stream_base.specs.Model.Journal.{put_in_order};
 ghost use Rattle.window_laws.specs.Runs.{IsAligned};
-ghost use Rattle.slice_store.specs.Stored.{Stored};
+ghost use Rattle.agg_store.specs.Stored.{Stored};
 ghost use Rattle.context_windows.specs.Aligned.{IsOfSessions, IsOfWindows};
 ghost use Rattle.context_windows.specs.Held.{AreAlignedWith};
 ghost use Rattle.context_windows.specs.Marked.{IsEdge};

@@ -2,7 +2,7 @@
 //!
 //! *From* the tuples of one key in a store of slices, its marks and the moves of the watermark, *to*
 //! the changes of one window of the key. *Stands on* `stream_base`, `window_laws`, `agg_laws` and
-//! `slice_store`, whose folds it tells; it keeps the bounds of instances and no tuple. *Promise*: each
+//! `agg_store`, whose folds it tells; it keeps the bounds of instances and no tuple. *Promise*: each
 //! call appends exactly its window's changes, retractions first, with what stood before; the work is
 //! counted. A late tuple joins sessions that had stood apart, and each of those is taken back.
 #![tactic(auto)]

@@ -22,9 +22,8 @@ use crate::parting::{back_of, front_of, is_filled, part, part_if};
 use crate::span::Span;
 use crate::standing::Standing;
 use crate::telling::{Teller, ask, tell_all, tell_joined, tell_part, tell_taken};
-use agg_laws::{AggTree, Steps};
-use aggregates::Bundle;
-use slice_store::SliceStore;
+use agg_laws::Steps;
+use agg_store::AggStore;
 use std::alloc::Global;
 use std::marker::Model;
 use stream_base::{Change, Func, KeyText, NoMemory};
@@ -90,26 +89,27 @@ impl MarkWindows {
 
     /// Keeps what the interval shows that holds a time, if it stands. It is called before the store
     /// takes the tuple in.
-    pub fn before<T: AggTree<Bundle>, L>(
+    pub fn before<S: AggStore, L>(
         &mut self,
         window: u32,
         func: Func,
-        store: &SliceStore<T>,
+        store: &S,
         time: u64,
         water: u64,
         steps: &mut Steps<L>,
     )
         requires time { time ≤ TIME_MAX }
-        requires aligned { AreAlignedWith store.now.slices (asked_at time water self.old.spans) }
+        requires aligned { AreAlignedWith (S.stored store.now).slices
+            (asked_at time water self.old.spans) }
         ensures spans { self.new.spans ≡ self.old.spans }
         ensures marks { self.new.marks ≡ self.old.marks }
         ensures forgotten { self.new.forgotten ≡ self.old.forgotten }
         ensures spare { self.new.spare ≡ self.old.spare }
         ensures remembers { (marks : List ℕ) (kept : List Kept) → FollowsMarks marks kept self.old
-            → self.old.forgotten ≤ time → HoldsStretches time marks kept store.now
+            → self.old.forgotten ≤ time → HoldsStretches time marks kept (S.stored store.now)
             → RemembersHolder func time water marks kept self.new }
         ensures cost { steps.new
-            ≤ steps.old + 64 * (store.now.reach + 2) * length self.new.stood }
+            ≤ steps.old + 64 * ((S.stored store.now).reach + 2) * length self.new.stood }
     {
         let places = near(&self.spans, 1, time);
         self.stood = ask(store, first_asked(&self.spans, places, water), func, steps);
@@ -117,11 +117,11 @@ impl MarkWindows {
 
     /// Takes in a tuple that the store has taken in, and appends exactly the window's changes: at most
     /// one, of the interval that holds it. `reserve` made the room; `before` kept what stood.
-    pub fn put<T: AggTree<Bundle>, L>(
+    pub fn put<S: AggStore, L>(
         &mut self,
         window: u32,
         func: Func,
-        store: &SliceStore<T>,
+        store: &S,
         key: &KeyText,
         time: u64,
         water: u64,
@@ -130,7 +130,8 @@ impl MarkWindows {
     )
         requires time { time ≤ TIME_MAX }
         requires room { 1 ≤ self.old.spare }
-        requires aligned { AreAlignedWith store.now.slices (entered_at time water self.old) }
+        requires aligned { AreAlignedWith (S.stored store.now).slices
+            (entered_at time water self.old) }
         requires spare { length (entered_at time water self.old)
             ≤ vec_capacity out.old - vec_len out.old }
         ensures follows { (marks : List ℕ) (kept : List Kept) (x : Kept)
@@ -139,7 +140,7 @@ impl MarkWindows {
         ensures changes { (m : Moment) (x : Kept) → FollowsMarks m.marks m.kept self.old
             → self.old.forgotten ≤ time → x.time ≡ time → m.water ≡ water
             → RemembersHolder func time water m.marks m.kept self.old
-            → HoldsStretches time m.marks (put_in_order m.kept x) store.now
+            → HoldsStretches time m.marks (put_in_order m.kept x) (S.stored store.now)
             → out.new.items ≡ out.old.items
             ++ changes_of key.now m (with_tuple m x) (window, marks_window func) }
         ensures number { vec_len out.new
@@ -151,7 +152,7 @@ impl MarkWindows {
         ensures forgotten { self.new.forgotten ≡ self.old.forgotten }
         ensures room_left { self.old.spare ≤ self.new.spare + 1 }
         ensures capacity { vec_capacity out.new ≡ vec_capacity out.old }
-        ensures cost { steps.new ≤ steps.old + 64 * (store.now.reach + 2)
+        ensures cost { steps.new ≤ steps.old + 64 * ((S.stored store.now).reach + 2)
             * (vec_len out.new - vec_len out.old) }
     {
         let places = near(&self.spans, 1, time);
@@ -166,11 +167,11 @@ impl MarkWindows {
     /// Takes in a mark that the store has taken in, and appends exactly the window's changes: the
     /// interval that the mark parts is taken back where it stood, and each of its parts that has a
     /// tuple and stands is new. `reserve` made the room.
-    pub fn mark<T: AggTree<Bundle>, L>(
+    pub fn mark<S: AggStore, L>(
         &mut self,
         window: u32,
         func: Func,
-        store: &SliceStore<T>,
+        store: &S,
         key: &KeyText,
         time: u64,
         water: u64,
@@ -179,16 +180,16 @@ impl MarkWindows {
     )
         requires time { time ≤ TIME_MAX }
         requires room { 1 ≤ self.old.spare }
-        requires aligned { AreAlignedWith store.now.slices
+        requires aligned { AreAlignedWith (S.stored store.now).slices
             (with_parts time (parted_of time self.old.spans)) }
         requires spare { most_changes time water (holder_in time self.old.spans self.old.marks)
             ≤ vec_capacity out.old - vec_len out.old }
         ensures follows { (marks : List ℕ) (kept : List Kept) → FollowsMarks marks kept self.old
-            → self.old.forgotten ≤ time → HoldsStretches time marks kept store.now
+            → self.old.forgotten ≤ time → HoldsStretches time marks kept (S.stored store.now)
             → FollowsMarks (insert_key nat_cmp marks time) kept self.new }
         ensures changes { (m : Moment) → FollowsMarks m.marks m.kept self.old
             → self.old.forgotten ≤ time → m.water ≡ water
-            → HoldsStretches time m.marks m.kept store.now
+            → HoldsStretches time m.marks m.kept (S.stored store.now)
             → out.new.items ≡ out.old.items
             ++ changes_of key.now m (with_mark m time) (window, marks_window func) }
         ensures number { vec_len out.new ≤ vec_len out.old
@@ -197,7 +198,7 @@ impl MarkWindows {
         ensures forgotten { self.new.forgotten ≡ self.old.forgotten }
         ensures room_left { self.old.spare ≤ self.new.spare + 1 }
         ensures capacity { vec_capacity out.new ≡ vec_capacity out.old }
-        ensures cost { steps.new ≤ steps.old + 64 * (store.now.reach + 2)
+        ensures cost { steps.new ≤ steps.old + 64 * ((S.stored store.now).reach + 2)
             * (vec_len out.new - vec_len out.old) }
     {
         let places = near(&self.spans, 1, time);
@@ -248,29 +249,30 @@ impl MarkWindows {
 
     /// Appends exactly the intervals that a move of the watermark completes, as new. `due` says how
     /// many.
-    pub fn water<T: AggTree<Bundle>, L>(
+    pub fn water<S: AggStore, L>(
         &self,
         window: u32,
         func: Func,
-        store: &SliceStore<T>,
+        store: &S,
         key: &KeyText,
         old: u64,
         new: u64,
         out: &mut Vec<Change>,
         steps: &mut Steps<L>,
     )
-        requires aligned { AreAlignedWith store.now.slices (due_of old new self.now.spans) }
+        requires aligned { AreAlignedWith (S.stored store.now).slices
+            (due_of old new self.now.spans) }
         requires spare { length (due_of old new self.now.spans)
             ≤ vec_capacity out.old - vec_len out.old }
         ensures changes { (m : Moment) → FollowsMarks m.marks m.kept self.now
             → self.now.forgotten ≤ old → m.water ≡ old
-            → HoldsStretches old m.marks m.kept store.now
+            → HoldsStretches old m.marks m.kept (S.stored store.now)
             → out.new.items ≡ out.old.items
             ++ completions key.now m new (window, marks_window func) }
         ensures number { vec_len out.new
             ≡ vec_len out.old + length (due_of old new self.now.spans) }
         ensures capacity { vec_capacity out.new ≡ vec_capacity out.old }
-        ensures cost { steps.new ≤ steps.old + 64 * (store.now.reach + 2)
+        ensures cost { steps.new ≤ steps.old + 64 * ((S.stored store.now).reach + 2)
             * (vec_len out.new - vec_len out.old) }
     {
         let places = due(&self.spans, old, new);

@@ -1,15 +1,13 @@
 //! What a mark makes of an interval that has a tuple.
 ghost use Rattle.std.specs.Prelude.{◌≡◌, ◌≤◌, ◌<◌, ◌+◌, ◌++◌, length, take, drop, nat_lt, option_to_list, vec_len, vec_capacity};
 ghost use Rattle.stream_base.specs.Model.Windows.{within};
-ghost use Rattle.slice_store.specs.Stored.{tuples_of};
+ghost use Rattle.agg_store.specs.Stored.{tuples_of};
 ghost use Rattle.context_windows.specs.Held.{IsAlignedWith};
 ghost use Rattle.context_windows.specs.Marked.{back_of, front_of, part_if};
 
 use crate::joining::{remove_between, replace};
 use crate::span::Span;
-use agg_laws::AggTree;
-use aggregates::Bundle;
-use slice_store::SliceStore;
+use agg_store::AggStore;
 
 pub fn front_of(span: Span, time: u64) -> Span
     ensures { result ≡ front_of time span }
@@ -30,9 +28,10 @@ pub fn back_of(span: Span, time: u64) -> Span
 }
 
 // Whether a tuple lies within a span. No slice is folded for it.
-pub fn is_filled<T: AggTree<Bundle>>(store: &SliceStore<T>, span: Span) -> bool
-    requires { IsAlignedWith store.now.slices span }
-    ensures { result ≡ nat_lt 0 (length (within span.low span.high (tuples_of store.now))) }
+pub fn is_filled<S: AggStore>(store: &S, span: Span) -> bool
+    requires { IsAlignedWith (S.stored store.now).slices span }
+    ensures { result ≡ nat_lt 0
+        (length (within span.low span.high (tuples_of (S.stored store.now)))) }
 {
     match store.slice_from(span.low) {
         Some(slice) => slice.low < span.high,

@@ -18,9 +18,8 @@ use crate::span::Span;
 use crate::standing::Standing;
 use crate::telling::{Teller, ask, tell_all, tell_joined};
 use crate::windows::{gap_of, window_at};
-use agg_laws::{AggTree, Steps};
-use aggregates::Bundle;
-use slice_store::SliceStore;
+use agg_laws::Steps;
+use agg_store::AggStore;
 use std::alloc::Global;
 use std::marker::Model;
 use stream_base::{Change, Defs, KeyText, NoMemory};
@@ -99,18 +98,18 @@ impl Sessions {
 
     /// Keeps what those sessions show that stand and that a tuple at a time may change, at most two.
     /// It is called before the store takes the tuple in.
-    pub fn before<T: AggTree<Bundle>, L>(
+    pub fn before<S: AggStore, L>(
         &mut self,
         defs: &Defs,
         window: u32,
-        store: &SliceStore<T>,
+        store: &S,
         time: u64,
         water: u64,
         steps: &mut Steps<L>,
     )
         requires session { IsSessionAt defs.now window }
         requires time { time ≤ TIME_MAX }
-        requires aligned { AreAlignedWith store.now.slices
+        requires aligned { AreAlignedWith (S.stored store.now).slices
             (asked_of (gap_at defs.now window) time water self.old.spans) }
         ensures spans { self.new.spans ≡ self.old.spans }
         ensures forgotten { self.new.forgotten ≡ self.old.forgotten }
@@ -118,10 +117,10 @@ impl Sessions {
         ensures asked { HasAsked (gap_at defs.now window) time water self.new }
         ensures remembers { (kept : List Kept) → Follows (gap_at defs.now window) kept self.old
             → self.old.forgotten ≤ time
-            → HoldsSessions (gap_at defs.now window) time kept store.now
+            → HoldsSessions (gap_at defs.now window) time kept (S.stored store.now)
             → Remembers (window_at defs.now window) time water kept self.new }
         ensures cost { steps.new
-            ≤ steps.old + 64 * (store.now.reach + 2) * length self.new.stood }
+            ≤ steps.old + 64 * ((S.stored store.now).reach + 2) * length self.new.stood }
     {
         let def = window_at(defs, window);
         let places = near(&self.spans, gap_of(&def.kind), time);
@@ -134,11 +133,11 @@ impl Sessions {
     /// sessions less than the gap away from it become one with it, and those that stood and stand no
     /// longer are taken back. `reserve` made the room, and said how many changes there will be;
     /// `before` kept what stood.
-    pub fn put<T: AggTree<Bundle>, L>(
+    pub fn put<S: AggStore, L>(
         &mut self,
         defs: &Defs,
         window: u32,
-        store: &SliceStore<T>,
+        store: &S,
         key: &KeyText,
         time: u64,
         water: u64,
@@ -149,7 +148,7 @@ impl Sessions {
         requires time { time ≤ TIME_MAX }
         requires room { 1 ≤ self.old.spare }
         requires asked { HasAsked (gap_at defs.now window) time water self.old }
-        requires aligned { AreAlignedWith store.now.slices
+        requires aligned { AreAlignedWith (S.stored store.now).slices
             (told_at (gap_at defs.now window) time water self.old.spans) }
         requires spare { put_changes (gap_at defs.now window) time water self.old.spans
             ≤ vec_capacity out.old - vec_len out.old }
@@ -160,7 +159,8 @@ impl Sessions {
         ensures changes { (m : Moment) (x : Kept) → Follows (gap_at defs.now window) m.kept self.old
             → self.old.forgotten ≤ time → x.time ≡ time → m.water ≡ water
             → Remembers (window_at defs.now window) time water m.kept self.old
-            → HoldsSessions (gap_at defs.now window) time (put_in_order m.kept x) store.now
+            → HoldsSessions (gap_at defs.now window) time (put_in_order m.kept x)
+            (S.stored store.now)
             → out.new.items ≡ out.old.items
             ++ changes_of key.now m (with_tuple m x) (window, window_at defs.now window) }
         ensures spans { self.new.spans
@@ -171,7 +171,7 @@ impl Sessions {
         ensures forgotten { self.new.forgotten ≡ self.old.forgotten }
         ensures room_left { self.old.spare ≤ self.new.spare + 1 }
         ensures capacity { vec_capacity out.new ≡ vec_capacity out.old }
-        ensures cost { steps.new ≤ steps.old + 64 * (store.now.reach + 2)
+        ensures cost { steps.new ≤ steps.old + 64 * ((S.stored store.now).reach + 2)
             * length (told_at (gap_at defs.now window) time water self.old.spans) }
     {
         let def = window_at(defs, window);
@@ -210,11 +210,11 @@ impl Sessions {
 
     /// Appends exactly the sessions that a move of the watermark completes, as new. `due` says how
     /// many.
-    pub fn water<T: AggTree<Bundle>, L>(
+    pub fn water<S: AggStore, L>(
         &self,
         defs: &Defs,
         window: u32,
-        store: &SliceStore<T>,
+        store: &S,
         key: &KeyText,
         old: u64,
         new: u64,
@@ -222,18 +222,19 @@ impl Sessions {
         steps: &mut Steps<L>,
     )
         requires session { IsSessionAt defs.now window }
-        requires aligned { AreAlignedWith store.now.slices (due_of old new self.now.spans) }
+        requires aligned { AreAlignedWith (S.stored store.now).slices
+            (due_of old new self.now.spans) }
         requires spare { length (due_of old new self.now.spans)
             ≤ vec_capacity out.old - vec_len out.old }
         ensures changes { (m : Moment) → Follows (gap_at defs.now window) m.kept self.now
             → self.now.forgotten ≤ old → m.water ≡ old
-            → HoldsSessions (gap_at defs.now window) old m.kept store.now
+            → HoldsSessions (gap_at defs.now window) old m.kept (S.stored store.now)
             → out.new.items ≡ out.old.items
             ++ completions key.now m new (window, window_at defs.now window) }
         ensures number { vec_len out.new
             ≡ vec_len out.old + length (due_of old new self.now.spans) }
         ensures capacity { vec_capacity out.new ≡ vec_capacity out.old }
-        ensures cost { steps.new ≤ steps.old + 64 * (store.now.reach + 2)
+        ensures cost { steps.new ≤ steps.old + 64 * ((S.stored store.now).reach + 2)
             * (vec_len out.new - vec_len out.old) }
     {
         let def = window_at(defs, window);

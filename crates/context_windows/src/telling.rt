@@ -13,9 +13,9 @@ ghost use Rattle.context_windows.specs.Telling.{as_standing, come_of, gone_of, r
 use crate::joining::goes;
 use crate::span::Span;
 use crate::standing::Standing;
-use agg_laws::{AggTree, Steps};
+use agg_laws::Steps;
+use agg_store::AggStore;
 use aggregates::Bundle;
-use slice_store::SliceStore;
 use stream_base::{Change, Former, Func, KeyText, Row, Shown};
 
 // Whose instances are told: a window, by its place among the definitions, and a key.
@@ -135,16 +135,12 @@ fn is_same(first: Span, second: Span) -> bool
 }
 
 // What the instance over a span shows, by the fold of its slices.
-pub fn standing<T: AggTree<Bundle>, L>(
-    store: &SliceStore<T>,
-    span: Span,
-    func: Func,
-    steps: &mut Steps<L>,
-) -> Standing
-    requires { IsAlignedWith store.now.slices span }
+pub fn standing<S: AggStore, L>(store: &S, span: Span, func: Func, steps: &mut Steps<L>) -> Standing
+    requires { IsAlignedWith (S.stored store.now).slices span }
     ensures span { result.span ≡ span }
-    ensures value { (i : Instance) → IsHeld span store.now i → result ≡ as_standing func i }
-    ensures cost { steps.new ≤ steps.old + 64 * (store.now.reach + 2) }
+    ensures value { (i : Instance) → IsHeld span (S.stored store.now) i
+        → result ≡ as_standing func i }
+    ensures cost { steps.new ≤ steps.old + 64 * ((S.stored store.now).reach + 2) }
 {
     let bundle = store.fold(span.low, span.high, steps);
     Standing {
@@ -175,9 +171,9 @@ fn count_of(shown: Shown) -> u64
 
 // Tells the session that a tuple made, if it stands: again, where one of two stood over its span, and
 // else as new.
-pub fn tell_joined<T: AggTree<Bundle>, L>(
+pub fn tell_joined<S: AggStore, L>(
     teller: &Teller,
-    store: &SliceStore<T>,
+    store: &S,
     first: Option<Standing>,
     second: Option<Standing>,
     joined: Span,
@@ -186,17 +182,19 @@ pub fn tell_joined<T: AggTree<Bundle>, L>(
     out: &mut Vec<Change>,
     steps: &mut Steps<L>,
 )
-    requires aligned { AreAlignedWith store.now.slices (filter (stands water) (joined ∷ [])) }
+    requires aligned { AreAlignedWith (S.stored store.now).slices
+        (filter (stands water) (joined ∷ [])) }
     requires spare { length (filter (stands water) (joined ∷ []))
         ≤ vec_capacity out.old - vec_len out.old }
-    ensures told { (i : Instance) → IsHeld joined store.now i → out.new.items ≡ out.old.items
+    ensures told { (i : Instance) → IsHeld joined (S.stored store.now) i
+        → out.new.items ≡ out.old.items
         ++ come_of teller.now.window teller.now.key.now water
         (option_to_list first ++ option_to_list second) (as_standing func i) }
     ensures len { vec_len out.new
         ≡ vec_len out.old + length (filter (stands water) (joined ∷ [])) }
     ensures capacity { vec_capacity out.new ≡ vec_capacity out.old }
     ensures cost { steps.new ≤ steps.old
-        + 64 * (store.now.reach + 2) * length (filter (stands water) (joined ∷ [])) }
+        + 64 * ((S.stored store.now).reach + 2) * length (filter (stands water) (joined ∷ [])) }
 {
     if joined.high <= water {
         let now = standing(store, joined, func, steps);
@@ -205,23 +203,23 @@ pub fn tell_joined<T: AggTree<Bundle>, L>(
 }
 
 // Tells all instances over some spans as new.
-pub fn tell_all<T: AggTree<Bundle>, L>(
+pub fn tell_all<S: AggStore, L>(
     teller: &Teller,
-    store: &SliceStore<T>,
+    store: &S,
     spans: &[Span],
     func: Func,
     out: &mut Vec<Change>,
     steps: &mut Steps<L>,
 )
-    requires aligned { AreAlignedWith store.now.slices spans.now }
+    requires aligned { AreAlignedWith (S.stored store.now).slices spans.now }
     requires spare { length spans.now ≤ vec_capacity out.old - vec_len out.old }
-    ensures told { (is : List Instance) → AreHeld spans.now store.now is → out.new.items
+    ensures told { (is : List Instance) → AreHeld spans.now (S.stored store.now) is → out.new.items
         ≡ out.old.items
         ++ map (λ i. New (row_of teller.now.window teller.now.key.now func i)) is }
     ensures len { vec_len out.new ≡ vec_len out.old + length spans.now }
     ensures capacity { vec_capacity out.new ≡ vec_capacity out.old }
     ensures cost { steps.new
-        ≤ steps.old + 64 * (store.now.reach + 2) * (vec_len out.new - vec_len out.old) }
+        ≤ steps.old + 64 * ((S.stored store.now).reach + 2) * (vec_len out.new - vec_len out.old) }
 {
     for span in spans {
         let now = standing(store, *span, func, steps);
@@ -230,18 +228,18 @@ pub fn tell_all<T: AggTree<Bundle>, L>(
 }
 
 // What the instance over a span shows, if there is one.
-pub fn ask<T: AggTree<Bundle>, L>(
-    store: &SliceStore<T>,
+pub fn ask<S: AggStore, L>(
+    store: &S,
     span: Option<Span>,
     func: Func,
     steps: &mut Steps<L>,
 ) -> Option<Standing>
-    requires { AreAlignedWith store.now.slices (option_to_list span) }
+    requires { AreAlignedWith (S.stored store.now).slices (option_to_list span) }
     ensures span { map (λ s. s.span) (option_to_list result) ≡ option_to_list span }
-    ensures value { (is : List Instance) → AreHeld (option_to_list span) store.now is
+    ensures value { (is : List Instance) → AreHeld (option_to_list span) (S.stored store.now) is
         → option_to_list result ≡ map (as_standing func) is }
     ensures cost { steps.new
-        ≤ steps.old + 64 * (store.now.reach + 2) * length (option_to_list result) }
+        ≤ steps.old + 64 * ((S.stored store.now).reach + 2) * length (option_to_list result) }
 {
     match span {
         Some(span) => Some(standing(store, span, func, steps)),
@@ -250,25 +248,25 @@ pub fn ask<T: AggTree<Bundle>, L>(
 }
 
 // Tells the interval over a span as gone, if it stands.
-pub fn tell_taken<T: AggTree<Bundle>, L>(
+pub fn tell_taken<S: AggStore, L>(
     teller: &Teller,
-    store: &SliceStore<T>,
+    store: &S,
     span: Span,
     water: u64,
     func: Func,
     out: &mut Vec<Change>,
     steps: &mut Steps<L>,
 )
-    requires aligned { IsAlignedWith store.now.slices span }
+    requires aligned { IsAlignedWith (S.stored store.now).slices span }
     requires spare { length (filter (stands water) (span ∷ []))
         ≤ vec_capacity out.old - vec_len out.old }
-    ensures told { (i : Instance) → IsHeld span store.now i → i.bound ≡ i.high
+    ensures told { (i : Instance) → IsHeld span (S.stored store.now) i → i.bound ≡ i.high
         → out.new.items ≡ out.old.items
         ++ gone_if teller.now.window teller.now.key.now func water i }
     ensures len { vec_len out.new ≡ vec_len out.old + length (filter (stands water) (span ∷ [])) }
     ensures capacity { vec_capacity out.new ≡ vec_capacity out.old }
     ensures cost { steps.new ≤ steps.old
-        + 64 * (store.now.reach + 2) * (vec_len out.new - vec_len out.old) }
+        + 64 * ((S.stored store.now).reach + 2) * (vec_len out.new - vec_len out.old) }
 {
     if span.high <= water {
         let was = standing(store, span, func, steps);
@@ -277,9 +275,9 @@ pub fn tell_taken<T: AggTree<Bundle>, L>(
 }
 
 // Tells the interval over a span as new, if it has a tuple and stands.
-pub fn tell_part<T: AggTree<Bundle>, L>(
+pub fn tell_part<S: AggStore, L>(
     teller: &Teller,
-    store: &SliceStore<T>,
+    store: &S,
     span: Span,
     filled: bool,
     water: u64,
@@ -287,15 +285,16 @@ pub fn tell_part<T: AggTree<Bundle>, L>(
     out: &mut Vec<Change>,
     steps: &mut Steps<L>,
 )
-    requires aligned { IsAlignedWith store.now.slices span }
+    requires aligned { IsAlignedWith (S.stored store.now).slices span }
     requires spare { length (shown_if filled water span)
         ≤ vec_capacity out.old - vec_len out.old }
-    ensures told { (i : Instance) → IsHeld span store.now i → out.new.items ≡ out.old.items
+    ensures told { (i : Instance) → IsHeld span (S.stored store.now) i
+        → out.new.items ≡ out.old.items
         ++ come_if teller.now.window teller.now.key.now func filled water i }
     ensures len { vec_len out.new ≡ vec_len out.old + length (shown_if filled water span) }
     ensures capacity { vec_capacity out.new ≡ vec_capacity out.old }
     ensures cost { steps.new ≤ steps.old
-        + 64 * (store.now.reach + 2) * (vec_len out.new - vec_len out.old) }
+        + 64 * ((S.stored store.now).reach + 2) * (vec_len out.new - vec_len out.old) }
 {
     if filled && span.high <= water {
         let now = standing(store, span, func, steps);

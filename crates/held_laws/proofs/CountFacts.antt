@@ -17,7 +17,7 @@ use Rattle.stream_base.proofs.Filters.{filter_none}
 use Rattle.slice_runs.specs.Touched.{slices_from}
 use Rattle.slice_runs.specs.Places.{IsPlaceOf}
 use Rattle.slice_runs.specs.Slices.{joined}
-use Rattle.slice_store.specs.Stored.{IsStore, Stored}
+use Rattle.agg_store.specs.Stored.{IsStore, Stored}
 use Rattle.slice_runs.proofs.LeaveFacts.{from_place, left_sliced, tuples_left}
 use Rattle.key_parts.specs.Held.{IsHeld}
 use Rattle.key_parts.specs.Moves.{all_count_events}

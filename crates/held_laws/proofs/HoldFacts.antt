@@ -25,7 +25,7 @@ use Rattle.window_laws.proofs.LeaveChanges.{may_leave_after_mark, may_leave_afte
 use Rattle.window_laws.proofs.Order.{nd_nil}
 use Rattle.window_laws.proofs.SettledFacts.{all_from, all_member, not_all}
 use Rattle.slice_runs.specs.Slices.{joined}
-use Rattle.slice_store.specs.Stored.{IsSliced, Stored, tuples_of}
+use Rattle.agg_store.specs.Stored.{IsSliced, Stored, tuples_of}
 use Rattle.slice_runs.proofs.SliceEdits.{put_length}
 use Rattle.key_windows.specs.Calls.{moment}
 use Rattle.key_parts.specs.Held.{AreSameBehind, IsHeld}

@@ -15,7 +15,7 @@ use Rattle.stream_base.specs.Model.Windows.{Instance, instances_of, is_within, s
 use Rattle.window_laws.specs.Positions.{AreKept}
 use Rattle.window_laws.specs.Runs.{IsAligned}
 use Rattle.window_laws.proofs.InstanceFacts.{sessions_select, spans_hold_selections}
-use Rattle.slice_store.specs.Stored.{IsStore, Stored, tuples_of}
+use Rattle.agg_store.specs.Stored.{IsStore, Stored, tuples_of}
 use Rattle.context_windows.specs.Aligned.{IsOfSessions, IsOfWindows}
 use Rattle.context_windows.specs.Held.{HoldsSessions}
 use Rattle.context_windows.specs.Marked.{HoldsStretches, IsEdge}

@@ -27,7 +27,7 @@ use Rattle.window_laws.proofs.SettledFacts.{cut_behind_settled}
 use Rattle.slice_runs.specs.Touched.{marks_left}
 use Rattle.slice_runs.specs.Places.{IsPlaceOf}
 use Rattle.slice_runs.specs.Slices.{joined}
-use Rattle.slice_store.specs.Stored.{IsSliced, IsStore, Stored, tuples_of}
+use Rattle.agg_store.specs.Stored.{IsSliced, IsStore, Stored, tuples_of}
 use Rattle.slice_runs.proofs.LeaveFacts.{from_place}
 use Rattle.key_parts.specs.Held.{AreSameBehind, IsHeld}
 use Rattle.key_parts.specs.Moves.{AreLists, IsPurge}

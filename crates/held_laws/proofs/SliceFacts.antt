@@ -15,7 +15,7 @@ use Rattle.window_laws.specs.Runs.{AreInOrder}
 use Rattle.window_laws.proofs.Order.{All-split, runs_behind}
 use Rattle.slice_runs.specs.Places.{IsPlaceOf}
 use Rattle.slice_runs.specs.Slices.{joined}
-use Rattle.slice_store.specs.Stored.{IsStore, Stored, tuples_of}
+use Rattle.agg_store.specs.Stored.{IsStore, Stored, tuples_of}
 use Rattle.slice_runs.proofs.LeaveFacts.{left_sliced}
 use Rattle.slice_runs.proofs.SliceOrder.{IsApart, IsNear, first_below_last}
 use Rattle.key_parts.specs.Held.{IsHeld}

@@ -1,7 +1,7 @@
 -- What becomes of a store whose slices before a time are dropped.
 use Rattle.std.specs.Prelude.{◌≡◌, ℕ, max}
 use Rattle.slice_runs.specs.Touched.{marks_left, slices_from}
-use Rattle.slice_store.specs.Stored.{Stored}
+use Rattle.agg_store.specs.Stored.{Stored}
 
 -- the slices before a time have left the store, and the marks at or before it other than the greatest of them
 pub record IsDropped (time : ℕ) (before after : Stored) : Type 0 where

@@ -5,7 +5,7 @@ use Rattle.stream_base.specs.Limits.{Definitions}
 use Rattle.stream_base.specs.declared.kept.Kept.{Kept}
 use Rattle.stream_base.specs.Model.Changes.{Moment}
 use Rattle.stream_base.specs.Model.Slices.{is_settled}
-use Rattle.slice_store.specs.Stored.{Stored, tuples_of}
+use Rattle.agg_store.specs.Stored.{Stored, tuples_of}
 use Rattle.key_parts.specs.Calls.{window_at}
 use Rattle.key_parts.specs.Moves.{SettlesUpTo}
 

@@ -1,7 +1,7 @@
 //! Laws of what the store of a key holds of the key, over plain lists: what it goes on to hold,
 //! which tuples may leave, and how many slices of unsettled tuples there are.
 //!
-//! *Stands on* `window_laws`, and on the definitions of `stream_base`, `slice_store`, `key_parts`
+//! *Stands on* `window_laws`, and on the definitions of `stream_base`, `agg_store`, `key_parts`
 //! and, for what some parts ask, `context_windows`. *Promise*: each law is the contract of a
 //! function that does nothing, and asks nothing of a key and its store that a key's don't meet.
 //!

@@ -7,7 +7,7 @@ ghost use Rattle.stream_base.specs.Model.Changes.{Moment};
 ghost use Rattle.stream_base.specs.Model.Slices.{is_settled, runs_of};
 ghost use Rattle.window_laws.specs.Runs.{IsAligned};
 ghost use Rattle.window_laws.specs.Settled.{without_first};
-ghost use Rattle.slice_store.specs.Stored.{IsSliced, IsStore, Stored, tuples_of};
+ghost use Rattle.agg_store.specs.Stored.{IsSliced, IsStore, Stored, tuples_of};
 ghost use Rattle.key_parts.specs.Held.{IsHeld};
 ghost use Rattle.key_parts.specs.Moves.{AreLists, IsPurge};
 ghost use Rattle.held_laws.specs.Dropped.{IsDropped};

@@ -9,7 +9,7 @@ ghost use Rattle.stream_base.specs.Model.Slices.{is_events, is_settled, is_settl
 ghost use Rattle.window_laws.specs.After.{at_water, with_mark, with_tuple};
 ghost use Rattle.window_laws.specs.Settled.{MayLeave, without_first};
 ghost use Rattle.slice_runs.specs.Touched.{slices_from};
-ghost use Rattle.slice_store.specs.Stored.{IsStore, Stored};
+ghost use Rattle.agg_store.specs.Stored.{IsStore, Stored};
 ghost use Rattle.key_parts.specs.Held.{IsHeld};
 ghost use Rattle.key_parts.specs.Moves.{IsMarkStep, IsPutStep};
 ghost use Rattle.held_laws.specs.Settling.{EachSettlesUpTo, IsLeast, IsSettledUpTo, NoneSettled};

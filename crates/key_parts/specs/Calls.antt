@@ -7,7 +7,7 @@ use Rattle.stream_base.specs.declared.func.Func.TheVariants.{Count}
 use Rattle.stream_base.specs.declared.kept.Kept.{Kept}
 use Rattle.stream_base.specs.declared.kind.Kind.TheVariants.{Marks}
 use Rattle.stream_base.specs.Model.Changes.{Moment}
-use Rattle.slice_store.specs.Stored.{IsStore, Stored}
+use Rattle.agg_store.specs.Stored.{IsStore, Stored}
 use Rattle.key_parts.specs.Held.{IsHeld}
 use Rattle.key_parts.specs.Moves.{AreLists, IsMarkStep, IsPurge, IsPutStep}
 

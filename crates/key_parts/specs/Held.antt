@@ -4,7 +4,7 @@ use Rattle.std.specs.List.{Contains}
 use Rattle.stream_base.specs.Limits.{Definitions}
 use Rattle.stream_base.specs.Model.Changes.{Moment}
 use Rattle.window_laws.specs.Settled.{MayLeave}
-use Rattle.slice_store.specs.Stored.{IsSliced, Stored, tuples_of}
+use Rattle.agg_store.specs.Stored.{IsSliced, Stored, tuples_of}
 
 -- two lists have the same marks behind a time
 pub record AreSameBehind (time : ℕ) (some all : List ℕ) : Type 0 where

@@ -14,8 +14,8 @@ use Rattle.stream_base.specs.Model.Slices.{is_events, is_settled_in}
 use Rattle.window_laws.specs.Positions.{AreKept}
 use Rattle.window_laws.specs.Runs.{parted_at}
 use Rattle.slice_runs.specs.Touched.{slices_from}
-use Rattle.slice_store.specs.Entered.{IsPut}
-use Rattle.slice_store.specs.Stored.{IsSliced, IsStore, Stored, tuples_of}
+use Rattle.agg_store.specs.Entered.{IsPut}
+use Rattle.agg_store.specs.Stored.{IsSliced, IsStore, Stored, tuples_of}
 use Rattle.key_parts.specs.Held.{IsHeld}
 
 -- what a key's lists keep beside their order: each tuple has a position of its own below the next one, times are within the limit, and there are few tuples

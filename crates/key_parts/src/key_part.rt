@@ -5,15 +5,14 @@ ghost use Rattle.stream_base.specs.Laws.{completions};
 ghost use Rattle.stream_base.specs.Model.Changes.{Moment, emissions, retractions};
 ghost use Rattle.window_laws.specs.After.{at_water, with_mark, with_tuple};
 ghost use Rattle.window_laws.specs.Settled.{without_first};
-ghost use Rattle.slice_store.specs.Stored.{Stored};
+ghost use Rattle.agg_store.specs.Stored.{Stored};
 ghost use Rattle.key_windows.specs.Calls.{IsWater, kept_at, moment};
 ghost use Rattle.key_parts.specs.Calls.{LosesSettled, StandsAt, TakesMark, TakesTuple, window_at};
 ghost use Rattle.key_parts.specs.Moves.{SettlesUpTo};
 ghost use Rattle.key_parts.specs.Work.{change_work, row_work};
 
-use agg_laws::{AggTree, Steps};
-use aggregates::Bundle;
-use slice_store::SliceStore;
+use agg_laws::Steps;
+use agg_store::AggStore;
 use std::alloc::Global;
 use stream_base::{Change, Defs, KeyText, NoMemory};
 
@@ -30,7 +29,7 @@ pub trait KeyPart: Drop {
     ghost use Rattle.stream_base.specs.Laws.{completions};
     ghost use Rattle.stream_base.specs.Model.Changes.{Moment};
     ghost use Rattle.window_laws.specs.After.{at_water};
-    ghost use Rattle.slice_store.specs.Stored.{IsAsBefore, Stored};
+    ghost use Rattle.agg_store.specs.Stored.{IsAsBefore, Stored};
     ghost use Rattle.key_parts.specs.Calls.{StandsAt, window_at};
 
     /// The window at a place of the definitions is of the kind that it is for.
@@ -111,17 +110,17 @@ pub trait KeyPart: Drop {
 
     /// Keeps what stands of the instances that a tuple at a time changes. It is called before the
     /// store takes the tuple in.
-    fn before<T: AggTree<Bundle>, L>(
+    fn before<S: AggStore, L>(
         &mut self,
         defs: &Defs,
         window: u32,
-        store: &SliceStore<T>,
+        store: &S,
         time: u64,
         water: u64,
         steps: &mut Steps<L>,
     )
         requires stands { (m : Moment) × (n : ℕ)
-            × StandsAt stands defs.now window water store.now self.old m n }
+            × StandsAt stands defs.now window water (S.stored store.now) self.old m n }
         requires time { time ≤ TIME_MAX }
         requires water { IsWater water }
         requires in_time { water ≤ time + (defs.now).lateness }
@@ -129,23 +128,24 @@ pub trait KeyPart: Drop {
         ensures stays { (m : Moment) (n : ℕ) (s : Stored) → stands defs.now window m n s self.old
             → stands defs.now window m n s self.new }
         ensures asked { (m : Moment) (n : ℕ)
-            → StandsAt stands defs.now window water store.now self.old m n
+            → StandsAt stands defs.now window water (S.stored store.now) self.old m n
             → is_asked defs.now window m time self.new }
         ensures ready { is_ready defs.now window time water self.new }
         ensures room { put_room defs.now window time water self.new
             ≡ put_room defs.now window time water self.old }
-        ensures work { steps.new ≤ steps.old + 64 * (store.now.reach + 2) * owed self.new }
+        ensures work { steps.new
+            ≤ steps.old + 64 * ((S.stored store.now).reach + 2) * owed self.new }
         ensures credit { credit self.new ≤ credit self.old }
         ensures ahead { (w : ℕ) (s : Stored) → is_ahead defs.now window w s self.old
             → is_ahead defs.now window w s self.new };
 
     /// Takes in a tuple that the store has taken in, or that is settled at once where each window
     /// counts events.
-    fn put<T: AggTree<Bundle>, L>(
+    fn put<S: AggStore, L>(
         &mut self,
         defs: &Defs,
         window: u32,
-        store: &SliceStore<T>,
+        store: &S,
         key: &KeyText,
         pos: u64,
         time: u64,
@@ -155,20 +155,20 @@ pub trait KeyPart: Drop {
         steps: &mut Steps<L>,
     )
         requires takes { (m : Moment) × (n : ℕ) × (before : Stored) × (more : ℕ)
-            × TakesTuple stands defs.now window is_asked water (kept_at pos time value) store.now
-            self.old m n before more }
+            × TakesTuple stands defs.now window is_asked water (kept_at pos time value)
+            (S.stored store.now) self.old m n before more }
         requires water { IsWater water }
         requires ready { is_ready defs.now window time water self.old }
         requires spare { put_room defs.now window time water self.old
             ≤ vec_capacity out.old - vec_len out.old }
         ensures stands { (m : Moment) (n : ℕ) (before : Stored) (more : ℕ)
-            → TakesTuple stands defs.now window is_asked water (kept_at pos time value) store.now
-            self.old m n before more
+            → TakesTuple stands defs.now window is_asked water (kept_at pos time value)
+            (S.stored store.now) self.old m n before more
             → stands defs.now window (with_tuple m (kept_at pos time value)) more
-            store.now self.new }
+            (S.stored store.now) self.new }
         ensures changes { (m : Moment) (n : ℕ) (before : Stored) (more : ℕ)
-            → TakesTuple stands defs.now window is_asked water (kept_at pos time value) store.now
-            self.old m n before more → out.new.items ≡ out.old.items
+            → TakesTuple stands defs.now window is_asked water (kept_at pos time value)
+            (S.stored store.now) self.old m n before more → out.new.items ≡ out.old.items
             ++ (retractions key.now m (with_tuple m (kept_at pos time value))
             (window, window_at defs.now window)
             ++ emissions key.now m (with_tuple m (kept_at pos time value))
@@ -178,13 +178,13 @@ pub trait KeyPart: Drop {
         ensures capacity { vec_capacity out.new ≡ vec_capacity out.old }
         ensures owed { owed self.old ≤ vec_len out.new - vec_len out.old }
         ensures work { steps.new ≤ steps.old + change_work (window_at defs.now window).kind
-            store.now.reach * (vec_len out.new - vec_len out.old) }
+            (S.stored store.now).reach * (vec_len out.new - vec_len out.old) }
         ensures credit { credit self.new ≤ credit self.old }
         ensures ahead { (m : Moment) (n : ℕ) (before : Stored) (more : ℕ)
-            → TakesTuple stands defs.now window is_asked water (kept_at pos time value) store.now
-            self.old m n before more → complete_by defs.now window water ≤ time
+            → TakesTuple stands defs.now window is_asked water (kept_at pos time value)
+            (S.stored store.now) self.old m n before more → complete_by defs.now window water ≤ time
             → is_ahead defs.now window water before self.old
-            → is_ahead defs.now window water store.now self.new };
+            → is_ahead defs.now window water (S.stored store.now) self.new };
 
     /// Makes room for a mark at a time, and answers for how many changes.
     fn reserve_mark(
@@ -207,11 +207,11 @@ pub trait KeyPart: Drop {
             → is_ahead defs.now window w s self.new };
 
     /// Takes in a mark that the store has taken in.
-    fn mark<T: AggTree<Bundle>, L>(
+    fn mark<S: AggStore, L>(
         &mut self,
         defs: &Defs,
         window: u32,
-        store: &SliceStore<T>,
+        store: &S,
         key: &KeyText,
         time: u64,
         water: u64,
@@ -219,16 +219,16 @@ pub trait KeyPart: Drop {
         steps: &mut Steps<L>,
     )
         requires takes { (m : Moment) × (n : ℕ) × (before : Stored)
-            × TakesMark stands defs.now window water time store.now self.old m n before }
+            × TakesMark stands defs.now window water time (S.stored store.now) self.old m n before }
         requires water { IsWater water }
         requires ready { is_ready defs.now window time water self.old }
         requires spare { mark_room defs.now window time water self.old
             ≤ vec_capacity out.old - vec_len out.old }
         ensures stands { (m : Moment) (n : ℕ) (before : Stored)
-            → TakesMark stands defs.now window water time store.now self.old m n before
-            → stands defs.now window (with_mark m time) n store.now self.new }
+            → TakesMark stands defs.now window water time (S.stored store.now) self.old m n before
+            → stands defs.now window (with_mark m time) n (S.stored store.now) self.new }
         ensures changes { (m : Moment) (n : ℕ) (before : Stored)
-            → TakesMark stands defs.now window water time store.now self.old m n before
+            → TakesMark stands defs.now window water time (S.stored store.now) self.old m n before
             → out.new.items ≡ out.old.items
             ++ (retractions key.now m (with_mark m time) (window, window_at defs.now window)
             ++ emissions key.now m (with_mark m time) (window, window_at defs.now window)) }
@@ -236,43 +236,44 @@ pub trait KeyPart: Drop {
             ≤ vec_len out.old + mark_room defs.now window time water self.old }
         ensures capacity { vec_capacity out.new ≡ vec_capacity out.old }
         ensures work { steps.new ≤ steps.old
-            + 64 * (store.now.reach + 2) * (vec_len out.new - vec_len out.old) }
+            + 64 * ((S.stored store.now).reach + 2) * (vec_len out.new - vec_len out.old) }
         ensures credit { credit self.new ≤ credit self.old }
         ensures ahead { (m : Moment) (n : ℕ) (before : Stored)
-            → TakesMark stands defs.now window water time store.now self.old m n before
+            → TakesMark stands defs.now window water time (S.stored store.now) self.old m n before
             → complete_by defs.now window water ≤ time
             → is_ahead defs.now window water before self.old
-            → is_ahead defs.now window water store.now self.new };
+            → is_ahead defs.now window water (S.stored store.now) self.new };
 
     /// Makes room for a move of the watermark, and answers for how many changes.
-    fn reserve_water<T: AggTree<Bundle>>(
+    fn reserve_water<S: AggStore>(
         &mut self,
         defs: &Defs,
         window: u32,
-        store: &SliceStore<T>,
+        store: &S,
         old: u64,
         new: u64,
     ) -> Result<u64, NoMemory>
         requires stands { (m : Moment) × (n : ℕ)
-            × StandsAt stands defs.now window old store.now self.old m n }
+            × StandsAt stands defs.now window old (S.stored store.now) self.old m n }
         requires rises { old ≤ new }
         requires old { IsWater old }
         requires new { IsWater new }
         ensures stays { (m : Moment) (n : ℕ) (s : Stored) → stands defs.now window m n s self.old
             → stands defs.now window m n s self.new }
-        ensures ready { OnOk result (can_move defs.now window store.now old new self.new) }
+        ensures ready { OnOk result
+            (can_move defs.now window (S.stored store.now) old new self.new) }
         ensures room { IfOk result
-            (λ k. k ≡ move_room defs.now window store.now old new self.new) }
+            (λ k. k ≡ move_room defs.now window (S.stored store.now) old new self.new) }
         ensures credit { credit self.new ≤ credit self.old }
         ensures ahead { (w : ℕ) (s : Stored) → is_ahead defs.now window w s self.old
             → is_ahead defs.now window w s self.new };
 
     /// Takes in a move of the watermark, and appends the instances that it completes.
-    fn water<T: AggTree<Bundle>, L>(
+    fn water<S: AggStore, L>(
         &mut self,
         defs: &Defs,
         window: u32,
-        store: &SliceStore<T>,
+        store: &S,
         key: &KeyText,
         old: u64,
         new: u64,
@@ -280,59 +281,53 @@ pub trait KeyPart: Drop {
         steps: &mut Steps<L>,
     )
         requires stands { (m : Moment) × (n : ℕ)
-            × StandsAt stands defs.now window old store.now self.old m n }
+            × StandsAt stands defs.now window old (S.stored store.now) self.old m n }
         requires rises { old ≤ new }
         requires old { IsWater old }
         requires new { IsWater new }
-        requires ready { can_move defs.now window store.now old new self.old }
-        requires spare { move_room defs.now window store.now old new self.old
+        requires ready { can_move defs.now window (S.stored store.now) old new self.old }
+        requires spare { move_room defs.now window (S.stored store.now) old new self.old
             ≤ vec_capacity out.old - vec_len out.old }
         ensures stands { (m : Moment) (n : ℕ)
-            → StandsAt stands defs.now window old store.now self.old m n
-            → stands defs.now window (at_water m new) n store.now self.new }
+            → StandsAt stands defs.now window old (S.stored store.now) self.old m n
+            → stands defs.now window (at_water m new) n (S.stored store.now) self.new }
         ensures changes { (m : Moment) (n : ℕ)
-            → StandsAt stands defs.now window old store.now self.old m n
+            → StandsAt stands defs.now window old (S.stored store.now) self.old m n
             → out.new.items ≡ out.old.items
             ++ completions key.now m new (window, window_at defs.now window) }
         ensures room { vec_len out.new
-            ≤ vec_len out.old + move_room defs.now window store.now old new self.old }
+            ≤ vec_len out.old + move_room defs.now window (S.stored store.now) old new self.old }
         ensures capacity { vec_capacity out.new ≡ vec_capacity out.old }
         ensures ahead { (m : Moment) (n : ℕ)
-            → StandsAt stands defs.now window old store.now self.old m n
-            → is_ahead defs.now window new store.now self.new }
+            → StandsAt stands defs.now window old (S.stored store.now) self.old m n
+            → is_ahead defs.now window new (S.stored store.now) self.new }
         ensures work_ahead { (m : Moment) (n : ℕ)
-            → StandsAt stands defs.now window old store.now self.old m n
-            → is_ahead defs.now window old store.now self.old
+            → StandsAt stands defs.now window old (S.stored store.now) self.old m n
+            → is_ahead defs.now window old (S.stored store.now) self.old
             → steps.new + credit self.new ≤ steps.old + credit self.old
-            + (10 * taken_up defs.now window store.now old new
-            + row_work (window_at defs.now window).kind store.now.reach
+            + (10 * taken_up defs.now window (S.stored store.now) old new
+            + row_work (window_at defs.now window).kind (S.stored store.now).reach
             * (vec_len out.new - vec_len out.old)) }
         ensures work { (m : Moment) (n : ℕ)
-            → StandsAt stands defs.now window old store.now self.old m n
+            → StandsAt stands defs.now window old (S.stored store.now) self.old m n
             → steps.new + credit self.new ≤ steps.old + credit self.old
-            + (10 * (taken_up defs.now window store.now old new
-            + missed defs.now window store.now old)
-            + row_work (window_at defs.now window).kind store.now.reach
+            + (10 * (taken_up defs.now window (S.stored store.now) old new
+            + missed defs.now window (S.stored store.now) old)
+            + row_work (window_at defs.now window).kind (S.stored store.now).reach
             * (vec_len out.new - vec_len out.old)) };
 
     /// The first watermark at which something becomes complete: a move to below it changes nothing.
     /// Later than the final one where nothing is left to become so.
-    fn next_due<T: AggTree<Bundle>>(
-        &self,
-        defs: &Defs,
-        window: u32,
-        store: &SliceStore<T>,
-        water: u64,
-    ) -> u64
+    fn next_due<S: AggStore>(&self, defs: &Defs, window: u32, store: &S, water: u64) -> u64
         requires stands { (m : Moment) × (n : ℕ)
-            × StandsAt stands defs.now window water store.now self.now m n }
+            × StandsAt stands defs.now window water (S.stored store.now) self.now m n }
         requires water { IsWater water }
         ensures none_before { (key : List ℕ) (m : Moment) (n new : ℕ)
-            → StandsAt stands defs.now window water store.now self.now m n
+            → StandsAt stands defs.now window water (S.stored store.now) self.now m n
             → water ≤ new → new < result
             → completions key m new (window, window_at defs.now window) ≡ [] }
         ensures some_at { (key : List ℕ) (m : Moment) (n : ℕ)
-            → StandsAt stands defs.now window water store.now self.now m n
+            → StandsAt stands defs.now window water (S.stored store.now) self.now m n
             → result ≤ FINAL → (water < result)
             × (completions key m result (window, window_at defs.now window) ≢ []) };
 

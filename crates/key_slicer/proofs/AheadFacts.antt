@@ -9,7 +9,7 @@ use Rattle.stream_base.specs.Limits.{Definitions}
 use Rattle.stream_base.specs.declared.def.Def.{Def}
 use Rattle.stream_base.specs.Laws.{completions}
 use Rattle.stream_base.specs.Model.Changes.{Moment}
-use Rattle.slice_store.specs.Stored.{IsAsBefore, Stored}
+use Rattle.agg_store.specs.Stored.{IsAsBefore, Stored}
 use Rattle.key_parts.specs.Work.{row_work}
 use Rattle.key_slicer.specs.Parts.{EachPart, rooms}
 use Rattle.key_slicer.specs.Work.{TakenUp, moved_work}

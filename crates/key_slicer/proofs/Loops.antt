@@ -9,7 +9,7 @@ use Rattle.std.proofs.lemmas.List.Sums.{sum_by-cons, sum_by_push}
 use Rattle.stream_base.specs.Limits.{Definitions}
 use Rattle.stream_base.specs.declared.kept.Kept.{Kept}
 use Rattle.stream_base.specs.Model.Changes.{Moment}
-use Rattle.slice_store.specs.Stored.{Stored}
+use Rattle.agg_store.specs.Stored.{Stored}
 use Rattle.key_parts.specs.Calls.{Standing, StandsAt, TakesMark, TakesTuple}
 use Rattle.key_slicer.specs.Parts.{AllStandAt, AllTakeMark, AllTakeTuple, AreStanding, EachPart, IsLeastOf, rooms}
 

@@ -19,7 +19,7 @@ use Rattle.window_laws.proofs.Order.{runs_behind}
 use Rattle.slice_runs.specs.declared.slice.Slice.{Slice}
 use Rattle.slice_runs.specs.Touched.{slices_from}
 use Rattle.slice_runs.specs.Slices.{AreSlices, joined, slice_of}
-use Rattle.slice_store.specs.Stored.{IsStore, Stored, tuples_of}
+use Rattle.agg_store.specs.Stored.{IsStore, Stored, tuples_of}
 use Rattle.slice_runs.proofs.SliceOrder.{IsApart, IsNear, first_below_last}
 use Rattle.key_windows.specs.Calls.{moment}
 use Rattle.key_parts.specs.Calls.{Standing, window_at}

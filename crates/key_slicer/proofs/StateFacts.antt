@@ -32,7 +32,7 @@ use Rattle.window_laws.proofs.SettledFacts.{not_all}
 use Rattle.window_laws.proofs.KeptFacts.{put_is_kept}
 use Rattle.slice_runs.specs.Touched.{slices_from}
 use Rattle.slice_runs.specs.Slices.{joined}
-use Rattle.slice_store.specs.Stored.{IsAsBefore, IsSliced, IsStore, Stored, tuples_of}
+use Rattle.agg_store.specs.Stored.{IsAsBefore, IsSliced, IsStore, Stored, tuples_of}
 use Rattle.slice_runs.proofs.MarkFacts.{rising_more}
 use Rattle.slice_runs.proofs.SliceEdits.{put_length}
 use Rattle.key_windows.specs.Calls.{IsWater, changes_by_move, moment}

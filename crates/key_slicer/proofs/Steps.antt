@@ -4,7 +4,7 @@ use Rattle.stream_base.specs.Limits.{Definitions}
 use Rattle.stream_base.specs.declared.kept.Kept.{Kept}
 use Rattle.stream_base.specs.Model.Changes.{Moment}
 use Rattle.window_laws.specs.After.{at_water, with_mark, with_tuple}
-use Rattle.slice_store.specs.Stored.{Stored}
+use Rattle.agg_store.specs.Stored.{Stored}
 use Rattle.key_parts.specs.Calls.{LosesSettled, Standing, StandsAt, TakesMark, TakesTuple}
 
 -- at a watermark the part of the window at a place has missed nothing, with a store

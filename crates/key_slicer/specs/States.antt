@@ -4,7 +4,7 @@ use Rattle.stream_base.specs.Limits.{Definitions}
 use Rattle.stream_base.specs.declared.change.Change.{Change}
 use Rattle.stream_base.specs.declared.kept.Kept.{Kept}
 use Rattle.stream_base.specs.Model.Changes.{Moment}
-use Rattle.slice_store.specs.Stored.{Stored}
+use Rattle.agg_store.specs.Stored.{Stored}
 use Rattle.key_windows.specs.Calls.{Call, IsWater, moment}
 use Rattle.key_windows.specs.Calls.Call.{Put, Mark, Move}
 use Rattle.key_parts.specs.Calls.{Standing}

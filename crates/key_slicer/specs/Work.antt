@@ -13,7 +13,7 @@ use Rattle.window_laws.specs.Runs.{parted_at}
 use Rattle.partials.specs.Apart.{IsReachOver}
 use Rattle.slice_runs.specs.Touched.{is_across, is_near}
 use Rattle.slice_runs.specs.Slices.{joined}
-use Rattle.slice_store.specs.Stored.{Stored}
+use Rattle.agg_store.specs.Stored.{Stored}
 use Rattle.key_windows.specs.Calls.{slices_at}
 use Rattle.key_parts.specs.Work.{change_work, row_work}
 use Rattle.key_slicer.specs.Parts.{turns}

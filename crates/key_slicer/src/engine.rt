@@ -1,6 +1,5 @@
 //! The state of a key as an engine.
 ghost use Rattle.std.specs.Prelude.{vec_capacity, vec_len, ◌-◌};
-ghost use Rattle.key_windows.specs.Calls.{IsWater};
 ghost use Rattle.key_slicer.specs.Parts.{EachPart, rooms};
 ghost use Rattle.key_slicer.specs.States.{Fits, IsReady};
 ghost use Rattle.key_slicer.specs.Work.{bounds_mark, bounds_put, catch_up, mark_work, move_work, put_work};

@@ -1,19 +1,20 @@
 //! The state of a key.
-ghost use Rattle.std.specs.Prelude.{◌≡◌, ◌≤◌, ◌+◌, ◌-◌, ◌*◌, [], ℕ, length, true, false, All, IfNone, IfSome, OnOk, vec_capacity, vec_len};
+ghost use Rattle.std.specs.Prelude.{◌≡◌, ◌≤◌, ◌+◌, ◌-◌, ◌*◌, [], ℕ, length, true, All, IfNone, IfSome, OnOk, vec_capacity, vec_len};
 ghost use Rattle.std.specs.List.{Contains, list_all};
 ghost use Rattle.stream_base.specs.declared.kept.Kept.{Kept};
 ghost use Rattle.stream_base.specs.Model.Slices.{is_events};
 ghost use Rattle.stream_base.specs.Model.Windows.{first_time};
 ghost use Rattle.stream_base.specs.declared.limits.TheConstants.{TIME_MAX};
 ghost use Rattle.partials.specs.Apart.{IsReachOver};
-ghost use Rattle.slice_store.specs.Entered.{slices_near};
+ghost use Rattle.agg_store.specs.Entered.{slices_near};
 ghost use Rattle.slice_runs.specs.Slices.{joined};
-ghost use Rattle.slice_store.specs.Stored.{IsSliced, IsStore, Stored, tuples_of};
+ghost use Rattle.agg_store.specs.Stored.{IsSliced, IsStore, tuples_of};
 ghost use Rattle.key_windows.specs.Calls.{IsWater, kept_at};
 ghost use Rattle.key_parts.specs.Moves.{Comes, all_count_events};
 
 use crate::parts::Parts;
 use agg_laws::{AggTree, Steps};
+use agg_store::AggStore;
 use aggregates::Bundle;
 use key_parts::KeyPart;
 use slice_store::SliceStore;

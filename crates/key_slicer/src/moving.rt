@@ -5,7 +5,7 @@ ghost use Rattle.stream_base.specs.declared.limits.TheConstants.{FINAL};
 ghost use Rattle.stream_base.specs.Laws.{completions};
 ghost use Rattle.stream_base.specs.Model.Changes.{Moment};
 ghost use Rattle.window_laws.specs.After.{at_water};
-ghost use Rattle.slice_store.specs.Stored.{Stored};
+ghost use Rattle.agg_store.specs.Stored.{Stored};
 ghost use Rattle.key_windows.specs.Calls.{IsWater};
 ghost use Rattle.key_slicer.specs.Parts.{AllStandAt, AreStanding, EachPart, rooms};
 ghost use Rattle.key_slicer.specs.Work.{catch_up, moves_work};

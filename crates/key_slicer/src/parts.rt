@@ -1,7 +1,7 @@
 //! The parts of a key's windows.
-ghost use Rattle.std.specs.Prelude.{◌≡◌, ◌≤◌, ◌+◌, [], ℕ, length, IfOk, OnOk};
+ghost use Rattle.std.specs.Prelude.{◌≡◌, ◌≤◌, ◌+◌, [], ℕ, length, IfOk};
 ghost use Rattle.stream_base.specs.declared.limits.TheConstants.{WINDOWS_MAX};
-ghost use Rattle.slice_store.specs.Stored.{Stored};
+ghost use Rattle.agg_store.specs.Stored.{Stored};
 ghost use Rattle.key_windows.specs.Calls.{moment};
 ghost use Rattle.key_slicer.specs.Parts.{AreStanding, EachPart, rooms};
 

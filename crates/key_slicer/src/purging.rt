@@ -4,7 +4,7 @@ ghost use Rattle.stream_base.specs.declared.limits.TheConstants.{TIME_MAX};
 ghost use Rattle.stream_base.specs.Model.Changes.{Moment};
 ghost use Rattle.window_laws.specs.After.{at_water};
 ghost use Rattle.window_laws.specs.Settled.{without_first};
-ghost use Rattle.slice_store.specs.Stored.{Stored};
+ghost use Rattle.agg_store.specs.Stored.{Stored};
 ghost use Rattle.key_windows.specs.Calls.{IsWater};
 ghost use Rattle.key_parts.specs.Calls.{window_at};
 ghost use Rattle.key_parts.specs.Moves.{SettlesUpTo};

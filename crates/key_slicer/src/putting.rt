@@ -1,10 +1,10 @@
 //! The parts of a key's windows where a tuple comes.
-ghost use Rattle.std.specs.Prelude.{◌≡◌, ◌≤◌, ◌+◌, ◌-◌, ◌*◌, ◌++◌, [], ℕ, List, length, IfOk, OnOk, vec_len, vec_capacity};
+ghost use Rattle.std.specs.Prelude.{◌≡◌, ◌≤◌, ◌+◌, ◌-◌, ◌*◌, ◌++◌, [], ℕ, List, IfOk, OnOk, vec_len, vec_capacity};
 ghost use Rattle.std.specs.List.{enumerate_from, flat_map};
 ghost use Rattle.stream_base.specs.declared.limits.TheConstants.{TIME_MAX};
 ghost use Rattle.stream_base.specs.Model.Changes.{Moment};
 ghost use Rattle.window_laws.specs.After.{with_tuple};
-ghost use Rattle.slice_store.specs.Stored.{Stored};
+ghost use Rattle.agg_store.specs.Stored.{Stored};
 ghost use Rattle.key_windows.specs.Calls.{IsWater, kept_at};
 ghost use Rattle.key_slicer.specs.Parts.{AllStandAt, AllTakeTuple, AreStanding, EachPart, rooms, turns};
 ghost use Rattle.key_slicer.specs.Work.{turns_work};

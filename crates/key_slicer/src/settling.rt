@@ -5,7 +5,7 @@ ghost use Rattle.stream_base.specs.declared.kept.Kept.{Kept};
 ghost use Rattle.stream_base.specs.declared.limits.TheConstants.{FINAL, TIME_MAX};
 ghost use Rattle.stream_base.specs.Model.Slices.{is_events, is_settled, unsettled};
 ghost use Rattle.stream_base.specs.Model.Windows.{first_time};
-ghost use Rattle.slice_store.specs.Stored.{tuples_of};
+ghost use Rattle.agg_store.specs.Stored.{tuples_of};
 ghost use Rattle.key_windows.specs.Calls.{IsWater, moment};
 ghost use Rattle.held_laws.specs.Settling.{NoneSettled};
 ghost use Rattle.key_slicer.specs.States.{Fits};

@@ -1,6 +1,5 @@
 pub mod Folding
 pub mod PartialFacts
 pub mod EnterFacts
-pub mod FoldFacts
 pub mod SplitPartials
 pub mod LeavePartials

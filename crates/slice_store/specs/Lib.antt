@@ -1,2 +1,2 @@
-pub mod Stored
-pub mod Entered
+pub mod Inside
+pub mod Placing

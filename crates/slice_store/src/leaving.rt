@@ -1,6 +1,6 @@
 //! The first slices leave.
 ghost use Rattle.std.specs.Prelude.{◌≡◌, ◌≤◌, ◌+◌, ◌*◌, drop, length, map};
-ghost use Rattle.slice_store.specs.Stored.{partial_of};
+ghost use Rattle.agg_store.specs.Stored.{partial_of};
 
 use agg_laws::{AggTree, Steps};
 use aggregates::Bundle;

@@ -1,28 +1,28 @@
 //! The store of a key's slices.
-ghost use Rattle.std.specs.Prelude.{◌≡◌, ◌≤◌, ◌<◌, ◌+◌, ◌*◌, ℕ, List, [], length, filter, find, map, max, nat_le, nat_lt, OnOk, All, FitsSigned, true};
+ghost use Rattle.std.specs.Prelude.{◌≡◌, ◌≤◌, ◌<◌, ◌+◌, ◌*◌, List, [], length, filter, max, nat_lt, OnOk, All, FitsSigned, true};
 ghost use Rattle.std.specs.Int.{w64};
 ghost use Rattle.std.specs.BTreeSet.{insert_key};
 ghost use Rattle.std.specs.List.{flat_map, list_any};
-ghost use Rattle.std.specs.Option.{option_map};
 ghost use Rattle.std.specs.Ordering.{nat_cmp};
 ghost use Rattle.stream_base.specs.declared.def.Def.{Def};
 ghost use Rattle.stream_base.specs.declared.kept.Kept.{Kept};
 ghost use Rattle.stream_base.specs.declared.limits.TheConstants.{TIME_MAX};
 ghost use Rattle.stream_base.specs.Model.Journal.{put_in_order};
-ghost use Rattle.stream_base.specs.Model.Windows.{first_time, last_time, within};
-ghost use Rattle.aggregates.specs.Bundled.{bundle_of};
-ghost use Rattle.window_laws.specs.Runs.{IsAligned, parted_at, runs_within};
+ghost use Rattle.stream_base.specs.Model.Windows.{first_time, last_time};
+ghost use Rattle.window_laws.specs.Runs.{IsAligned, parted_at};
 ghost use Rattle.partials.specs.Apart.{IsReachOver};
+ghost use Rattle.slice_runs.specs.Slices.{joined, kept_at};
 ghost use Rattle.slice_runs.specs.Touched.{is_across, marks_left, slices_from};
-ghost use Rattle.slice_store.specs.Entered.{IsPut, is_last, placed_in, slices_near};
-ghost use Rattle.slice_runs.specs.Slices.{joined, kept_at, slice_of, values_of};
-ghost use Rattle.slice_store.specs.Stored.{IsAsBefore, IsSliced, IsStore, tuples_of};
+ghost use Rattle.agg_store.specs.Entered.{IsPut, slices_near};
+ghost use Rattle.agg_store.specs.Stored.{IsAsBefore, IsSliced, IsStore, tuples_of};
+ghost use Rattle.slice_store.specs.Placing.{is_last, placed_in};
 
 use crate::entering::enter;
 use crate::leaving::take_first;
 use crate::placed::Placed;
 use crate::splitting::split;
 use agg_laws::{AggTree, Steps};
+use agg_store::AggStore;
 use aggregates::Bundle;
 use partials::Partials;
 use slice_runs::{Runs, Slice, add_mark, first_entered, keep_last, last_entered};
@@ -48,7 +48,8 @@ pub struct SliceStore<T: AggTree<Bundle>> {
 
 impl<T: AggTree<Bundle>> Model for SliceStore<T> {
     ghost use Rattle.std.specs.Prelude.{◌-◌, min, vec_len, vec_capacity};
-    ghost use Rattle.slice_store.specs.Stored.{Stored, AreInside};
+    ghost use Rattle.agg_store.specs.Stored.{Stored};
+    ghost use Rattle.slice_store.specs.Inside.{AreInside};
 
     ghost Value = { Stored };
 
@@ -161,44 +162,6 @@ impl<T: AggTree<Bundle>> SliceStore<T> {
         }
     }
 
-    /// The fold of the tuples with `low <= time < high` in event order, from the partials of their
-    /// slices. No slice has tuples on both sides of either time.
-    pub fn fold<L>(&self, low: u64, high: u64, steps: &mut Steps<L>) -> Bundle
-        requires low { IsAligned self.now.slices low }
-        requires high { IsAligned self.now.slices high }
-        ensures value { result ≡ bundle_of (values_of (within low high (tuples_of self.now))) }
-        ensures one_each { steps.new ≤ steps.old + length (runs_within low high self.now.slices) }
-        ensures cost { steps.new ≤ steps.old + 64 * (self.now.reach + 2) }
-    {
-        let _count = self.runs.len();
-        self.partials.fold_range(low, high, steps)
-    }
-
-    /// How many slices there are.
-    pub fn slice_count(&self) -> u64
-        ensures count { result ≡ length self.now.slices }
-        ensures holds { IsStore self.now }
-        ensures ends { All (λ run. last_time run ≤ TIME_MAX) self.now.slices }
-        ensures reach { IsReachOver T.bounded (length self.now.slices) self.now.reach }
-    {
-        self.partials.vouch();
-        self.runs.len() as u64
-    }
-
-    /// The first slice that begins at a time or later, `None` exactly where there is none.
-    pub fn slice_from(&self, time: u64) -> Option<Slice>
-        ensures first { result
-            ≡ option_map slice_of (find (λ run. nat_le time (first_time run)) self.now.slices) }
-        ensures holds { IsStore self.now }
-    {
-        let at = self.runs.before(time);
-        if at < self.runs.len() {
-            Some(self.runs.slice(at))
-        } else {
-            None
-        }
-    }
-
     /// How many slices begin at a time or later.
     pub fn count_from(&self, time: u64) -> u64
         ensures { result ≡ length (slices_from time self.now.slices) }
@@ -226,6 +189,35 @@ impl<T: AggTree<Bundle>> SliceStore<T> {
         self.runs.drop_first(count, time);
         keep_last(&mut self.marks, time);
         self.dropped = self.dropped.max(time);
+    }
+}
+
+impl<T: AggTree<Bundle>> AggStore for SliceStore<T> {
+    ghost stored = { λ s. s };
+
+    fn fold<L>(&self, low: u64, high: u64, steps: &mut Steps<L>) -> Bundle {
+        let _count = self.runs.len();
+        self.partials.fold_range(low, high, steps)
+    }
+
+    /// How many slices there are. It tells how the reach is bounded by that number, too.
+    fn slice_count(&self) -> u64
+        ensures count { result ≡ length self.now.slices }
+        ensures holds { IsStore self.now }
+        ensures ends { All (λ run. last_time run ≤ TIME_MAX) self.now.slices }
+        ensures reach { IsReachOver T.bounded (length self.now.slices) self.now.reach }
+    {
+        self.partials.vouch();
+        self.runs.len() as u64
+    }
+
+    fn slice_from(&self, time: u64) -> Option<Slice> {
+        let at = self.runs.before(time);
+        if at < self.runs.len() {
+            Some(self.runs.slice(at))
+        } else {
+            None
+        }
     }
 }
 

@@ -19,8 +19,8 @@ use Rattle.window_laws.specs.Runs.{IsAligned}
 use Rattle.window_laws.proofs.InstanceFacts.{between_ends}
 use Rattle.window_laws.proofs.Order.{All-map_of}
 use Rattle.window_laws.proofs.StretchFacts.{edges_of}
-use Rattle.slice_store.specs.Stored.{IsSliced, IsStore, Stored, tuples_of}
-use Rattle.slice_store.specs.Stored.{IsAsBefore as IsStoreAsBefore}
+use Rattle.agg_store.specs.Stored.{IsSliced, IsStore, Stored, tuples_of}
+use Rattle.agg_store.specs.Stored.{IsAsBefore as IsStoreAsBefore}
 use Rattle.slice_runs.proofs.SliceOrder.{times_of_order}
 use Rattle.context_windows.specs.declared.span.Span.{Span}
 use Rattle.context_windows.specs.Aligned.{IsOfSessions, IsOfWindows}

@@ -1,7 +1,7 @@
 -- How a test keeps a store together with the windows that are told from it.
 use Rattle.std.specs.Prelude.{◌≤◌, ℕ, length}
 use Rattle.stream_base.specs.Limits.{Definitions}
-use Rattle.slice_store.specs.Stored.{IsSliced, Stored, tuples_of}
+use Rattle.agg_store.specs.Stored.{IsSliced, Stored, tuples_of}
 use Rattle.context_windows.specs.Marked.{FollowsMarks, Marked}
 use Rattle.context_windows.specs.Spanned.{Follows, IsSessionAt, Spanned, gap_at}
 

@@ -1,7 +1,7 @@
 ghost use Rattle.std.specs.Prelude.{◌≡◌, ◌≤◌, IfOk, true};
 ghost use Rattle.stream_base.specs.declared.limits.TheConstants.{TIME_MAX};
 ghost use Rattle.stream_base.specs.Laws.{is_timed};
-ghost use Rattle.slice_store.specs.Stored.{IsSliced};
+ghost use Rattle.agg_store.specs.Stored.{IsSliced};
 ghost use Rattle.time_lanes.specs.Spans.{IsWater, is_served};
 
 use crate::told::{Work, again, new};

@@ -1,8 +1,9 @@
 ghost use Rattle.std.specs.Prelude.{◌≤◌};
 ghost use Rattle.stream_base.specs.declared.limits.TheConstants.{TIME_MAX};
-ghost use Rattle.slice_store.specs.Stored.{IsSliced};
+ghost use Rattle.agg_store.specs.Stored.{IsSliced};
 
 use agg_laws::{AggTree, Steps};
+use agg_store::AggStore;
 use aggregates::Bundle;
 use fiba_arena::ArenaTree;
 use flat_tree::FlatTree;

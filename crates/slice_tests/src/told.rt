@@ -1,9 +1,10 @@
 //! What the tests of windows share: the changes that they expect, and how slices lie.
 ghost use Rattle.std.specs.Prelude.{◌≤◌};
-ghost use Rattle.slice_store.specs.Stored.{IsSliced};
+ghost use Rattle.agg_store.specs.Stored.{IsSliced};
 ghost use Rattle.context_windows.specs.Aligned.{IsOfWindows};
 
 use agg_laws::AggTree;
+use agg_store::AggStore;
 use aggregates::Bundle;
 use slice_store::SliceStore;
 use stream_base::{Change, Defs, Former, KeyText, Row, Shown};

@@ -1,5 +1,5 @@
 ghost use Rattle.std.specs.Prelude.{◌≤◌, ◌^◌};
-ghost use Rattle.slice_store.specs.Stored.{IsSliced};
+ghost use Rattle.agg_store.specs.Stored.{IsSliced};
 
 use crate::order::Order;
 use agg_laws::{AggTree, Steps};

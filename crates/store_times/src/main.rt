@@ -6,6 +6,7 @@ mod filling;
 mod order;
 
 use agg_laws::{AggTree, Steps};
+use agg_store::AggStore;
 use aggregates::Bundle;
 use filling::fill;
 use flat_tree::FlatTree;

@@ -13,7 +13,7 @@ use Rattle.window_laws.specs.Late.{length_of, slide_of}
 use Rattle.window_laws.specs.Runs.{AreInOrder, runs_within}
 use Rattle.window_laws.specs.Walk.{due_from, next_start}
 use Rattle.window_laws.proofs.WalkFacts.{to_next}
-use Rattle.slice_store.specs.Stored.{Stored}
+use Rattle.agg_store.specs.Stored.{Stored}
 use Rattle.time_lanes.specs.Held.{Holding, HoldsFrom}
 use Rattle.time_lanes.specs.Lane.{Knows, KnowsAll, Laned, fresh_partials, fresh_to, partials_of}
 use Rattle.time_lanes.specs.Moves.{AreApartAbove, moment, new_at}

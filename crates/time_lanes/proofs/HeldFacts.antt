@@ -11,8 +11,8 @@ use Rattle.agg_laws.specs.Pairs as pairs
 use Rattle.window_laws.specs.Runs.{AreInOrder, IsAligned, runs_within}
 use Rattle.stream_base.specs.Model.Windows.{within}
 use Rattle.slice_runs.specs.Slices.{AreSlices, joined, values_of}
-use Rattle.slice_store.specs.Stored.{partial_of}
-use Rattle.slice_store.proofs.FoldFacts.{fold_is, partials_within}
+use Rattle.agg_store.specs.Stored.{partial_of}
+use Rattle.agg_store.proofs.FoldFacts.{fold_is, partials_within}
 use Rattle.time_lanes.specs.Lane.{partials_of}
 use Rattle.time_lanes.proofs.Ranges.{in_two, none_turned}
 

@@ -26,7 +26,7 @@ use Rattle.window_laws.specs.Late.{late_change, length_of, slide_of}
 use Rattle.window_laws.proofs.LateFacts.{timed_late_emissions}
 use Rattle.window_laws.proofs.Order.{nd_split}
 use Rattle.window_laws.proofs.RunFacts.{put_behind, put_first}
-use Rattle.slice_store.specs.Stored.{Stored, tuples_of}
+use Rattle.agg_store.specs.Stored.{Stored, tuples_of}
 use Rattle.time_lanes.specs.Late.{AreApartAt, IsLate, again_or_new, complete_holding, complete_starts, ended, former_at, former_if, formers_of, starts_from, told_at, told_late}
 use Rattle.time_lanes.specs.Moves.{moment}
 use Rattle.time_lanes.specs.Spans.{IsSpan}

@@ -24,7 +24,7 @@ use Rattle.window_laws.proofs.RunEdits.{parted}
 use Rattle.window_laws.proofs.WalkFacts.{none_due, walks_on}
 use Rattle.slice_runs.specs.declared.slice.Slice.{Slice}
 use Rattle.slice_runs.specs.Slices.{AreSlices, joined, slice_of}
-use Rattle.slice_store.specs.Stored.{IsStore, Stored, tuples_of}
+use Rattle.agg_store.specs.Stored.{IsStore, Stored, tuples_of}
 use Rattle.slice_runs.proofs.WithinFacts.{within_aligned}
 use Rattle.slice_runs.proofs.SliceFacts.{all_end}
 use Rattle.slice_runs.proofs.SliceOrder.{IsApart, IsNear, first_below_last, run_above_first, run_below_last, above_slice}

@@ -24,7 +24,7 @@ use Rattle.stream_base.proofs.Filters.{filter_none}
 use Rattle.window_laws.proofs.Order.{All-split}
 use Rattle.window_laws.proofs.WalkFacts.{from_next}
 use Rattle.slice_runs.specs.Slices.{joined}
-use Rattle.slice_store.specs.Stored.{IsStore, Stored, tuples_of}
+use Rattle.agg_store.specs.Stored.{IsStore, Stored, tuples_of}
 use Rattle.time_lanes.specs.Lane.{Knows, Laned, partials_of}
 use Rattle.time_lanes.specs.Moves.{completed_starts, new_at}
 use Rattle.time_lanes.specs.Spans.{IsSpan, IsWindowAt, is_served}

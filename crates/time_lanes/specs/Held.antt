@@ -8,7 +8,7 @@ use Rattle.window_laws.specs.Runs.{IsAligned, runs_within}
 use Rattle.window_laws.specs.Walk.{IsFirstFrom, due_from, next_start}
 use Rattle.slice_runs.specs.declared.slice.Slice.{Slice}
 use Rattle.slice_runs.specs.Slices.{joined, slice_of}
-use Rattle.slice_store.specs.Stored.{Stored, tuples_of}
+use Rattle.agg_store.specs.Stored.{Stored, tuples_of}
 use Rattle.time_lanes.specs.Lane.{partials_of}
 
 -- the partials of slices in a row, up to where, for how many more there is room, and what is left of the steps that were paid for

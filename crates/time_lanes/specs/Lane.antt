@@ -7,7 +7,7 @@ use Rattle.window_laws.specs.Late.{length_of, slide_of}
 use Rattle.window_laws.specs.Runs.{runs_within}
 use Rattle.window_laws.specs.Walk.{next_start_of}
 use Rattle.slice_runs.specs.Slices.{values_of}
-use Rattle.slice_store.specs.Stored.{Stored}
+use Rattle.agg_store.specs.Stored.{Stored}
 use Rattle.time_lanes.specs.Spans.{IsEdge, last_end_of}
 
 -- the partials of the slices that it holds, oldest first; up to where it holds them; whether one of them has changed since; for how many more there is room; and what is left of the steps that were paid for

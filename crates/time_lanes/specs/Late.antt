@@ -14,7 +14,7 @@ use Rattle.stream_base.specs.Model.Changes.{former_of, row_of}
 use Rattle.stream_base.specs.Model.Journal.{put_in_order}
 use Rattle.stream_base.specs.Model.Windows.{Instance, interval, is_selecting, starts_holding, within}
 use Rattle.window_laws.specs.Late.{length_of, slide_of}
-use Rattle.slice_store.specs.Stored.{Stored, tuples_of}
+use Rattle.agg_store.specs.Stored.{Stored, tuples_of}
 
 -- the starts of the complete intervals that hold a time
 abbrev pub complete_starts : ℕ → ℕ → ℕ → ℕ → List ℕ

@@ -10,7 +10,7 @@ use Rattle.stream_base.specs.Model.Windows.{interval, within}
 use Rattle.window_laws.specs.Late.{length_of, slide_of}
 use Rattle.window_laws.specs.Runs.{runs_within}
 use Rattle.window_laws.specs.Walk.{due_from, next_start_of}
-use Rattle.slice_store.specs.Stored.{Stored, tuples_of}
+use Rattle.agg_store.specs.Stored.{Stored, tuples_of}
 use Rattle.time_lanes.specs.Lane.{Knows, Laned, fresh_to}
 use Rattle.time_lanes.specs.Spans.{last_end_of}
 

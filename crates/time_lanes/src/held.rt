@@ -7,9 +7,9 @@ ghost use Rattle.time_lanes.specs.Held.{HoldsFrom};
 ghost use Rattle.time_lanes.specs.Lane.{partials_of};
 
 use crate::next::next_slice;
-use agg_laws::{AggQueue, AggTree, Steps};
+use agg_laws::{AggQueue, Steps};
+use agg_store::AggStore;
 use aggregates::Bundle;
-use slice_store::SliceStore;
 use std::alloc::Global;
 use std::marker::Model;
 use stream_base::NoMemory;
@@ -87,24 +87,19 @@ impl<Q: AggQueue<Bundle>> Held<Q> {
     }
 
     // Takes up the slices from a time on, of those that aren't yet held, up to another.
-    pub fn pull<T: AggTree<Bundle>, L>(
-        &mut self,
-        store: &SliceStore<T>,
-        from: u64,
-        to: u64,
-        steps: &mut Steps<L>,
-    )
-        requires { length (runs_within (max from (self.old).to) to store.now.slices)
+    pub fn pull<S: AggStore, L>(&mut self, store: &S, from: u64, to: u64, steps: &mut Steps<L>)
+        requires { length (runs_within (max from (self.old).to) to (S.stored store.now).slices)
             ≤ (self.old).spare }
         ensures partials { (self.new).partials ≡ (self.old).partials
-            ++ partials_of (runs_within (max from (self.old).to) to store.now.slices) }
-        ensures held { HoldsFrom from store.now self.old → HoldsFrom from store.now self.new }
+            ++ partials_of (runs_within (max from (self.old).to) to (S.stored store.now).slices) }
+        ensures held { HoldsFrom from (S.stored store.now) self.old
+            → HoldsFrom from (S.stored store.now) self.new }
         ensures to { (self.new).to ≡ max (self.old).to to }
         ensures spare { (self.new).spare
-            + length (runs_within (max from (self.old).to) to store.now.slices)
+            + length (runs_within (max from (self.old).to) to (S.stored store.now).slices)
             ≡ (self.old).spare }
         ensures cost { steps.new + (self.new).credit ≤ steps.old + (self.old).credit
-            + 10 * length (runs_within (max from (self.old).to) to store.now.slices) }
+            + 10 * length (runs_within (max from (self.old).to) to (S.stored store.now).slices) }
     {
         let mut at = from.max(self.to);
         while let Some(slice) = next_slice(store, at, to) {
@@ -117,18 +112,12 @@ impl<Q: AggQueue<Bundle>> Held<Q> {
     }
 
     // Lets the slices go that begin from a time on, up to another.
-    pub fn shed<T: AggTree<Bundle>, L>(
-        &mut self,
-        store: &SliceStore<T>,
-        from: u64,
-        to: u64,
-        steps: &mut Steps<L>,
-    )
+    pub fn shed<S: AggStore, L>(&mut self, store: &S, from: u64, to: u64, steps: &mut Steps<L>)
         ensures partials { (self.new).partials
-            ≡ drop (length (runs_within from (min to (self.old).to) store.now.slices))
+            ≡ drop (length (runs_within from (min to (self.old).to) (S.stored store.now).slices))
             (self.old).partials }
-        ensures held { from ≤ to → HoldsFrom from store.now self.old
-            → HoldsFrom to store.now self.new }
+        ensures held { from ≤ to → HoldsFrom from (S.stored store.now) self.old
+            → HoldsFrom to (S.stored store.now) self.new }
         ensures to { (self.new).to ≡ (self.old).to }
         ensures spare { (self.old).spare ≤ (self.new).spare }
         ensures cost { steps.new + (self.new).credit ≤ steps.old + (self.old).credit }

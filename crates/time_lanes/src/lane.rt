@@ -1,19 +1,17 @@
 //! The lane of one window.
-ghost use Rattle.std.specs.Prelude.{◌≡◌, ◌≤◌, ◌<◌, ◌+◌, ◌-◌, ◌*◌, ◌^◌, ◌++◌, ◌||◌, ℕ, List, [], false, true, length, nat_lt, OnOk, IfOk, Option, vec_len, vec_capacity};
-ghost use Rattle.std.specs.BTreeSet.{insert_key};
-ghost use Rattle.std.specs.List.{flat_map};
+ghost use Rattle.std.specs.Prelude.{◌≡◌, ◌≤◌, ◌<◌, ◌+◌, ◌-◌, ◌*◌, ◌++◌, ◌||◌, ℕ, List, [], false, true, length, nat_lt, OnOk, IfOk, Option, vec_len, vec_capacity};
 ghost use Rattle.stream_base.specs.declared.def.Def.{Def};
 ghost use Rattle.stream_base.specs.declared.former.Former.{Former};
 ghost use Rattle.stream_base.specs.declared.kept.Kept.{Kept};
 ghost use Rattle.stream_base.specs.declared.kind.Kind.{Kind};
 ghost use Rattle.stream_base.specs.declared.limits.TheConstants.{FINAL, TIME_MAX};
 ghost use Rattle.stream_base.specs.Laws.{completions};
-ghost use Rattle.stream_base.specs.Model.Changes.{Moment, emissions};
+ghost use Rattle.stream_base.specs.Model.Changes.{emissions};
 ghost use Rattle.window_laws.specs.After.{with_tuple};
 ghost use Rattle.window_laws.specs.Due.{first_open};
 ghost use Rattle.window_laws.specs.Settled.{last_end_of as last_end_holding_of};
 ghost use Rattle.window_laws.specs.Walk.{next_start_of};
-ghost use Rattle.slice_store.specs.Stored.{IsSliced, Stored, tuples_of};
+ghost use Rattle.agg_store.specs.Stored.{IsSliced, Stored, tuples_of};
 ghost use Rattle.time_lanes.specs.Lane.{IsAsBefore, IsSameUpTo, Knows, KnowsAll, fresh_partials, fresh_to};
 ghost use Rattle.time_lanes.specs.Late.{IsFound, IsLate, complete_holding, formers_of};
 ghost use Rattle.time_lanes.specs.Moves.{MayMove, completed_starts, moment, slices_between, slices_due, slices_in_last};
@@ -26,9 +24,9 @@ use crate::next::end_from;
 use crate::owner::Owner;
 use crate::served::{Served, serve, window_at};
 use crate::span::Span;
-use agg_laws::{AggQueue, AggTree, Steps};
+use agg_laws::{AggQueue, Steps};
+use agg_store::AggStore;
 use aggregates::Bundle;
-use slice_store::SliceStore;
 use std::alloc::Global;
 use std::marker::Model;
 use stream_base::{Change, Defs, Former, KeyText, NoMemory};
@@ -76,24 +74,24 @@ impl<Q: AggQueue<Bundle>> Lane<Q> {
     }
 
     /// Makes room for a move of the watermark, and answers how many rows its `advance` will append.
-    pub fn reserve<T: AggTree<Bundle>>(
+    pub fn reserve<S: AggStore>(
         &mut self,
         defs: &Defs,
         window: u32,
-        store: &SliceStore<T>,
+        store: &S,
         old: u64,
         new: u64,
     ) -> Result<u64, NoMemory>
         requires served { is_served defs.now.windows window ≡ true }
-        requires sliced { IsSliced defs.now.windows store.now }
+        requires sliced { IsSliced defs.now.windows (S.stored store.now) }
         requires old { IsWater old }
         requires new { IsWater new }
         ensures kept { IsAsBefore self.old self.new }
         ensures spare { self.old.spare ≤ self.new.spare }
         ensures room { (def : Def) → IsWindowAt defs.now.windows window def → OnOk result
-            (length (slices_due def.kind self.new store.now old new) ≤ self.new.spare) }
+            (length (slices_due def.kind self.new (S.stored store.now) old new) ≤ self.new.spare) }
         ensures number { (def : Def) → IsWindowAt defs.now.windows window def → IfOk result
-            (λ n. n ≡ length (completed_starts def.kind (tuples_of store.now) old new)) }
+            (λ n. n ≡ length (completed_starts def.kind (tuples_of (S.stored store.now)) old new)) }
     {
         let Served { span, .. } = serve(defs, window, store);
         let start = span.next_start(old);
@@ -114,11 +112,11 @@ impl<Q: AggQueue<Bundle>> Lane<Q> {
     /// The work is bounded on credit by 10 steps for each slice of the intervals that end in the
     /// move, and 1 for each row; where the lane has missed slices of complete intervals, or was
     /// touched, by 10 more for each slice of the last one of these.
-    pub fn advance<T: AggTree<Bundle>, L>(
+    pub fn advance<S: AggStore, L>(
         &mut self,
         defs: &Defs,
         window: u32,
-        store: &SliceStore<T>,
+        store: &S,
         key: &KeyText,
         old: u64,
         new: u64,
@@ -126,37 +124,41 @@ impl<Q: AggQueue<Bundle>> Lane<Q> {
         steps: &mut Steps<L>,
     )
         requires served { is_served defs.now.windows window ≡ true }
-        requires sliced { IsSliced defs.now.windows store.now }
+        requires sliced { IsSliced defs.now.windows (S.stored store.now) }
         requires old { IsWater old }
         requires new { IsWater new }
         requires order { old ≤ new }
         requires room { (def : Def) → IsWindowAt defs.now.windows window def
-            → length (slices_due def.kind self.old store.now old new) ≤ self.old.spare }
+            → length (slices_due def.kind self.old (S.stored store.now) old new) ≤ self.old.spare }
         requires spare { (def : Def) → IsWindowAt defs.now.windows window def
-            → length (completed_starts def.kind (tuples_of store.now) old new)
+            → length (completed_starts def.kind (tuples_of (S.stored store.now)) old new)
             ≤ vec_capacity out.old - vec_len out.old }
         ensures changes { (def : Def) (gone : List Kept) (marks : List ℕ)
-            → IsWindowAt defs.now.windows window def → MayMove def.kind old gone store.now self.old
+            → IsWindowAt defs.now.windows window def
+            → MayMove def.kind old gone (S.stored store.now) self.old
             → out.new.items ≡ out.old.items ++ completions key.now
-            (moment (gone ++ tuples_of store.now) marks old) new (window, def) }
+            (moment (gone ++ tuples_of (S.stored store.now)) marks old) new (window, def) }
         ensures knows { (def : Def) → IsWindowAt defs.now.windows window def
-            → Knows def.kind old store.now self.old → Knows def.kind new store.now self.new }
+            → Knows def.kind old (S.stored store.now) self.old
+            → Knows def.kind new (S.stored store.now) self.new }
         ensures knows_all { (def : Def) → IsWindowAt defs.now.windows window def
-            → KnowsAll def.kind new store.now self.new }
+            → KnowsAll def.kind new (S.stored store.now) self.new }
         ensures number { (def : Def) → IsWindowAt defs.now.windows window def → vec_len out.new
-            ≡ vec_len out.old + length (completed_starts def.kind (tuples_of store.now) old new) }
+            ≡ vec_len out.old
+            + length (completed_starts def.kind (tuples_of (S.stored store.now)) old new) }
         ensures capacity { vec_capacity out.new ≡ vec_capacity out.old }
         ensures cost { (def : Def) → IsWindowAt defs.now.windows window def
-            → Knows def.kind old store.now self.old → KnowsAll def.kind old store.now self.old
+            → Knows def.kind old (S.stored store.now) self.old
+            → KnowsAll def.kind old (S.stored store.now) self.old
             → steps.new + self.new.credit ≤ steps.old + self.old.credit
-            + 10 * length (slices_between def.kind store.now old new)
-            + length (completed_starts def.kind (tuples_of store.now) old new) }
+            + 10 * length (slices_between def.kind (S.stored store.now) old new)
+            + length (completed_starts def.kind (tuples_of (S.stored store.now)) old new) }
         ensures cost_touched { (def : Def) → IsWindowAt defs.now.windows window def
-            → Knows def.kind old store.now self.old
+            → Knows def.kind old (S.stored store.now) self.old
             → steps.new + self.new.credit ≤ steps.old + self.old.credit
-            + 10 * (length (slices_between def.kind store.now old new)
-            + length (slices_in_last def.kind store.now old))
-            + length (completed_starts def.kind (tuples_of store.now) old new) }
+            + 10 * (length (slices_between def.kind (S.stored store.now) old new)
+            + length (slices_in_last def.kind (S.stored store.now) old))
+            + length (completed_starts def.kind (tuples_of (S.stored store.now)) old new) }
     {
         let Served { def, span } = serve(defs, window, store);
         let owner = Owner {
@@ -206,31 +208,31 @@ impl<Q: AggQueue<Bundle>> Lane<Q> {
     /// Appends what stands of each complete interval that holds a time, by their starts: `None`
     /// where it selects no tuple. Called before the store takes in a tuple of that time;
     /// `late_count` says how many there are.
-    pub fn formers<T: AggTree<Bundle>, L>(
+    pub fn formers<S: AggStore, L>(
         &self,
         defs: &Defs,
         window: u32,
-        store: &SliceStore<T>,
+        store: &S,
         time: u64,
         water: u64,
         into: &mut Vec<Option<Former>>,
         steps: &mut Steps<L>,
     )
         requires served { is_served defs.now.windows window ≡ true }
-        requires sliced { IsSliced defs.now.windows store.now }
+        requires sliced { IsSliced defs.now.windows (S.stored store.now) }
         requires time { time ≤ TIME_MAX }
         requires water { IsWater water }
         requires spare { (def : Def) → IsWindowAt defs.now.windows window def
             → length (complete_holding def.kind time water)
             ≤ vec_capacity into.old - vec_len into.old }
         ensures formers { (def : Def) (gone : List Kept) → IsWindowAt defs.now.windows window def
-            → IsFound def.kind time gone store.now → into.new.items
-            ≡ into.old.items ++ formers_of def time water (gone ++ tuples_of store.now) }
+            → IsFound def.kind time gone (S.stored store.now) → into.new.items
+            ≡ into.old.items ++ formers_of def time water (gone ++ tuples_of (S.stored store.now)) }
         ensures number { (def : Def) → IsWindowAt defs.now.windows window def → vec_len into.new
             ≡ vec_len into.old + length (complete_holding def.kind time water) }
         ensures capacity { vec_capacity into.new ≡ vec_capacity into.old }
         ensures cost { steps.new ≤ steps.old
-            + 64 * (store.now.reach + 2) * (vec_len into.new - vec_len into.old) }
+            + 64 * ((S.stored store.now).reach + 2) * (vec_len into.new - vec_len into.old) }
     {
         let Served { def, span } = serve(defs, window, store);
         let found = complete_at(&span, time, water);
@@ -241,11 +243,11 @@ impl<Q: AggQueue<Bundle>> Lane<Q> {
     /// complete interval that selects it, by their starts. It is new where the interval selects that
     /// tuple alone, and else an update with what stood, which `formers` told before. A tuple
     /// retracts no interval.
-    pub fn late<T: AggTree<Bundle>, L>(
+    pub fn late<S: AggStore, L>(
         &self,
         defs: &Defs,
         window: u32,
-        store: &SliceStore<T>,
+        store: &S,
         key: &KeyText,
         time: u64,
         water: u64,
@@ -254,7 +256,7 @@ impl<Q: AggQueue<Bundle>> Lane<Q> {
         steps: &mut Steps<L>,
     )
         requires served { is_served defs.now.windows window ≡ true }
-        requires sliced { IsSliced defs.now.windows store.now }
+        requires sliced { IsSliced defs.now.windows (S.stored store.now) }
         requires time { time ≤ TIME_MAX }
         requires water { IsWater water }
         requires formers { (def : Def) → IsWindowAt defs.now.windows window def
@@ -264,14 +266,14 @@ impl<Q: AggQueue<Bundle>> Lane<Q> {
             ≤ vec_capacity out.old - vec_len out.old }
         ensures changes { (def : Def) (gone before : List Kept) (marks : List ℕ) (x : Kept)
             → IsWindowAt defs.now.windows window def
-            → IsLate def time water gone before x formers.now store.now → out.new.items
+            → IsLate def time water gone before x formers.now (S.stored store.now) → out.new.items
             ≡ out.old.items ++ emissions key.now (moment (gone ++ before) marks water)
             (with_tuple (moment (gone ++ before) marks water) x) (window, def) }
         ensures number { (def : Def) → IsWindowAt defs.now.windows window def → vec_len out.new
             ≡ vec_len out.old + length (complete_holding def.kind time water) }
         ensures capacity { vec_capacity out.new ≡ vec_capacity out.old }
         ensures cost { steps.new ≤ steps.old
-            + 64 * (store.now.reach + 2) * (vec_len out.new - vec_len out.old) }
+            + 64 * ((S.stored store.now).reach + 2) * (vec_len out.new - vec_len out.old) }
     {
         let Served { def, span } = serve(defs, window, store);
         let owner = Owner {
@@ -285,18 +287,12 @@ impl<Q: AggQueue<Bundle>> Lane<Q> {
 
     /// When the first interval ends that holds a tuple and ends after a watermark, and the final time
     /// where there is none: a move of the watermark to before it completes nothing.
-    pub fn next_end<T: AggTree<Bundle>>(
-        &self,
-        defs: &Defs,
-        window: u32,
-        store: &SliceStore<T>,
-        water: u64,
-    ) -> u64
+    pub fn next_end<S: AggStore>(&self, defs: &Defs, window: u32, store: &S, water: u64) -> u64
         requires served { is_served defs.now.windows window ≡ true }
-        requires sliced { IsSliced defs.now.windows store.now }
+        requires sliced { IsSliced defs.now.windows (S.stored store.now) }
         requires water { IsWater water }
         ensures { (def : Def) (marks : List ℕ) → IsWindowAt defs.now.windows window def
-            → result ≡ first_open (moment (tuples_of store.now) marks water) def }
+            → result ≡ first_open (moment (tuples_of (S.stored store.now)) marks water) def }
     {
         let Served { span, .. } = serve(defs, window, store);
         end_from(store, &span, span.next_start(water))

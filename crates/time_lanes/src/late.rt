@@ -4,15 +4,15 @@ ghost use Rattle.stream_base.specs.declared.limits.TheConstants.{FINAL, TIME_MAX
 ghost use Rattle.stream_base.specs.Model.Windows.{within};
 ghost use Rattle.aggregates.specs.Bundled.{bundle_of};
 ghost use Rattle.slice_runs.specs.Slices.{values_of};
-ghost use Rattle.slice_store.specs.Stored.{tuples_of};
+ghost use Rattle.agg_store.specs.Stored.{tuples_of};
 ghost use Rattle.time_lanes.specs.Late.{again_or_new, complete_starts, ended, former_at, starts_from, told_at, told_late};
 ghost use Rattle.time_lanes.specs.Spans.{ArePartedAt};
 
 use crate::owner::{Owner, former};
 use crate::span::Span;
-use agg_laws::{AggTree, Steps};
+use agg_laws::Steps;
+use agg_store::AggStore;
 use aggregates::Bundle;
-use slice_store::SliceStore;
 use stream_base::{Change, Former, Func, Row};
 
 // The complete intervals that hold a time: the number of the first, and how many there are.
@@ -53,24 +53,25 @@ fn ended(span: &Span, water: u64) -> u64
 }
 
 // Appends what stood of each.
-pub fn append_formers<T: AggTree<Bundle>, L>(
+pub fn append_formers<S: AggStore, L>(
     func: Func,
     span: &Span,
-    store: &SliceStore<T>,
+    store: &S,
     complete: Complete,
     into: &mut Vec<Option<Former>>,
     steps: &mut Steps<L>,
 )
-    requires parted { ArePartedAt span.now.length span.now.slide store.now.slices }
+    requires parted { ArePartedAt span.now.length span.now.slide (S.stored store.now).slices }
     requires early { (k : ℕ) → k < complete.count
         → (complete.first + k) * span.now.slide ≤ TIME_MAX }
     requires spare { complete.count ≤ vec_capacity into.old - vec_len into.old }
-    ensures told { length (tuples_of store.now) < 2 ^ 64 → into.new.items ≡ into.old.items
-        ++ map (former_at func span.now.length (tuples_of store.now))
+    ensures told { length (tuples_of (S.stored store.now)) < 2 ^ 64
+        → into.new.items ≡ into.old.items
+        ++ map (former_at func span.now.length (tuples_of (S.stored store.now)))
         (starts_from span.now.slide complete.first complete.count) }
     ensures number { vec_len into.new ≡ vec_len into.old + complete.count }
     ensures capacity { vec_capacity into.new ≡ vec_capacity into.old }
-    ensures cost { steps.new ≤ steps.old + 64 * (store.now.reach + 2) * complete.count }
+    ensures cost { steps.new ≤ steps.old + 64 * ((S.stored store.now).reach + 2) * complete.count }
 {
     for k in 0..complete.count {
         let low = (complete.first + k) * span.slide;
@@ -80,27 +81,27 @@ pub fn append_formers<T: AggTree<Bundle>, L>(
 }
 
 // Appends each as it shows now, with what stood of it before.
-pub fn append_late<T: AggTree<Bundle>, L>(
+pub fn append_late<S: AggStore, L>(
     owner: Owner,
     span: &Span,
-    store: &SliceStore<T>,
+    store: &S,
     complete: Complete,
     formers: &[Option<Former>],
     out: &mut Vec<Change>,
     steps: &mut Steps<L>,
 )
-    requires parted { ArePartedAt span.now.length span.now.slide store.now.slices }
+    requires parted { ArePartedAt span.now.length span.now.slide (S.stored store.now).slices }
     requires early { (k : ℕ) → k < complete.count
         → (complete.first + k) * span.now.slide ≤ TIME_MAX }
     requires formers { complete.count ≤ length formers.now }
     requires spare { complete.count ≤ vec_capacity out.old - vec_len out.old }
-    ensures told { length (tuples_of store.now) < 2 ^ 64 → out.new.items ≡ out.old.items
+    ensures told { length (tuples_of (S.stored store.now)) < 2 ^ 64 → out.new.items ≡ out.old.items
         ++ told_late (told_at owner.entry.window owner.entry.key.now owner.entry.func
-        span.now.length (tuples_of store.now))
+        span.now.length (tuples_of (S.stored store.now)))
         (starts_from span.now.slide complete.first complete.count) formers.now }
     ensures number { vec_len out.new ≡ vec_len out.old + complete.count }
     ensures capacity { vec_capacity out.new ≡ vec_capacity out.old }
-    ensures cost { steps.new ≤ steps.old + 64 * (store.now.reach + 2) * complete.count }
+    ensures cost { steps.new ≤ steps.old + 64 * ((S.stored store.now).reach + 2) * complete.count }
 {
     for k in 0..complete.count {
         let low = (complete.first + k) * span.slide;
@@ -111,18 +112,13 @@ pub fn append_late<T: AggTree<Bundle>, L>(
 }
 
 // The fold of the interval that starts so.
-fn fold_interval<T: AggTree<Bundle>, L>(
-    span: &Span,
-    store: &SliceStore<T>,
-    low: u64,
-    steps: &mut Steps<L>,
-) -> Bundle
-    requires parted { ArePartedAt span.now.length span.now.slide store.now.slices }
+fn fold_interval<S: AggStore, L>(span: &Span, store: &S, low: u64, steps: &mut Steps<L>) -> Bundle
+    requires parted { ArePartedAt span.now.length span.now.slide (S.stored store.now).slices }
     requires multiple { (k : ℕ) × (low ≡ k * span.now.slide) }
     requires early { low ≤ TIME_MAX }
     ensures value { result ≡ bundle_of
-        (values_of (within low (low + span.now.length) (tuples_of store.now))) }
-    ensures cost { steps.new ≤ steps.old + 64 * (store.now.reach + 2) }
+        (values_of (within low (low + span.now.length) (tuples_of (S.stored store.now)))) }
+    ensures cost { steps.new ≤ steps.old + 64 * ((S.stored store.now).reach + 2) }
 {
     store.fold(low, low + span.length, steps)
 }

@@ -1,5 +1,5 @@
 //! What an interval shows, from the fold of its tuples.
-ghost use Rattle.std.specs.Prelude.{◌≡◌, ◌<◌, ◌+◌, ◌^◌, ℕ, ℤ, List, length};
+ghost use Rattle.std.specs.Prelude.{◌≡◌, ◌<◌, ◌^◌, ℕ, ℤ, List, length};
 ghost use Rattle.stream_base.specs.declared.kept.Kept.{Kept};
 ghost use Rattle.stream_base.specs.Model.Changes.{row_of};
 ghost use Rattle.stream_base.specs.Model.Windows.{interval, within};

@@ -3,13 +3,11 @@ ghost use Rattle.std.specs.Prelude.{◌≡◌, All, true};
 ghost use Rattle.stream_base.specs.Laws.{is_timed};
 ghost use Rattle.stream_base.specs.Limits.{IsKindWithin};
 ghost use Rattle.window_laws.specs.Late.{length_of, slide_of};
-ghost use Rattle.slice_store.specs.Stored.{IsSliced, IsStore};
+ghost use Rattle.agg_store.specs.Stored.{IsSliced, IsStore};
 ghost use Rattle.time_lanes.specs.Spans.{ArePartedAt, IsWindowAt, is_served};
 
 use crate::span::Span;
-use agg_laws::AggTree;
-use aggregates::Bundle;
-use slice_store::SliceStore;
+use agg_store::AggStore;
 use stream_base::{Def, Defs};
 
 // A window, and how its intervals lie.
@@ -20,16 +18,16 @@ pub struct Served {
 }
 
 // The window at a place, at whose starts and ends the slices of a store part.
-pub fn serve<T: AggTree<Bundle>>(defs: &Defs, window: u32, store: &SliceStore<T>) -> Served
+pub fn serve<S: AggStore>(defs: &Defs, window: u32, store: &S) -> Served
     requires served { is_served defs.now.windows window ≡ true }
-    requires sliced { IsSliced defs.now.windows store.now }
+    requires sliced { IsSliced defs.now.windows (S.stored store.now) }
     ensures stands { IsWindowAt defs.now.windows window result.def }
     ensures timed { is_timed result.def.kind ≡ true }
     ensures within { IsKindWithin result.def.kind }
     ensures length { result.span.length ≡ length_of result.def.kind }
     ensures slide { result.span.slide ≡ slide_of result.def.kind }
-    ensures parted { ArePartedAt result.span.length result.span.slide store.now.slices }
-    ensures holds { IsStore store.now }
+    ensures parted { ArePartedAt result.span.length result.span.slide (S.stored store.now).slices }
+    ensures holds { IsStore (S.stored store.now) }
 {
     let _count = store.slice_count();
     let def = window_at(defs, window);

@@ -31,7 +31,7 @@ use Rattle.window_laws.proofs.LateFacts.{timed_none_gone}
 use Rattle.stream_base.proofs.Filters.{filter_none}
 use Rattle.window_laws.proofs.Order.{nd_head, nd_tail}
 use Rattle.window_laws.proofs.SettledFacts.{all_member}
-use Rattle.slice_store.specs.Stored.{Stored, tuples_of}
+use Rattle.agg_store.specs.Stored.{Stored, tuples_of}
 use Rattle.slice_runs.proofs.SliceEdits.{put_length}
 use Rattle.time_lanes.specs.Late.{IsLate, complete_holding, former_at, formers_of}
 use Rattle.time_lanes.specs.Moves.{moment}

@@ -10,7 +10,7 @@ use Rattle.stream_base.specs.Model.Changes.{Moment}
 use Rattle.window_laws.specs.After.{at_water}
 use Rattle.window_laws.specs.Runs.{runs_within}
 use Rattle.window_laws.specs.Walk.{next_start_of}
-use Rattle.slice_store.specs.Stored.{IsAsBefore, IsStore, Stored, tuples_of}
+use Rattle.agg_store.specs.Stored.{IsAsBefore, IsStore, Stored, tuples_of}
 use Rattle.time_lanes.specs.Lane.{Knows, KnowsAll, Laned, partials_of}
 use Rattle.time_lanes.specs.Late.{complete_holding, formers_of}
 use Rattle.time_lanes.specs.Moves.{completed_starts, slices_between, slices_due, slices_in_last}

@@ -7,11 +7,10 @@ ghost use Rattle.key_parts.specs.Calls.{window_at};
 ghost use Rattle.time_parts.specs.Counted.{CountsAt};
 
 use crate::ends::end_or_never;
-use agg_laws::{AggTree, Steps};
-use aggregates::Bundle;
+use agg_laws::Steps;
+use agg_store::AggStore;
 use count_shift::CountLane;
 use key_parts::KeyPart;
-use slice_store::SliceStore;
 use std::alloc::Global;
 use std::marker::Model;
 use stream_base::{Change, Def, Defs, FINAL, KeyText, Kind, NoMemory};
@@ -113,21 +112,21 @@ impl KeyPart for CountPart {
         self.lane.reserve(count, time, water)
     }
 
-    fn before<T: AggTree<Bundle>, L>(
+    fn before<S: AggStore, L>(
         &mut self,
         defs: &Defs,
         window: u32,
-        store: &SliceStore<T>,
+        store: &S,
         time: u64,
         water: u64,
         steps: &mut Steps<L>,
     ) {}
 
-    fn put<T: AggTree<Bundle>, L>(
+    fn put<S: AggStore, L>(
         &mut self,
         defs: &Defs,
         window: u32,
-        store: &SliceStore<T>,
+        store: &S,
         key: &KeyText,
         pos: u64,
         time: u64,
@@ -152,11 +151,11 @@ impl KeyPart for CountPart {
         Ok(0)
     }
 
-    fn mark<T: AggTree<Bundle>, L>(
+    fn mark<S: AggStore, L>(
         &mut self,
         defs: &Defs,
         window: u32,
-        store: &SliceStore<T>,
+        store: &S,
         key: &KeyText,
         time: u64,
         water: u64,
@@ -164,11 +163,11 @@ impl KeyPart for CountPart {
         steps: &mut Steps<L>,
     ) {}
 
-    fn reserve_water<T: AggTree<Bundle>>(
+    fn reserve_water<S: AggStore>(
         &mut self,
         defs: &Defs,
         window: u32,
-        store: &SliceStore<T>,
+        store: &S,
         old: u64,
         new: u64,
     ) -> Result<u64, NoMemory> {
@@ -176,11 +175,11 @@ impl KeyPart for CountPart {
         Ok(self.lane.due(count, old, new))
     }
 
-    fn water<T: AggTree<Bundle>, L>(
+    fn water<S: AggStore, L>(
         &mut self,
         defs: &Defs,
         window: u32,
-        store: &SliceStore<T>,
+        store: &S,
         key: &KeyText,
         old: u64,
         new: u64,
@@ -191,13 +190,7 @@ impl KeyPart for CountPart {
         self.lane.rows(window, &def, key, old, new, out, steps);
     }
 
-    fn next_due<T: AggTree<Bundle>>(
-        &self,
-        defs: &Defs,
-        window: u32,
-        store: &SliceStore<T>,
-        water: u64,
-    ) -> u64 {
+    fn next_due<S: AggStore>(&self, defs: &Defs, window: u32, store: &S, water: u64) -> u64 {
         let count = count_of(&window_at(defs, window).kind);
         end_or_never(self.lane.next_filled(count, water))
     }

@@ -5,10 +5,10 @@ ghost use Rattle.key_windows.specs.Calls.{IsWater};
 ghost use Rattle.time_parts.specs.Lanes.{IsTimedAt, late_room};
 
 use crate::ends::end_or_never;
-use agg_laws::{AggQueue, AggTree, Steps};
+use agg_laws::{AggQueue, Steps};
+use agg_store::AggStore;
 use aggregates::Bundle;
 use key_parts::KeyPart;
-use slice_store::SliceStore;
 use std::alloc::Global;
 use std::marker::Model;
 use stream_base::{Change, Defs, Former, KeyText, NoMemory};
@@ -121,11 +121,11 @@ impl<Q: AggQueue<Bundle> + Drop> KeyPart for LanePart<Q> {
         self.reserve_formers(defs, window, time, water)
     }
 
-    fn before<T: AggTree<Bundle>, L>(
+    fn before<S: AggStore, L>(
         &mut self,
         defs: &Defs,
         window: u32,
-        store: &SliceStore<T>,
+        store: &S,
         time: u64,
         water: u64,
         steps: &mut Steps<L>,
@@ -135,11 +135,11 @@ impl<Q: AggQueue<Bundle> + Drop> KeyPart for LanePart<Q> {
             .formers(defs, window, store, time, water, &mut self.formers, steps);
     }
 
-    fn put<T: AggTree<Bundle>, L>(
+    fn put<S: AggStore, L>(
         &mut self,
         defs: &Defs,
         window: u32,
-        store: &SliceStore<T>,
+        store: &S,
         key: &KeyText,
         pos: u64,
         time: u64,
@@ -164,11 +164,11 @@ impl<Q: AggQueue<Bundle> + Drop> KeyPart for LanePart<Q> {
         Ok(0)
     }
 
-    fn mark<T: AggTree<Bundle>, L>(
+    fn mark<S: AggStore, L>(
         &mut self,
         defs: &Defs,
         window: u32,
-        store: &SliceStore<T>,
+        store: &S,
         key: &KeyText,
         time: u64,
         water: u64,
@@ -178,22 +178,22 @@ impl<Q: AggQueue<Bundle> + Drop> KeyPart for LanePart<Q> {
         self.lane.touched(time);
     }
 
-    fn reserve_water<T: AggTree<Bundle>>(
+    fn reserve_water<S: AggStore>(
         &mut self,
         defs: &Defs,
         window: u32,
-        store: &SliceStore<T>,
+        store: &S,
         old: u64,
         new: u64,
     ) -> Result<u64, NoMemory> {
         self.lane.reserve(defs, window, store, old, new)
     }
 
-    fn water<T: AggTree<Bundle>, L>(
+    fn water<S: AggStore, L>(
         &mut self,
         defs: &Defs,
         window: u32,
-        store: &SliceStore<T>,
+        store: &S,
         key: &KeyText,
         old: u64,
         new: u64,
@@ -204,13 +204,7 @@ impl<Q: AggQueue<Bundle> + Drop> KeyPart for LanePart<Q> {
             .advance(defs, window, store, key, old, new, out, steps);
     }
 
-    fn next_due<T: AggTree<Bundle>>(
-        &self,
-        defs: &Defs,
-        window: u32,
-        store: &SliceStore<T>,
-        water: u64,
-    ) -> u64 {
+    fn next_due<S: AggStore>(&self, defs: &Defs, window: u32, store: &S, water: u64) -> u64 {
         end_or_never(self.lane.next_end(defs, window, store, water))
     }
 

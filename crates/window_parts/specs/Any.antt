@@ -5,7 +5,7 @@ use Rattle.stream_base.specs.Laws.{completions}
 use Rattle.stream_base.specs.Limits.{Definitions}
 use Rattle.stream_base.specs.Model.Changes.{Moment}
 use Rattle.window_laws.specs.After.{at_water}
-use Rattle.slice_store.specs.Stored.{IsAsBefore, Stored}
+use Rattle.agg_store.specs.Stored.{IsAsBefore, Stored}
 use Rattle.context_windows.specs.Ahead.{start_after}
 use Rattle.context_windows.specs.Marked.{holder_in, most_changes}
 use Rattle.context_windows.specs.Spanned.{gap_at}

@@ -2,7 +2,7 @@
 ghost use Rattle.std.specs.Prelude.{◌≡◌, ℕ, false};
 ghost use Rattle.stream_base.specs.Laws.{is_timed};
 ghost use Rattle.stream_base.specs.Limits.{Definitions};
-ghost use Rattle.slice_store.specs.Stored.{Stored};
+ghost use Rattle.agg_store.specs.Stored.{Stored};
 ghost use Rattle.time_parts.specs.Lanes.{complete_up_to, kind_at, slices_completed, slices_of_last};
 
 /// A window that is neither tumbling nor sliding takes up no slices where the watermark moves.

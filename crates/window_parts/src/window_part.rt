@@ -1,9 +1,9 @@
 //! The part of a window of any kind.
-use agg_laws::{AggQueue, AggTree, Steps};
+use agg_laws::{AggQueue, Steps};
+use agg_store::AggStore;
 use aggregates::Bundle;
 use context_parts::{MarkPart, SessionPart};
 use key_parts::{AnyPart, KeyPart};
-use slice_store::SliceStore;
 use std::alloc::Global;
 use stream_base::{Change, Defs, KeyText, Kind, NoMemory};
 use time_parts::{CountPart, LanePart};
@@ -96,11 +96,11 @@ impl<Q: AggQueue<Bundle> + Drop> KeyPart for WindowPart<Q> {
         }
     }
 
-    fn before<T: AggTree<Bundle>, L>(
+    fn before<S: AggStore, L>(
         &mut self,
         defs: &Defs,
         window: u32,
-        store: &SliceStore<T>,
+        store: &S,
         time: u64,
         water: u64,
         steps: &mut Steps<L>,
@@ -113,11 +113,11 @@ impl<Q: AggQueue<Bundle> + Drop> KeyPart for WindowPart<Q> {
         }
     }
 
-    fn put<T: AggTree<Bundle>, L>(
+    fn put<S: AggStore, L>(
         &mut self,
         defs: &Defs,
         window: u32,
-        store: &SliceStore<T>,
+        store: &S,
         key: &KeyText,
         pos: u64,
         time: u64,
@@ -157,11 +157,11 @@ impl<Q: AggQueue<Bundle> + Drop> KeyPart for WindowPart<Q> {
         }
     }
 
-    fn mark<T: AggTree<Bundle>, L>(
+    fn mark<S: AggStore, L>(
         &mut self,
         defs: &Defs,
         window: u32,
-        store: &SliceStore<T>,
+        store: &S,
         key: &KeyText,
         time: u64,
         water: u64,
@@ -182,11 +182,11 @@ impl<Q: AggQueue<Bundle> + Drop> KeyPart for WindowPart<Q> {
         }
     }
 
-    fn reserve_water<T: AggTree<Bundle>>(
+    fn reserve_water<S: AggStore>(
         &mut self,
         defs: &Defs,
         window: u32,
-        store: &SliceStore<T>,
+        store: &S,
         old: u64,
         new: u64,
     ) -> Result<u64, NoMemory> {
@@ -198,11 +198,11 @@ impl<Q: AggQueue<Bundle> + Drop> KeyPart for WindowPart<Q> {
         }
     }
 
-    fn water<T: AggTree<Bundle>, L>(
+    fn water<S: AggStore, L>(
         &mut self,
         defs: &Defs,
         window: u32,
-        store: &SliceStore<T>,
+        store: &S,
         key: &KeyText,
         old: u64,
         new: u64,
@@ -221,13 +221,7 @@ impl<Q: AggQueue<Bundle> + Drop> KeyPart for WindowPart<Q> {
         }
     }
 
-    fn next_due<T: AggTree<Bundle>>(
-        &self,
-        defs: &Defs,
-        window: u32,
-        store: &SliceStore<T>,
-        water: u64,
-    ) -> u64 {
+    fn next_due<S: AggStore>(&self, defs: &Defs, window: u32, store: &S, water: u64) -> u64 {
         match self {
             WindowPart::Intervals(part) => part.next_due(defs, window, store, water),
             WindowPart::Sessions(part) => part.next_due(defs, window, store, water),

@@ -9,8 +9,8 @@ use Rattle.context_windows.proofs.telling.tell_all.Given as goal
 
 abbrev pub invariant-loop-span : goal.invariant-loop-span
 invariant-loop-span g l = record {
-  told : (is : List Instance) → AreHeld l.spans l.store is → l.out.items ≡ l.initial.out.items ++ map (λ i. New (row_of l.teller.window l.teller.key.now l.func i)) (take l.span-index is);
+  told : (is : List Instance) → AreHeld l.spans (g.S.AggStore.stored l.store) is → l.out.items ≡ l.initial.out.items ++ map (λ i. New (row_of l.teller.window l.teller.key.now l.func i)) (take l.span-index is);
   len : vec_len l.out ≡ vec_len l.initial.out + l.span-index;
   capacity : vec_capacity l.out ≡ vec_capacity l.initial.out;
-  cost : l.steps ≤ l.initial.steps + 64 * (l.store.reach + 2) * l.span-index;
+  cost : l.steps ≤ l.initial.steps + 64 * ((g.S.AggStore.stored l.store).reach + 2) * l.span-index;
 }

@@ -1,7 +1,7 @@
 -- The tuple's bundle stands between the partials of the slices around it.
 use Rattle.std.proofs.Common.{◌∙◌, ap, sym, map, refl}
 use Rattle.agg_laws.specs.Pairs.{has_key, inserted}
-use Rattle.slice_store.specs.Stored.{partial_of}
+use Rattle.agg_store.specs.Stored.{partial_of}
 use Rattle.slice_store.proofs.PartialFacts.{alone_absent, alone_there}
 use Rattle.slice_store.proofs.entering.add.Goals as goal
 

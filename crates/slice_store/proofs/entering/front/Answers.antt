@@ -8,7 +8,7 @@ use Rattle.aggregates.specs.Bundled.{bundle_of}
 use Rattle.agg_laws.specs.Pairs.{has_key, inserted, value_at, without}
 use Rattle.slice_runs.specs.declared.slice.Slice.{Slice}
 use Rattle.slice_runs.specs.Slices.{values_of}
-use Rattle.slice_store.specs.Stored.{partial_of}
+use Rattle.agg_store.specs.Stored.{partial_of}
 use Rattle.slice_store.proofs.PartialFacts.{fronted_absent, fronted_there, partial_found}
 use Rattle.slice_runs.proofs.SliceFacts.{values_at}
 use Rattle.slice_store.proofs.entering.front.Goals as goal

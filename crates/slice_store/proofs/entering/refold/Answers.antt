@@ -6,7 +6,7 @@ use Rattle.aggregates.specs.Bundled.{bundle_of}
 use Rattle.agg_laws.specs.Pairs.{has_key, replaced}
 use Rattle.slice_runs.specs.declared.slice.Slice.{Slice}
 use Rattle.slice_runs.specs.Slices.{values_of}
-use Rattle.slice_store.specs.Stored.{partial_of}
+use Rattle.agg_store.specs.Stored.{partial_of}
 use Rattle.slice_runs.proofs.SliceFacts.{entered_there, refolded_length}
 use Rattle.slice_store.proofs.PartialFacts.{partial_there, refolded_there}
 use Rattle.slice_store.proofs.entering.refold.Goals as goal

@@ -1,6 +1,6 @@
 -- The partials of the slices so far are taken out.
 use Rattle.std.proofs.Common.{◌≡◌, ◌≤◌, ◌+◌, ◌*◌, drop, map}
-use Rattle.slice_store.specs.Stored.{partial_of}
+use Rattle.agg_store.specs.Stored.{partial_of}
 use Rattle.slice_store.proofs.leaving.take_first.Given as goal
 
 abbrev pub invariant-loop-at : goal.invariant-loop-at

@@ -9,7 +9,7 @@ use Rattle.agg_laws.specs.Pairs.{has_key, inserted, replaced}
 use Rattle.window_laws.specs.Runs.{AreInOrder}
 use Rattle.slice_runs.specs.declared.slice.Slice.{Slice}
 use Rattle.slice_runs.specs.Slices.{slice_of, split_at, values_of}
-use Rattle.slice_store.specs.Stored.{partial_of}
+use Rattle.agg_store.specs.Stored.{partial_of}
 use Rattle.slice_runs.proofs.MarkFacts.{parts_length, split_first, split_longer, split_second}
 use Rattle.slice_store.proofs.SplitPartials.{split_absent, split_there}
 use Rattle.slice_store.proofs.PartialFacts.{partial_there}

@@ -1,5 +1,5 @@
 -- The slices are those of the definitions.
-use Rattle.slice_store.specs.Stored.{IsSliced}
+use Rattle.agg_store.specs.Stored.{IsSliced}
 use Rattle.store_times.proofs.filling.fill.Given as goal
 
 abbrev pub invariant-loop-i : goal.invariant-loop-i

@@ -5,7 +5,7 @@ use Rattle.time_lanes.proofs.due.count_slices.Given as goal
 
 abbrev pub invariant-loop-slice : goal.invariant-loop-slice
 invariant-loop-slice g l = record {
-  all : l.count + length (runs_within l.at l.to l.store.slices) ≡ length (runs_within l.initial.at l.to l.store.slices);
+  all : l.count + length (runs_within l.at l.to (g.S.AggStore.stored l.store).slices) ≡ length (runs_within l.initial.at l.to (g.S.AggStore.stored l.store).slices);
   few : l.count + l.initial.at ≤ l.at;
 }
 

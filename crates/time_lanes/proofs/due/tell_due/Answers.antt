@@ -1,6 +1,6 @@
 -- One interval more is told.
 use Rattle.std.proofs.Common.{◌∙◌, ◌+◌, ◌≤◌, ap, arith, length, max, subst, sym}
-use Rattle.slice_store.specs.Stored.{tuples_of}
+use Rattle.agg_store.specs.Stored.{tuples_of}
 use Rattle.window_laws.specs.Runs.{runs_within}
 use Rattle.window_laws.specs.Walk.{due_from}
 use Rattle.time_lanes.specs.Moves.{new_at}
@@ -10,7 +10,7 @@ use Rattle.time_lanes.proofs.due.tell_due.Goals as goal
 
 pub tell_one-requires-clause-room : goal.tell_one-requires-clause-room
 tell_one-requires-clause-room g c =
-    let s = c.args.store.now in
+    let s = (g.S.AggStore.stored c.args.store.now) in
     let span = c.args.span.now in
     let d = c.in-Some.ensures.some in
     let low = c.in-Some.low in
@@ -20,7 +20,7 @@ tell_one-requires-clause-room g c =
 
 pub loop-low-preserved : goal.loop-low-preserved
 loop-low-preserved g c =
-    let s = c.args.store.now in
+    let s = (g.S.AggStore.stored c.args.store.now) in
     let span = c.args.span.now in
     let d = c.in-Some.ensures.some in
     let low = c.in-Some.low in

@@ -1,6 +1,6 @@
 -- One interval more is told.
 use Rattle.std.proofs.Common.{◌∙◌, ◌+◌, ◌*◌, arith, refl}
-use Rattle.slice_store.specs.Stored.{tuples_of}
+use Rattle.agg_store.specs.Stored.{tuples_of}
 use Rattle.time_lanes.specs.Late.{former_at}
 use Rattle.time_lanes.proofs.LateFacts.{at_most_times, former_more, one_more_time}
 use Rattle.time_lanes.proofs.late.append_formers.Goals as goal
@@ -12,7 +12,7 @@ overflow_add-low g c =
 pub loop-k-preserved : goal.loop-k-preserved
 loop-k-preserved g c =
     let slide = c.args.span.now.slide in
-    let tuples = tuples_of c.args.store.now in
+    let tuples = tuples_of (g.S.AggStore.stored c.args.store.now) in
     let low = (c.args.complete.first + c.loop-k.k) * slide in
     let h = c.loop-k.invariant in
     record {
@@ -20,5 +20,5 @@ loop-k-preserved g c =
           former_more (former_at c.args.func c.args.span.now.length tuples) c.args.into.now.items c.loop-k.into.items c.push_reserved.new.self.items slide c.args.complete.first c.loop-k.k low c.former.result refl (h.told few) (c.former.ensures tuples low (low + c.args.span.now.length) c.fold_interval-folded.ensures.value few) c.push_reserved.ensures.items;
       number = omega (arith, c.push_reserved.ensures.len, h.number);
       capacity = c.push_reserved.ensures.capacity ∙ h.capacity;
-      cost = omega (arith, c.fold_interval-folded.ensures.cost, h.cost, one_more_time (64 * (c.args.store.now.reach + 2)) c.loop-k.k);
+      cost = omega (arith, c.fold_interval-folded.ensures.cost, h.cost, one_more_time (64 * ((g.S.AggStore.stored c.args.store.now).reach + 2)) c.loop-k.k);
     }

@@ -1,6 +1,6 @@
 -- One interval more is told.
 use Rattle.std.proofs.Common.{◌∙◌, ◌+◌, ◌*◌, None, ap, arith, get_or, refl}
-use Rattle.slice_store.specs.Stored.{tuples_of}
+use Rattle.agg_store.specs.Stored.{tuples_of}
 use Rattle.time_lanes.specs.Late.{again_or_new, told_at}
 use Rattle.time_lanes.proofs.LateFacts.{late_more, one_more_time}
 use Rattle.time_lanes.proofs.late.append_late.Goals as goal
@@ -8,7 +8,7 @@ use Rattle.time_lanes.proofs.late.append_late.Goals as goal
 pub loop-k-preserved : goal.loop-k-preserved
 loop-k-preserved g c =
     let slide = c.args.span.now.slide in
-    let tuples = tuples_of c.args.store.now in
+    let tuples = tuples_of (g.S.AggStore.stored c.args.store.now) in
     let low = (c.args.complete.first + c.loop-k.k) * slide in
     let h = c.loop-k.invariant in
     record {
@@ -18,5 +18,5 @@ loop-k-preserved g c =
           (c.told.ensures ∙ ap (again_or_new former) (c.row-row.ensures tuples c.fold_interval-folded.ensures.value few)) c.push_reserved.ensures.items;
       number = omega (arith, c.push_reserved.ensures.len, h.number);
       capacity = c.push_reserved.ensures.capacity ∙ h.capacity;
-      cost = omega (arith, c.fold_interval-folded.ensures.cost, h.cost, one_more_time (64 * (c.args.store.now.reach + 2)) c.loop-k.k);
+      cost = omega (arith, c.fold_interval-folded.ensures.cost, h.cost, one_more_time (64 * ((g.S.AggStore.stored c.args.store.now).reach + 2)) c.loop-k.k);
     }

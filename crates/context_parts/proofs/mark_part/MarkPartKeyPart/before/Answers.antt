@@ -11,7 +11,7 @@ pub before-requires-clause-aligned : goal.before-requires-clause-aligned
 before-requires-clause-aligned g c =
     let d = c.args.defs.now in
     let s = c.requires.stands in
-    let store = c.args.store.now in
+    let store = (g.S.AggStore.stored c.args.store.now) in
     let spans = c.args.self.now.windows.spans in
     edged_aligned (s.0).marks store.slices (asked_at c.args.time c.args.water spans)
     (parts_at_edges d.windows (s.0).marks store (rest_windows d s.0 s.1 store (rest_held d s.0 s.1 store (s.2).held)) (marks_held d s.0 s.1 store (s.2).held))
@@ -23,7 +23,7 @@ returns-clause-asked g c = λ m n s.
     let w = window_at d c.args.window in
     let late : m.water - d.lateness ≤ c.args.time = omega (arith, s.water_is, c.requires.in_time) in
     let open_ : c.args.self.now.windows.forgotten ≤ c.args.time = omega (arith, s.stood.bounded, late) in
-    let held = stretches_held d c.args.window s.stood.marks m n c.args.store.now (rest_held d m n c.args.store.now s.held) c.args.time late (few_kept m s.lists.0 s.lists.1) in
+    let held = stretches_held d c.args.window s.stood.marks m n (g.S.AggStore.stored c.args.store.now) (rest_held d m n (g.S.AggStore.stored c.args.store.now) s.held) c.args.time late (few_kept m s.lists.0 s.lists.1) in
     record {
       remembers = subst (λ f. RemembersHolder f c.args.time m.water m.marks m.kept c.before-2.new.self) c.func_at-func.ensures
           (subst (λ water. RemembersHolder c.func_at-func.result c.args.time water m.marks m.kept c.before-2.new.self) (sym s.water_is) (c.before-2.ensures.remembers m.marks m.kept s.stood.follows open_ held));

@@ -15,7 +15,7 @@ mark-requires-clause-aligned g c =
     let d = c.args.defs.now in
     let t = c.requires.takes in
     let time = c.args.time in
-    let store = c.args.store.now in
+    let store = (g.S.AggStore.stored c.args.store.now) in
     let p = c.args.self.now.windows in
     edged_aligned (insert_key nat_cmp (t.0).marks time) store.slices (with_parts time (parted_of time p.spans))
     (parts_at_edges d.windows (insert_key nat_cmp (t.0).marks time) store (rest_windows d t.0 t.1 store (rest_marked d t.0 t.1 t.2 time store (t.3).step)) (marks_marked d t.0 t.1 t.2 time store (t.3).step))
@@ -26,11 +26,11 @@ returns-clause-stands g c = λ m n before t.
     let d = c.args.defs.now in
     let late : m.water - d.lateness ≤ c.args.time = omega (arith, t.step.in_time) in
     let open_ : c.args.self.now.windows.forgotten ≤ c.args.time = omega (arith, t.stood.bounded, late) in
-    let held = stretches_held d c.args.window t.stood.marks m n c.args.store.now (rest_marked d m n before c.args.time c.args.store.now t.step) c.args.time late (few_kept m t.step.lists.0 t.step.lists.1) in
+    let held = stretches_held d c.args.window t.stood.marks m n (g.S.AggStore.stored c.args.store.now) (rest_marked d m n before c.args.time (g.S.AggStore.stored c.args.store.now) t.step) c.args.time late (few_kept m t.step.lists.0 t.step.lists.1) in
     record {
       marks = t.stood.marks;
       follows = c.mark.ensures.follows m.marks m.kept t.stood.follows open_ held;
-      left = c.mark.ensures.follows m.marks (drop n m.kept) t.stood.left open_ (left_held d c.args.window t.stood.marks m n c.args.store.now t.step.held.may_leave c.args.time late held);
+      left = c.mark.ensures.follows m.marks (drop n m.kept) t.stood.left open_ (left_held d c.args.window t.stood.marks m n (g.S.AggStore.stored c.args.store.now) t.step.held.may_leave c.args.time late held);
       bounded = subst (λ n. n ≤ m.water - d.lateness) (sym c.mark.ensures.forgotten) t.stood.bounded;
     }
 
@@ -40,6 +40,6 @@ returns-clause-changes g c = λ m n before t.
     let w = window_at d c.args.window in
     let late : m.water - d.lateness ≤ c.args.time = omega (arith, t.step.in_time) in
     let open_ : c.args.self.now.windows.forgotten ≤ c.args.time = omega (arith, t.stood.bounded, late) in
-    let held = stretches_held d c.args.window t.stood.marks m n c.args.store.now (rest_marked d m n before c.args.time c.args.store.now t.step) c.args.time late (few_kept m t.step.lists.0 t.step.lists.1) in
+    let held = stretches_held d c.args.window t.stood.marks m n (g.S.AggStore.stored c.args.store.now) (rest_marked d m n before c.args.time (g.S.AggStore.stored c.args.store.now) t.step) c.args.time late (few_kept m t.step.lists.0 t.step.lists.1) in
     c.mark.ensures.changes m t.stood.follows open_ t.water_is held
     ∙ ap (λ def. c.args.out.now.items ++ changes_of c.args.key.now m (with_mark m c.args.time) (c.args.window, def)) (ap marks_window c.func_at-func.ensures ∙ marks_window_is w t.stood.marks.kind)

@@ -16,7 +16,7 @@ put-requires-clause-aligned g c =
     let x = kept_at c.args.pos c.args.time c.args.value in
     let t = c.requires.takes in
     let p = c.args.self.now.windows in
-    let store = c.args.store.now in
+    let store = (g.S.AggStore.stored c.args.store.now) in
     let at = (t.4).stood.marks in
     let rest = rest_with d t.0 t.1 t.2 x t.3 store w (is_window d c.args.window at.within) (no_events w.kind at.kind) (t.4).step in
     let has = marks_with d t.0 t.1 t.2 x t.3 store w (is_window d c.args.window at.within) (no_events w.kind at.kind) (t.4).step in
@@ -34,7 +34,7 @@ returns-clause-stands g c = λ m n before more t.
     record {
       marks = t.stood.marks;
       follows = c.put.ensures.follows m.marks m.kept x t.stood.follows open_ refl;
-      left = subst (λ l. FollowsMarks m.marks l c.put.new.self) (left_with d m n before x more c.args.store.now w (is_window d c.args.window at.within) (no_events w.kind at.kind) t.step) (c.put.ensures.follows m.marks (drop n m.kept) x t.stood.left open_ refl);
+      left = subst (λ l. FollowsMarks m.marks l c.put.new.self) (left_with d m n before x more (g.S.AggStore.stored c.args.store.now) w (is_window d c.args.window at.within) (no_events w.kind at.kind) t.step) (c.put.ensures.follows m.marks (drop n m.kept) x t.stood.left open_ refl);
       bounded = subst (λ n. n ≤ m.water - d.lateness) (sym c.put.ensures.forgotten) t.stood.bounded;
     }
 
@@ -47,11 +47,11 @@ returns-clause-changes g c = λ m n before more t.
     let at = t.stood.marks in
     let late : m.water - d.lateness ≤ c.args.time = omega (arith, t.step.in_time) in
     let open_ : c.args.self.now.windows.forgotten ≤ c.args.time = omega (arith, t.stood.bounded, late) in
-    let rest = rest_with d m n before x more c.args.store.now w (is_window d c.args.window at.within) (no_events w.kind at.kind) t.step in
+    let rest = rest_with d m n before x more (g.S.AggStore.stored c.args.store.now) w (is_window d c.args.window at.within) (no_events w.kind at.kind) t.step in
     let remembers : RemembersHolder c.func_at-func.result c.args.time c.args.water m.marks m.kept p =
     subst (λ f. RemembersHolder f c.args.time c.args.water m.marks m.kept p) (sym c.func_at-func.ensures) (subst (λ water. RemembersHolder w.func c.args.time water m.marks m.kept p) t.water_is t.asked.remembers) in
     c.put.ensures.changes m x t.stood.follows open_ refl t.water_is remembers
-    (stretches_held d c.args.window at (with_tuple m x) n c.args.store.now rest c.args.time late (few_with m x t.step.lists))
+    (stretches_held d c.args.window at (with_tuple m x) n (g.S.AggStore.stored c.args.store.now) rest c.args.time late (few_with m x t.step.lists))
     ∙ ap (λ def. c.args.out.now.items ++ changes_of c.args.key.now m (with_tuple m x) (c.args.window, def)) (ap marks_window c.func_at-func.ensures ∙ marks_window_is w at.kind)
 
 pub returns-clause-owed : goal.returns-clause-owed
@@ -67,5 +67,5 @@ returns-clause-owed g c =
 
 pub returns-clause-work : goal.returns-clause-work
 returns-clause-work g c =
-    let work = marks_work (window_at c.args.defs.now c.args.window).kind c.args.store.now.reach (c.requires.takes.4).stood.marks.kind in
+    let work = marks_work (window_at c.args.defs.now c.args.window).kind (g.S.AggStore.stored c.args.store.now).reach (c.requires.takes.4).stood.marks.kind in
     subst (λ k. c.put.new.steps ≤ c.args.steps.now + k * (vec_len c.put.new.out - vec_len c.args.out.now)) (sym work) c.put.ensures.cost

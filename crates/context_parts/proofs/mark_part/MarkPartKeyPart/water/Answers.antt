@@ -13,7 +13,7 @@ pub water-requires-clause-aligned : goal.water-requires-clause-aligned
 water-requires-clause-aligned g c =
     let d = c.args.defs.now in
     let s = c.requires.stands in
-    let store = c.args.store.now in
+    let store = (g.S.AggStore.stored c.args.store.now) in
     let spans = c.args.self.now.windows.spans in
     edged_aligned (s.0).marks store.slices (due_of c.args.old c.args.new spans)
     (parts_at_edges d.windows (s.0).marks store (rest_windows d s.0 s.1 store (rest_held d s.0 s.1 store (s.2).held)) (marks_held d s.0 s.1 store (s.2).held))
@@ -26,5 +26,5 @@ returns-clause-changes g c = λ m n s.
     let late : m.water - d.lateness ≤ c.args.old = omega (arith, s.water_is) in
     let open_ : c.args.self.now.windows.forgotten ≤ c.args.old = omega (arith, s.stood.bounded, late) in
     c.water.ensures.changes m s.stood.follows open_ s.water_is
-    (stretches_held d c.args.window s.stood.marks m n c.args.store.now (rest_held d m n c.args.store.now s.held) c.args.old late (few_kept m s.lists.0 s.lists.1))
+    (stretches_held d c.args.window s.stood.marks m n (g.S.AggStore.stored c.args.store.now) (rest_held d m n (g.S.AggStore.stored c.args.store.now) s.held) c.args.old late (few_kept m s.lists.0 s.lists.1))
     ∙ ap (λ def. c.args.out.now.items ++ completions c.args.key.now m c.args.new (c.args.window, def)) (ap marks_window c.func_at-func.ensures ∙ marks_window_is w s.stood.marks.kind)

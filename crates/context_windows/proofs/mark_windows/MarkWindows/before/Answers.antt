@@ -10,4 +10,4 @@ pub returns-clause-remembers : goal.returns-clause-remembers
 returns-clause-remembers g c = λ marks kept f le held.
     let is : option_to_list c.first_asked.result ≡ asked_at c.args.time c.args.water c.args.self.now.spans = search rules in
     let early : c.args.time < FINAL = omega (arith, c.requires.time) in
-    marks_remembered c.args.func c.args.time c.args.water marks kept c.args.self.now _ c.args.store.now early f le held c.first_asked.result is c.ask-self-inside.result refl (λ is h. c.ask-self-inside.ensures.value is h ∙ search rules)
+    marks_remembered c.args.func c.args.time c.args.water marks kept c.args.self.now _ (g.S.AggStore.stored c.args.store.now) early f le held c.first_asked.result is c.ask-self-inside.result refl (λ is h. c.ask-self-inside.ensures.value is h ∙ search rules)

@@ -45,8 +45,8 @@ returns-clause-changes g c = λ m x f le at water r held.
     let within : c.first_or-span.result ≡ holder_in c.args.time c.self.inside.spans.items c.self.inside.marks.items = search rules in
     let over : c.first_or-span.result ≡ holder_in c.args.time s.spans s.marks = within ∙ ap (λ (v : Marked). holder_in c.args.time v.spans v.marks) c.self.view_is in
     let stood : option_to_list c.self.inside.stood ≡ s.stood = ap (λ (v : Marked). v.stood) c.self.view_is in
-    marks_put_told c.args.window c.args.func c.args.key.now m x s early f (subst (λ t. s.forgotten ≤ t) (sym at) le) c.args.water c.args.store.now water
-    (subst (λ t. RemembersHolder c.args.func t c.args.water m.marks m.kept s) (sym at) r) (subst (λ t. HoldsStretches t m.marks (put_in_order m.kept x) c.args.store.now) (sym at) held)
+    marks_put_told c.args.window c.args.func c.args.key.now m x s early f (subst (λ t. s.forgotten ≤ t) (sym at) le) c.args.water (g.S.AggStore.stored c.args.store.now) water
+    (subst (λ t. RemembersHolder c.args.func t c.args.water m.marks m.kept s) (sym at) r) (subst (λ t. HoldsStretches t m.marks (put_in_order m.kept x) (g.S.AggStore.stored c.args.store.now)) (sym at) held)
     c.first_or-span.result (over ∙ ap (λ t. holder_in t s.spans s.marks) (sym at)) c.self.inside.stood stood c.args.out.now.items c.tell_joined.new.out.items (λ i h. c.tell_joined.ensures.told i h ∙ search rules)
 
 pub returns-clause-number : goal.returns-clause-number

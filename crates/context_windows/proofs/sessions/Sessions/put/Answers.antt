@@ -31,7 +31,7 @@ returns-clause-changes g c = λ m x f le at water r held.
     let over : c.joined-span.result ≡ joined_span (gap_at c.args.defs.now c.args.window) c.args.time (near_of (gap_at c.args.defs.now c.args.window) c.args.time c.args.self.now.spans) = search rules in
     let stood : option_to_list c.self.inside.first ++ option_to_list c.self.inside.second ≡ c.args.self.now.stood = ap (λ (v : Spanned). v.stood) c.self.view_is in
     put_told c.args.window def c.args.key.now m x c.args.self.now c.requires.session.session f (subst (λ t. c.args.self.now.forgotten ≤ t) (sym at) le)
-    c.args.water c.args.store.now water (subst (λ t. Remembers def t c.args.water m.kept c.args.self.now) (sym at) r) (subst (λ t. HoldsSessions (gap_at c.args.defs.now c.args.window) t (put_in_order m.kept x) c.args.store.now) (sym at) held)
+    c.args.water (g.S.AggStore.stored c.args.store.now) water (subst (λ t. Remembers def t c.args.water m.kept c.args.self.now) (sym at) r) (subst (λ t. HoldsSessions (gap_at c.args.defs.now c.args.window) t (put_in_order m.kept x) (g.S.AggStore.stored c.args.store.now)) (sym at) held)
     c.joined-span.result (over ∙ ap (λ t. joined_span (gap_at c.args.defs.now c.args.window) t (near_of (gap_at c.args.defs.now c.args.window) t c.args.self.now.spans)) (sym at))
     c.self.inside.first c.self.inside.second stood c.args.out.now.items c.tell_gone.new.out.items c.tell_gone-2.new.out.items c.tell_joined.new.out.items
     c.tell_gone.ensures.items c.tell_gone-2.ensures.items (λ i h. c.tell_joined.ensures.told i h ∙ search rules)

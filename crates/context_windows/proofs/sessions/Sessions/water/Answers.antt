@@ -10,9 +10,9 @@ use Rattle.context_windows.proofs.sessions.Sessions.water.Goals as goal
 pub tell_all-requires-clause-aligned : goal.tell_all-requires-clause-aligned
 tell_all-requires-clause-aligned g c =
     let is : due_of c.args.old c.args.new c.args.self.now.spans ≡ c.between-sessions.result.now = search rules in
-    subst (All (IsAlignedWith c.args.store.now.slices)) is c.requires.aligned
+    subst (All (IsAlignedWith (g.S.AggStore.stored c.args.store.now).slices)) is c.requires.aligned
 
 pub returns-clause-changes : goal.returns-clause-changes
 returns-clause-changes g c = λ m f le at held.
     let is : due_of c.args.old c.args.new c.args.self.now.spans ≡ c.between-sessions.result.now = search rules in
-    move_told c.args.window (window_at c.args.defs.now c.args.window) c.args.key.now m c.args.old c.args.new c.args.self.now c.args.store.now c.requires.session.session f le at held c.between-sessions.result.now (sym is) c.args.out.now.items c.tell_all.new.out.items (λ is h. c.tell_all.ensures.told is h ∙ search rules)
+    move_told c.args.window (window_at c.args.defs.now c.args.window) c.args.key.now m c.args.old c.args.new c.args.self.now (g.S.AggStore.stored c.args.store.now) c.requires.session.session f le at held c.between-sessions.result.now (sym is) c.args.out.now.items c.tell_all.new.out.items (λ is h. c.tell_all.ensures.told is h ∙ search rules)

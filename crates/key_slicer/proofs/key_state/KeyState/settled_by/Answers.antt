@@ -4,7 +4,7 @@ use Rattle.std.proofs.lemmas.Bool.{cases_lt, false≢true}
 use Rattle.std.proofs.lemmas.List.Elements.{All-contains}
 use Rattle.stream_base.specs.declared.kept.Kept.{Kept}
 use Rattle.stream_base.specs.Model.Slices.{is_settled}
-use Rattle.slice_store.specs.Stored.{tuples_of}
+use Rattle.agg_store.specs.Stored.{tuples_of}
 use Rattle.key_windows.specs.Calls.{moment}
 use Rattle.key_slicer.proofs.SettleFacts.{open_at, settled_then}
 use Rattle.key_slicer.proofs.StateFacts.{all_stand}

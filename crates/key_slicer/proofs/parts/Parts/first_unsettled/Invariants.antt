@@ -3,7 +3,7 @@ use Rattle.std.proofs.Common.{◌≤◌, ◌<◌, ◌-◌, ℕ, get_or}
 use Rattle.stream_base.specs.Model.Changes.{Moment}
 use Rattle.window_laws.specs.After.{at_water}
 use Rattle.window_laws.specs.Settled.{without_first}
-use Rattle.slice_store.specs.Stored.{Stored}
+use Rattle.agg_store.specs.Stored.{Stored}
 use Rattle.key_parts.specs.Calls.{window_at}
 use Rattle.key_parts.specs.Moves.{SettlesUpTo}
 use Rattle.key_slicer.specs.Parts.{AllStandAt}

@@ -4,7 +4,7 @@ use Rattle.std.specs.Prelude.{vec_capacity, vec_len}
 use Rattle.std.specs.List.{enumerate_from, flat_map}
 use Rattle.stream_base.specs.Model.Changes.{Moment}
 use Rattle.window_laws.specs.After.{with_mark}
-use Rattle.slice_store.specs.Stored.{Stored}
+use Rattle.agg_store.specs.Stored.{Stored}
 use Rattle.key_slicer.specs.Parts.{AllTakeMark, rooms, turns}
 use Rattle.key_slicer.proofs.Loops.{AreStepped, rooms_from}
 use Rattle.key_slicer.proofs.Steps.{IsMarkedIn}

@@ -7,7 +7,7 @@ use Rattle.stream_base.specs.declared.kind.Kind.TheVariants.{Marks}
 use Rattle.stream_base.specs.declared.func.Func.TheVariants.{Count}
 use Rattle.stream_base.specs.Model.Changes.{Moment}
 use Rattle.window_laws.specs.After.{with_tuple}
-use Rattle.slice_store.specs.Stored.{Stored}
+use Rattle.agg_store.specs.Stored.{Stored}
 use Rattle.key_windows.specs.Calls.{kept_at}
 use Rattle.key_slicer.specs.Parts.{AllTakeTuple, EachPart, rooms, turns}
 use Rattle.key_slicer.specs.Work.{turn_work, turns_work}

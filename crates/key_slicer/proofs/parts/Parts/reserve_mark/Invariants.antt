@@ -1,6 +1,6 @@
 -- The first parts have room, and the sum of it is this. No part has less ahead, and the credit of all has not risen.
 use Rattle.std.proofs.Common.{◌≡◌, ◌≤◌, ℕ, take}
-use Rattle.slice_store.specs.Stored.{Stored}
+use Rattle.agg_store.specs.Stored.{Stored}
 use Rattle.key_slicer.specs.Parts.{EachPart, rooms}
 use Rattle.key_slicer.proofs.Loops.{AreStepped}
 use Rattle.key_slicer.proofs.Steps.{IsReserved}

@@ -1,5 +1,5 @@
 -- The intervals that are left are those that are not forgotten.
-use Rattle.slice_store.specs.Stored.{tuples_of}
+use Rattle.agg_store.specs.Stored.{tuples_of}
 use Rattle.slice_tests.proofs.marks.MarksWindow.drop_settled.Goals as goal
 
 pub returns-clause-together : goal.returns-clause-together

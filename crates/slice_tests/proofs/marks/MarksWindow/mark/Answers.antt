@@ -2,7 +2,7 @@
 use Rattle.std.proofs.Common.{◌≤◌, length, sym, subst, arith}
 use Rattle.std.specs.BTreeSet.{insert_key}
 use Rattle.std.specs.Ordering.{nat_cmp}
-use Rattle.slice_store.specs.Stored.{tuples_of}
+use Rattle.agg_store.specs.Stored.{tuples_of}
 use Rattle.context_windows.specs.Marked.{FollowsMarks}
 use Rattle.slice_tests.specs.Together.{AreOfMarks}
 use Rattle.slice_tests.proofs.ContextFacts.{as_many, edges_align, holds_all, marked_lie, marks_stay, spans_lie}

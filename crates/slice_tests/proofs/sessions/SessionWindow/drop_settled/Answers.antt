@@ -1,5 +1,5 @@
 -- The sessions that are left are those that are not forgotten.
-use Rattle.slice_store.specs.Stored.{tuples_of}
+use Rattle.agg_store.specs.Stored.{tuples_of}
 use Rattle.context_windows.specs.Spanned.{gap_at}
 use Rattle.slice_tests.proofs.sessions.SessionWindow.drop_settled.Goals as goal
 

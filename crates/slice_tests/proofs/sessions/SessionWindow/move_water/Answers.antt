@@ -1,5 +1,5 @@
 -- The slices of the store part at the sessions that become complete.
-use Rattle.slice_store.specs.Stored.{tuples_of}
+use Rattle.agg_store.specs.Stored.{tuples_of}
 use Rattle.context_windows.specs.Spanned.{window_at}
 use Rattle.slice_tests.proofs.ContextFacts.{of_sessions}
 use Rattle.slice_tests.proofs.sessions.SessionWindow.move_water.Goals as goal

@@ -9,7 +9,7 @@ use Rattle.time_lanes.proofs.held.Held.pull.Goals as goal
 
 pub returns-clause-held : goal.returns-clause-held
 returns-clause-held g c = λ h.
-    let s = c.args.store.now.slices in
+    let s = (g.S.AggStore.stored c.args.store.now).slices in
     let none : runs_within c.loop-slice.at c.args.to s ≡ [] = c.in_default.ensures.none in
     let from_is = c.max-at.ensures ∙ ap (λ (h : Holding). max c.args.from h.to) c.self.view_is in
     let to_is = c.max-self-inside.ensures ∙ ap (λ (h : Holding). max h.to c.args.to) c.self-2.view_is ∙ ap (λ n. max n c.args.to) c.loop-slice.invariant.to in

@@ -9,7 +9,7 @@ use Rattle.time_lanes.proofs.held.Held.shed.Goals as goal
 
 pub returns-clause-held : goal.returns-clause-held
 returns-clause-held g c = λ le h.
-    let s = c.args.store.now.slices in
+    let s = (g.S.AggStore.stored c.args.store.now).slices in
     let none : runs_within c.loop-slice.at c.min-end.result s ≡ [] = c.in_default.ensures.none in
     let end_is = c.min-end.ensures ∙ ap (λ (h : Holding). min c.args.to h.to) c.self.view_is in
     sym (ap (λ l. drop (length l) c.loop-slice.self.partials) none ∙ drop_none c.loop-slice.self.partials)

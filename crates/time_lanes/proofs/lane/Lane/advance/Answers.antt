@@ -4,7 +4,7 @@ use Rattle.stream_base.specs.declared.def.Def.{Def}
 use Rattle.stream_base.specs.Laws.{completions}
 use Rattle.window_laws.specs.Runs.{runs_within}
 use Rattle.window_laws.specs.Walk.{due_from, next_start}
-use Rattle.slice_store.specs.Stored.{tuples_of}
+use Rattle.agg_store.specs.Stored.{tuples_of}
 use Rattle.time_lanes.specs.Held.{HoldsFrom}
 use Rattle.time_lanes.specs.Lane.{Knows, KnowsAll, Laned, fresh_to}
 use Rattle.time_lanes.specs.Moves.{MayMove, completed_starts, moment, slices_between, slices_in_last}
@@ -18,7 +18,7 @@ pub pull-requires : goal.pull-requires
 pull-requires g c =
     let span = c.serve.result.span in
     let d = c.serve.result.def in
-    let s = c.args.store.now in
+    let s = (g.S.AggStore.stored c.args.store.now) in
     let o = c.serve.ensures.holds.slices.ordered in
     let to = ap (λ (l : Laned). l.to) c.self.view_is ∙ c.refresh.ensures.to in
     let spare = ap (λ (l : Laned). l.spare) c.self.view_is in
@@ -31,7 +31,7 @@ pub returns-clause-changes : goal.returns-clause-changes
 returns-clause-changes g c = λ def gone marks stands may.
     let span = c.serve.result.span in
     let d = c.serve.result.def in
-    let s = c.args.store.now in
+    let s = (g.S.AggStore.stored c.args.store.now) in
     let same : def ≡ d = same_window c.args.defs.now.windows c.args.window def d stands c.serve.ensures.stands in
     let here = subst (λ (e : Def). MayMove e.kind c.args.old gone s c.args.self.now) same may in
     let k = knows_at d.kind span.length span.slide c.serve.ensures.length c.serve.ensures.slide c.args.old s c.args.self.now here.knows in
@@ -55,7 +55,7 @@ pub returns-clause-knows : goal.returns-clause-knows
 returns-clause-knows g c = λ def stands knows.
     let span = c.serve.result.span in
     let d = c.serve.result.def in
-    let s = c.args.store.now in
+    let s = (g.S.AggStore.stored c.args.store.now) in
     let same : def ≡ d = same_window c.args.defs.now.windows c.args.window def d stands c.serve.ensures.stands in
     let k = knows_at d.kind span.length span.slide c.serve.ensures.length c.serve.ensures.slide c.args.old s c.args.self.now (subst (λ (e : Def). Knows e.kind c.args.old s c.args.self.now) same knows) in
     let to = ap (λ (l : Laned). l.to) c.self.view_is ∙ c.refresh.ensures.to in
@@ -79,7 +79,7 @@ pub returns-clause-knows_all : goal.returns-clause-knows_all
 returns-clause-knows_all g c = λ def stands.
     let span = c.serve.result.span in
     let d = c.serve.result.def in
-    let s = c.args.store.now in
+    let s = (g.S.AggStore.stored c.args.store.now) in
     let same : def ≡ d = same_window c.args.defs.now.windows c.args.window def d stands c.serve.ensures.stands in
     let now : Laned = record { partials = c.pull.new.self.partials; to = c.pull.new.self.to; stale = c.self.inside.stale; spare = c.pull.new.self.spare; credit = c.pull.new.self.credit } in
     subst (λ (e : Def). KnowsAll e.kind c.args.new s now) (sym same)
@@ -90,11 +90,11 @@ returns-clause-knows_all g c = λ def stands.
 
 -- all steps, by the slices that are taken up
 all_steps : (g : given.Over) (c : goal.After-pull g)
-    → c.pull.new.steps + c.pull.new.self.credit ≤ c.args.steps.now + c.args.self.now.credit + 10 * length (runs_within (max (next_start c.serve.result.span.length c.serve.result.span.slide c.args.old) (fresh_to c.args.self.now)) (last_end c.serve.result.span.length c.serve.result.span.slide c.args.new) c.args.store.now.slices)
-    + length (due_from c.serve.result.span.length c.serve.result.span.slide (tuples_of c.args.store.now) c.next_start-start.result c.args.new)
+    → c.pull.new.steps + c.pull.new.self.credit ≤ c.args.steps.now + c.args.self.now.credit + 10 * length (runs_within (max (next_start c.serve.result.span.length c.serve.result.span.slide c.args.old) (fresh_to c.args.self.now)) (last_end c.serve.result.span.length c.serve.result.span.slide c.args.new) (g.S.AggStore.stored c.args.store.now).slices)
+    + length (due_from c.serve.result.span.length c.serve.result.span.slide (tuples_of (g.S.AggStore.stored c.args.store.now)) c.next_start-start.result c.args.new)
 all_steps g c =
     let span = c.serve.result.span in
-    let s = c.args.store.now in
+    let s = (g.S.AggStore.stored c.args.store.now) in
     let o = c.serve.ensures.holds.slices.ordered in
     let to = ap (λ (l : Laned). l.to) c.self.view_is ∙ c.refresh.ensures.to in
     let credit = ap (λ (l : Laned). l.credit) c.self.view_is in
@@ -107,7 +107,7 @@ pub returns-clause-cost_touched : goal.returns-clause-cost_touched
 returns-clause-cost_touched g c = λ def stands knows.
     let span = c.serve.result.span in
     let d = c.serve.result.def in
-    let s = c.args.store.now in
+    let s = (g.S.AggStore.stored c.args.store.now) in
     let same : def ≡ d = same_window c.args.defs.now.windows c.args.window def d stands c.serve.ensures.stands in
     let k = knows_at d.kind span.length span.slide c.serve.ensures.length c.serve.ensures.slide c.args.old s c.args.self.now (subst (λ (e : Def). Knows e.kind c.args.old s c.args.self.now) same knows) in
     let taken = taken_at_most span.length span.slide span.within c.args.old c.args.new c.requires.order s.slices c.serve.ensures.holds.slices.ordered (fresh_to c.args.self.now) (fresh_at_most c.args.self.now (last_end span.length span.slide c.args.old) k.reached) in
@@ -121,7 +121,7 @@ pub returns-clause-cost : goal.returns-clause-cost
 returns-clause-cost g c = λ def stands knows all.
     let span = c.serve.result.span in
     let d = c.serve.result.def in
-    let s = c.args.store.now in
+    let s = (g.S.AggStore.stored c.args.store.now) in
     let same : def ≡ d = same_window c.args.defs.now.windows c.args.window def d stands c.serve.ensures.stands in
     let k = knows_at d.kind span.length span.slide c.serve.ensures.length c.serve.ensures.slide c.args.old s c.args.self.now (subst (λ (e : Def). Knows e.kind c.args.old s c.args.self.now) same knows) in
     let none = missed_at d.kind span.length span.slide c.serve.ensures.length c.serve.ensures.slide c.args.old s c.args.self.now (subst (λ (e : Def). KnowsAll e.kind c.args.old s c.args.self.now) same all) in

@@ -1,7 +1,7 @@
 -- What stood of the complete intervals, of which the store holds all tuples.
 use Rattle.std.proofs.Common.{◌≡◌, ◌++◌, sym, subst}
 use Rattle.stream_base.specs.declared.def.Def.{Def}
-use Rattle.slice_store.specs.Stored.{tuples_of}
+use Rattle.agg_store.specs.Stored.{tuples_of}
 use Rattle.time_lanes.specs.Late.{IsFound, formers_of}
 use Rattle.time_lanes.proofs.LateFacts.{formers_told}
 use Rattle.time_lanes.proofs.ServedFacts.{same_window}
@@ -10,7 +10,7 @@ use Rattle.time_lanes.proofs.lane.Lane.formers.Goals as goal
 pub returns-clause-formers : goal.returns-clause-formers
 returns-clause-formers g c = λ def gone stands found.
     let d = c.serve.result.def in
-    let s = c.args.store.now in
+    let s = (g.S.AggStore.stored c.args.store.now) in
     let same : def ≡ d = same_window c.args.defs.now.windows c.args.window def d stands c.serve.ensures.stands in
     let here = subst (λ (e : Def). IsFound e.kind c.args.time gone s) same found in
     let into = c.append_formers.new.into.items in

@@ -12,7 +12,7 @@ use Rattle.time_lanes.proofs.lane.Lane.late.Goals as goal
 pub returns-clause-changes : goal.returns-clause-changes
 returns-clause-changes g c = λ def gone before marks x stands late.
     let d = c.serve.result.def in
-    let s = c.args.store.now in
+    let s = (g.S.AggStore.stored c.args.store.now) in
     let same : def ≡ d = same_window c.args.defs.now.windows c.args.window def d stands c.serve.ensures.stands in
     let here = subst (λ (e : Def). IsLate e c.args.time c.args.water gone before x c.args.formers.now s) same late in
     let out = c.append_late.new.out.items in

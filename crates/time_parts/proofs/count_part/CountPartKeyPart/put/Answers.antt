@@ -11,6 +11,6 @@ pub returns-clause-work : goal.returns-clause-work
 returns-clause-work g c =
     let q = c.requires.takes in
     let d = c.args.defs.now in
-    let work : 2 * count_of c.window_at-def.result.kind ≡ change_work (kind_at d c.args.window) c.args.store.now.reach =
-    ap (λ (w : Def). 2 * count_of w.kind) c.window_at-def.ensures.stands ∙ sym (counted_work (kind_at d c.args.window) c.args.store.now.reach (counts_at d c.args.window q.4.stood.counts)) in
+    let work : 2 * count_of c.window_at-def.result.kind ≡ change_work (kind_at d c.args.window) (g.S.AggStore.stored c.args.store.now).reach =
+    ap (λ (w : Def). 2 * count_of w.kind) c.window_at-def.ensures.stands ∙ sym (counted_work (kind_at d c.args.window) (g.S.AggStore.stored c.args.store.now).reach (counts_at d c.args.window q.4.stood.counts)) in
     subst (λ k. c.put.new.steps ≤ c.args.steps.now + k * (vec_len c.put.new.out - vec_len c.args.out.now)) work c.put.ensures.cost

@@ -10,8 +10,8 @@ use Rattle.time_parts.proofs.count_part.CountPartKeyPart.water.Goals as goal
 pub returns-clause-work_ahead : goal.returns-clause-work_ahead
 returns-clause-work_ahead g c = λ m n at ahead.
     let d = c.args.defs.now in
-    let row : count_of c.window_at-def.result.kind ≡ row_work (kind_at d c.args.window) c.args.store.now.reach =
-    ap (λ (w : Def). count_of w.kind) c.window_at-def.ensures.stands ∙ sym (counted_row (kind_at d c.args.window) c.args.store.now.reach (counts_at d c.args.window at.stood.counts)) in
+    let row : count_of c.window_at-def.result.kind ≡ row_work (kind_at d c.args.window) (g.S.AggStore.stored c.args.store.now).reach =
+    ap (λ (w : Def). count_of w.kind) c.window_at-def.ensures.stands ∙ sym (counted_row (kind_at d c.args.window) (g.S.AggStore.stored c.args.store.now).reach (counts_at d c.args.window at.stood.counts)) in
     let cost = subst (λ k. c.rows.new.steps ≤ c.args.steps.now + k * (vec_len c.rows.new.out - vec_len c.args.out.now)) row c.rows.ensures.cost in
     omega (arith, cost)
 

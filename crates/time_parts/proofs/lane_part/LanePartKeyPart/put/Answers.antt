@@ -15,7 +15,7 @@ use Rattle.time_parts.proofs.lane_part.LanePartKeyPart.put.Goals as goal
 pub late-requires-clause-sliced : goal.late-requires-clause-sliced
 late-requires-clause-sliced g c =
     let q = c.requires.takes in
-    (taken_in c.args.defs.now c.args.window q.1 q.2 (kept_at c.args.pos c.args.time c.args.value) q.3 c.args.store.now q.4.stood.timed q.4.step.comes).0.sliced
+    (taken_in c.args.defs.now c.args.window q.1 q.2 (kept_at c.args.pos c.args.time c.args.value) q.3 (g.S.AggStore.stored c.args.store.now) q.4.stood.timed q.4.step.comes).0.sliced
 
 pub late-requires-clause-formers : goal.late-requires-clause-formers
 late-requires-clause-formers g c = λ def stands.
@@ -43,11 +43,11 @@ returns-clause-stands g c = λ m n before more takes.
     let kind = kind_at d c.args.window in
     let kinds = takes.step.held.may_leave.kinds in
     let x = kept_at c.args.pos c.args.time c.args.value in
-    let stored = (taken_in d c.args.window n before x more c.args.store.now t takes.step.comes).0 in
-    let same = tuple_stays d.windows c.args.window (window_at d c.args.window) before kinds (stands_at d c.args.window t) (timed_at d c.args.window t) takes.step.store takes.step.held.sliced c.args.store.now x stored.put in
+    let stored = (taken_in d c.args.window n before x more (g.S.AggStore.stored c.args.store.now) t takes.step.comes).0 in
+    let same = tuple_stays d.windows c.args.window (window_at d c.args.window) before kinds (stands_at d c.args.window t) (timed_at d c.args.window t) takes.step.store takes.step.held.sliced (g.S.AggStore.stored c.args.store.now) x stored.put in
     record {
       timed = t;
-      knows = c.touched.ensures.knows kind m.water before c.args.store.now same (subst (λ (l : Laned). Knows kind m.water before l) (sym (ap (λ (p : Timed). p.lane) c.self.view_is)) takes.stood.knows);
+      knows = c.touched.ensures.knows kind m.water before (g.S.AggStore.stored c.args.store.now) same (subst (λ (l : Laned). Knows kind m.water before l) (sym (ap (λ (p : Timed). p.lane) c.self.view_is)) takes.stood.knows);
     }
 
 pub returns-clause-changes : goal.returns-clause-changes
@@ -59,7 +59,7 @@ returns-clause-changes g c = λ m n before more takes.
     let told : c.deref.result.now ≡ c.args.self.now.formers = c.deref.ensures.value ∙ ap (λ (p : Timed). p.formers) c.self.view_is in
     changed_of_all m n c.args.water (drop n m.kept) takes.water_is refl w c.args.window c.args.key.now x c.args.out.now.items c.late.new.out.items (timed_at d c.args.window t) (within_at d c.args.window t takes.step.held.may_leave.kinds)
     (c.late.ensures.changes w (take n m.kept) (drop n m.kept) m.marks x (stands_at d c.args.window t)
-    (is_late d c.args.window m n before x more c.args.store.now c.deref.result.now c.args.water t takes.step takes.water_is (told ∙ takes.asked)))
+    (is_late d c.args.window m n before x more (g.S.AggStore.stored c.args.store.now) c.deref.result.now c.args.water t takes.step takes.water_is (told ∙ takes.asked)))
 
 pub returns-clause-room : goal.returns-clause-room
 returns-clause-room g c =
@@ -76,7 +76,7 @@ pub returns-clause-work : goal.returns-clause-work
 returns-clause-work g c =
     let q = c.requires.takes in
     let d = c.args.defs.now in
-    let work = timed_work (kind_at d c.args.window) c.args.store.now.reach (timed_at d c.args.window q.4.stood.timed) in
+    let work = timed_work (kind_at d c.args.window) (g.S.AggStore.stored c.args.store.now).reach (timed_at d c.args.window q.4.stood.timed) in
     subst (λ k. c.late.new.steps ≤ c.args.steps.now + k * (vec_len c.late.new.out - vec_len c.args.out.now)) (sym work) c.late.ensures.cost
 
 -- it misses none of them where the tuple comes behind what is complete
@@ -87,9 +87,9 @@ returns-clause-ahead g c = λ m n before more takes behind ahead.
     let kind = kind_at d c.args.window in
     let kinds = takes.step.held.may_leave.kinds in
     let x = kept_at c.args.pos c.args.time c.args.value in
-    let stored = (taken_in d c.args.window n before x more c.args.store.now t takes.step.comes).0 in
-    let same = tuple_stays d.windows c.args.window (window_at d c.args.window) before kinds (stands_at d c.args.window t) (timed_at d c.args.window t) takes.step.store takes.step.held.sliced c.args.store.now x stored.put in
+    let stored = (taken_in d c.args.window n before x more (g.S.AggStore.stored c.args.store.now) t takes.step.comes).0 in
+    let same = tuple_stays d.windows c.args.window (window_at d c.args.window) before kinds (stands_at d c.args.window t) (timed_at d c.args.window t) takes.step.store takes.step.held.sliced (g.S.AggStore.stored c.args.store.now) x stored.put in
     let lane : c.args.self.now.lane ≡ c.self.inside.lane = sym (ap (λ (p : Timed). p.lane) c.self.view_is) in
-    c.touched.ensures.knows_all kind c.args.water before c.args.store.now same behind
+    c.touched.ensures.knows_all kind c.args.water before (g.S.AggStore.stored c.args.store.now) same behind
     (subst (λ (l : Laned). Knows kind c.args.water before l) lane (subst (λ k. Knows kind k before c.args.self.now.lane) takes.water_is takes.stood.knows))
     (subst (λ (l : Laned). KnowsAll kind c.args.water before l) lane ahead)

@@ -1,6 +1,6 @@
 -- The lane tells what the move completes, of which the store holds all tuples.
 use Rattle.std.proofs.Common.{◌≡◌, ◌≤◌, ◌+◌, ◌-◌, ◌*◌, ap, sym, take, subst, arith, vec_len}
-use Rattle.slice_store.specs.Stored.{tuples_of}
+use Rattle.agg_store.specs.Stored.{tuples_of}
 use Rattle.time_lanes.specs.Lane.{Knows, KnowsAll, Laned}
 use Rattle.time_lanes.specs.Moves.{MayMove}
 use Rattle.key_parts.specs.Calls.{window_at}
@@ -12,7 +12,7 @@ use Rattle.time_parts.proofs.lane_part.LanePartKeyPart.water.Goals as goal
 pub returns-clause-changes : goal.returns-clause-changes
 returns-clause-changes g c = λ m n at.
     let d = c.args.defs.now in
-    let s = c.args.store.now in
+    let s = (g.S.AggStore.stored c.args.store.now) in
     let t = at.stood.timed in
     let w = window_at d c.args.window in
     let gone = take n m.kept in
@@ -33,7 +33,7 @@ returns-clause-room g c =
 pub returns-clause-work_ahead : goal.returns-clause-work_ahead
 returns-clause-work_ahead g c = λ m n at ahead.
     let d = c.args.defs.now in
-    let s = c.args.store.now in
+    let s = (g.S.AggStore.stored c.args.store.now) in
     let t = at.stood.timed in
     let kind = kind_at d c.args.window in
     let w = window_at d c.args.window in
@@ -48,7 +48,7 @@ returns-clause-work_ahead g c = λ m n at ahead.
 pub returns-clause-work : goal.returns-clause-work
 returns-clause-work g c = λ m n at.
     let d = c.args.defs.now in
-    let s = c.args.store.now in
+    let s = (g.S.AggStore.stored c.args.store.now) in
     let t = at.stood.timed in
     let kind = kind_at d c.args.window in
     let w = window_at d c.args.window in

@@ -23,7 +23,7 @@ returns-in-Intervals-clause-changes g c = λ m n before more t.
 pub returns-in-Intervals-clause-ahead : goal.returns-in-Intervals-clause-ahead
 returns-in-Intervals-clause-ahead g c = λ m n before more t behind ahead.
     ahead_with (λ m n s h. subst (λ p. stands_any c.args.defs.now c.args.window m n s p) c.in-Intervals.is h)
-    (λ s. complete_up_to c.args.defs.now c.args.window c.args.water ≤ c.args.time → MissesNone c.args.defs.now c.args.window c.args.water s c.in-Intervals.part.lane → MissesNone c.args.defs.now c.args.window c.args.water c.args.store.now c.put.new.self.lane)
+    (λ s. complete_up_to c.args.defs.now c.args.window c.args.water ≤ c.args.time → MissesNone c.args.defs.now c.args.window c.args.water s c.in-Intervals.part.lane → MissesNone c.args.defs.now c.args.window c.args.water (g.S.AggStore.stored c.args.store.now) c.put.new.self.lane)
     (λ m asked. subst (λ p. asked_any c.args.defs.now c.args.window m c.args.time p) c.in-Intervals.is asked) (to_z-of_z w64 c.args.value c.ranges.value) c.put.ensures.ahead t behind
     (subst (λ p. ahead_any c.args.defs.now c.args.window c.args.water before p) c.in-Intervals.is ahead)
 

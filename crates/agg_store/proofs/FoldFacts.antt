@@ -17,7 +17,7 @@ use Rattle.agg_laws.proofs.Totals.{total-cons}
 use Rattle.window_laws.specs.Runs.{IsAligned, runs_within}
 use Rattle.window_laws.proofs.Order.{All-map_of, All-split}
 use Rattle.slice_runs.specs.Slices.{AreSlices, joined, values_of}
-use Rattle.slice_store.specs.Stored.{partial_of}
+use Rattle.agg_store.specs.Stored.{partial_of}
 use Rattle.slice_runs.proofs.WithinFacts.{within_aligned, all_joined}
 
 -- ---- the partials of the slices in it

@@ -1,15 +1,12 @@
 -- What a tuple makes of the slices of a store.
-use Rattle.std.specs.Prelude.{◌≡◌, ◌++◌, ℕ, Bool, List, [], ◌∷◌, filter, nat_le, if◌then◌else◌}
+use Rattle.std.specs.Prelude.{◌≡◌, ◌++◌, ℕ, List, ◌∷◌, filter}
 use Rattle.stream_base.specs.declared.def.Def.{Def}
 use Rattle.stream_base.specs.declared.kept.Kept.{Kept}
 use Rattle.stream_base.specs.Model.Cuts.{has_cut}
 use Rattle.stream_base.specs.Model.Journal.{put_in_order}
-use Rattle.stream_base.specs.Model.Windows.{last_time}
-use Rattle.slice_store.specs.declared.placed.Placed.{Placed}
-use Rattle.slice_store.specs.declared.placed.Placed.TheVariants.{Appended, Joined, Added, Merged}
 use Rattle.slice_runs.specs.Slices.{joined}
-use Rattle.slice_store.specs.Stored.{Stored, tuples_of}
 use Rattle.slice_runs.specs.Touched.{is_near}
+use Rattle.agg_store.specs.Stored.{Stored}
 
 -- the slices that a tuple at a time enters: those that it is near to
 abbrev pub slices_near : List Def → ℕ → Stored → List (List Kept)
@@ -21,13 +18,3 @@ pub record IsPut (windows : List Def) (old : Stored) (x : Kept) (new : Stored) :
   pub behind : List (List Kept)
   pub was : old.slices ≡ before ++ (slices_near windows x.time old ++ behind)
   pub is : new.slices ≡ before ++ put_in_order (joined (slices_near windows x.time old)) x ∷ behind
-
--- no tuple is of a later time, so that a tuple of this time is the last one
-abbrev pub is_last : ℕ → Stored → Bool
-is_last time s = nat_le (last_time (tuples_of s)) time
-
--- how a tuple is placed that enters these slices: it is a slice of its own; it enters one slice and is then the last tuple, or isn't; or it joins two into one
-abbrev pub placed_in : List (List Kept) → Bool → Placed
-placed_in [] last = Added
-placed_in (run ∷ []) last = if last then Appended else Joined
-placed_in (run ∷ next ∷ runs) last = Merged

@@ -1,5 +1,5 @@
 -- What a store of slices is in contracts.
-use Rattle.std.specs.Prelude.{◌≡◌, ℕ, List, map}
+use Rattle.std.specs.Prelude.{◌≡◌, ℕ, List}
 use Rattle.std.specs.List.Sorted.{IsStrictlyIncreasing}
 use Rattle.stream_base.specs.declared.def.Def.{Def}
 use Rattle.stream_base.specs.declared.kept.Kept.{Kept}
@@ -32,11 +32,6 @@ pub record IsStore (s : Stored) : Type 0 where
 -- the partial of a slice, under the time of its first tuple
 abbrev pub partial_of : List Kept → ℕ × Bundled
 partial_of run = (first_time run, bundle_of (values_of run))
-
--- what a store keeps of its parts: the marks rise, and under the time of its first tuple stands the partial of each slice
-pub record AreInside (slices : List (List Kept)) (marks : List ℕ) (pairs : List (ℕ × Bundled)) : Type 0 where
-  pub rising : IsStrictlyIncreasing marks
-  pub partials : pairs ≡ map partial_of slices
 
 -- only room differs
 pub record IsAsBefore (old new : Stored) : Type 0 where

@@ -3,7 +3,7 @@ use Rattle.std.proofs.Common.{◌∙◌, ap, Some, sym, arith}
 use Rattle.std.specs.Option.{option_map}
 use Rattle.slice_runs.specs.Slices.{slice_of}
 use Rattle.slice_runs.proofs.WithinFacts.{first_from, none_from}
-use Rattle.slice_store.proofs.store.SliceStore.slice_from.Goals as goal
+use Rattle.slice_store.proofs.store.SliceStoreAggStore.slice_from.Goals as goal
 
 pub returns-then-at-len-clause-first : goal.returns-then-at-len-clause-first
 returns-then-at-len-clause-first g c =

@@ -1,7 +1,7 @@
 -- The partials under the times of an interval are those of its slices.
 use Rattle.std.proofs.Common.{◌∙◌, arith}
-use Rattle.slice_store.proofs.FoldFacts.{fold_is, fold_length}
-use Rattle.slice_store.proofs.store.SliceStore.fold.Goals as goal
+use Rattle.agg_store.proofs.FoldFacts.{fold_is, fold_length}
+use Rattle.slice_store.proofs.store.SliceStoreAggStore.fold.Goals as goal
 
 pub returns-clause-value : goal.returns-clause-value
 returns-clause-value g c =

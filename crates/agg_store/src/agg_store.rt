@@ -1,0 +1,44 @@
+ghost use Rattle.std.specs.Prelude.{◌≡◌, ◌≤◌, ◌+◌, ◌*◌, find, length, nat_le, All};
+ghost use Rattle.std.specs.Option.{option_map};
+ghost use Rattle.stream_base.specs.declared.limits.TheConstants.{TIME_MAX};
+ghost use Rattle.stream_base.specs.Model.Windows.{first_time, last_time, within};
+ghost use Rattle.aggregates.specs.Bundled.{bundle_of};
+ghost use Rattle.window_laws.specs.Runs.{IsAligned, runs_within};
+ghost use Rattle.slice_runs.specs.Slices.{slice_of, values_of};
+ghost use Rattle.agg_store.specs.Stored.{IsStore, Stored, tuples_of};
+
+use agg_laws::Steps;
+use aggregates::Bundle;
+use slice_runs::Slice;
+
+/// The slices of one key, with a partial aggregate for each, which all of its windows share.
+///
+/// Its work is bounded by its reach: a fold makes at most `64 * (reach + 2)` steps, and at most one
+/// for each slice in its range.
+pub trait AggStore {
+    // The slices and marks that the store stands for.
+    ghost stored: { Self → Stored };
+
+    /// The fold of the tuples with `low <= time < high` in event order, from the partials of their
+    /// slices. No slice has tuples on both sides of either time.
+    fn fold<L>(&self, low: u64, high: u64, steps: &mut Steps<L>) -> Bundle
+        requires low { IsAligned (stored self.now).slices low }
+        requires high { IsAligned (stored self.now).slices high }
+        ensures value { result
+            ≡ bundle_of (values_of (within low high (tuples_of (stored self.now)))) }
+        ensures one_each { steps.new
+            ≤ steps.old + length (runs_within low high (stored self.now).slices) }
+        ensures cost { steps.new ≤ steps.old + 64 * ((stored self.now).reach + 2) };
+
+    /// How many slices there are.
+    fn slice_count(&self) -> u64
+        ensures count { result ≡ length (stored self.now).slices }
+        ensures holds { IsStore (stored self.now) }
+        ensures ends { All (λ run. last_time run ≤ TIME_MAX) (stored self.now).slices };
+
+    /// The first slice that begins at a time or later, `None` exactly where there is none.
+    fn slice_from(&self, time: u64) -> Option<Slice>
+        ensures first { result ≡ option_map slice_of
+            (find (λ run. nat_le time (first_time run)) (stored self.now).slices) }
+        ensures holds { IsStore (stored self.now) };
+}
