@@ -8,7 +8,7 @@ ghost use Rattle.partials.specs.Apart.{AreBelow, AreFrom, IsReachOver};
 
 use agg_laws::{AggTree, Monoid, Probes, Steps};
 use aggregates::Bundle;
-use flat_tree::FlatTree;
+use pair_row::PairRow;
 use std::alloc::Global;
 use std::marker::Model;
 use stream_base::NoMemory;
@@ -24,7 +24,7 @@ const NEAR: u64 = 256;
 #[derive(Drop)]
 pub struct Partials<T: AggTree<Bundle>> {
     tree: T,
-    near: FlatTree<Bundle>,
+    near: PairRow<Bundle>,
     // The keys in the tree are below it, and those in the row aren't.
     edge: u64,
 }
@@ -52,7 +52,7 @@ impl<T: AggTree<Bundle>> Partials<T> {
     {
         Partials {
             tree: T::fresh(alloc),
-            near: FlatTree::fresh(alloc),
+            near: PairRow::new(alloc),
             edge: 0,
         }
     }
@@ -87,7 +87,7 @@ impl<T: AggTree<Bundle>> Partials<T> {
         let mut probes = Probes::new();
         if is_near(&self.near, self.edge, low) {
             self.edge = make_way(&mut self.tree, &mut self.near, self.edge, steps);
-            self.near.insert(low, partial, &mut probes, steps);
+            self.near.insert(low, partial);
         } else {
             self.tree.insert(low, partial, &mut probes, steps);
             self.edge = self.edge.max(low + 1);
@@ -106,7 +106,7 @@ impl<T: AggTree<Bundle>> Partials<T> {
         if low < self.edge {
             self.tree.set(low, partial, &mut probes, steps);
         } else {
-            self.near.set(low, partial, &mut probes, steps);
+            self.near.set(low, partial);
         }
     }
 
@@ -121,26 +121,10 @@ impl<T: AggTree<Bundle>> Partials<T> {
         ensures cost { steps.new ≤ steps.old + 64 * ((self.old).reach + 3) }
     {
         if low < self.edge {
-            self.extend_older(low, more, steps);
+            extend_in(&mut self.tree, low, more, steps);
         } else {
             self.near.extend(low, more, steps);
         }
-    }
-
-    // The same, by reading the partial and putting the sum in its place. Inside `extend` its local
-    // variables would be cleared for each tuple in order, too.
-    #[inline(always)]
-    fn extend_older<L>(&mut self, low: u64, more: &Bundle, steps: &mut Steps<L>)
-        requires time { low ≤ TIME_MAX }
-        requires there { IsTrue (has_key low (self.old).pairs) }
-        ensures extended { (b : Bundled) → IsBundle b → value_at low (self.old).pairs ≡ Some b
-            → (self.new).pairs ≡ replaced low (bundles_combined b more.now) (self.old).pairs }
-        ensures spare { (self.old).spare ≤ (self.new).spare }
-        ensures reach { (self.new).reach ≤ (self.old).reach }
-        ensures cost { steps.new ≤ steps.old + 64 * ((self.old).reach + 3) }
-    {
-        let own = self.read(low, steps);
-        self.set(low, own.combine(more, steps), steps);
     }
 
     /// Takes out the partial under a time.
@@ -154,7 +138,7 @@ impl<T: AggTree<Bundle>> Partials<T> {
         if low < self.edge {
             take_from(&mut self.tree, low, steps)
         } else {
-            take_near(&mut self.near, low, steps)
+            take_near(&mut self.near, low)
         }
     }
 
@@ -166,8 +150,7 @@ impl<T: AggTree<Bundle>> Partials<T> {
         ensures cost { steps.new ≤ steps.old + 1 }
     {
         if low < self.edge {
-            let mut probes = Probes::new();
-            self.tree.fold_range(low, low + 1, &mut probes, steps)
+            read_in(&self.tree, low, steps)
         } else {
             self.near.get(low).unwrap_or(Bundle::unit())
         }
@@ -187,7 +170,7 @@ impl<T: AggTree<Bundle>> Partials<T> {
 
 // Whether a key belongs into the row: it lies behind those in the tree, and where the row is full
 // also behind the first one there, which then leaves.
-fn is_near(near: &FlatTree<Bundle>, edge: u64, key: u64) -> bool
+fn is_near(near: &PairRow<Bundle>, edge: u64, key: u64) -> bool
     requires from { AreFrom edge near.now.pairs }
     requires absent { has_key key near.now.pairs ≡ false }
     ensures edge { result ≡ true → edge ≤ key }
@@ -208,7 +191,7 @@ fn is_near(near: &FlatTree<Bundle>, edge: u64, key: u64) -> bool
 // Brings the first pair of a full row into a tree, and answers where the row begins then.
 fn make_way<T: AggTree<Bundle>, L>(
     tree: &mut T,
-    near: &mut FlatTree<Bundle>,
+    near: &mut PairRow<Bundle>,
     edge: u64,
     steps: &mut Steps<L>,
 ) -> u64
@@ -239,7 +222,7 @@ fn make_way<T: AggTree<Bundle>, L>(
 // Brings the first pair of a row into a tree, and answers where the row begins then.
 fn bring_in<T: AggTree<Bundle>, L>(
     tree: &mut T,
-    near: &mut FlatTree<Bundle>,
+    near: &mut PairRow<Bundle>,
     edge: u64,
     steps: &mut Steps<L>,
 ) -> u64
@@ -262,7 +245,7 @@ fn bring_in<T: AggTree<Bundle>, L>(
     let Some(low) = near.first_key() else {
         return edge;
     };
-    let partial = take_near(near, low, steps);
+    let partial = take_near(near, low);
     tree.insert(low, partial, &mut probes, steps);
     low + 1
 }
@@ -289,6 +272,36 @@ fn fold_below<T: AggTree<Bundle>, L>(
     tree.fold_range(low, high, &mut probes, steps)
 }
 
+// The partial under a time in a tree.
+fn read_in<T: AggTree<Bundle>, L>(tree: &T, low: u64, steps: &mut Steps<L>) -> Bundle
+    requires { low ≤ TIME_MAX }
+    ensures value { (b : Bundled) → IsBundle b → value_at low (T.pairs tree.now) ≡ Some b
+        → result ≡ b }
+    ensures cost { steps.new ≤ steps.old + 1 }
+{
+    let mut probes = Probes::new();
+    tree.fold_range(low, low + 1, &mut probes, steps)
+}
+
+// Combines the partial under a time in a tree with another one behind it. It is a function of its own:
+// inside `extend` its local variables would be cleared for each tuple in order, too.
+#[inline(always)]
+fn extend_in<T: AggTree<Bundle>, L>(tree: &mut T, low: u64, more: &Bundle, steps: &mut Steps<L>)
+    requires time { low ≤ TIME_MAX }
+    requires there { IsTrue (has_key low (T.pairs tree.old)) }
+    ensures extended { (b : Bundled) → IsBundle b → value_at low (T.pairs tree.old) ≡ Some b
+        → T.pairs tree.new ≡ replaced low (bundles_combined b more.now) (T.pairs tree.old) }
+    ensures below { (edge : ℕ) → AreBelow edge (T.pairs tree.old)
+        → AreBelow edge (T.pairs tree.new) }
+    ensures spare { T.spare tree.old ≤ T.spare tree.new }
+    ensures reach { T.reach tree.new ≤ T.reach tree.old }
+    ensures cost { steps.new ≤ steps.old + 64 * (T.reach tree.old + 3) }
+{
+    let mut probes = Probes::new();
+    let own = read_in(tree, low, steps);
+    tree.set(low, own.combine(more, steps), &mut probes, steps);
+}
+
 // Takes the partial under a time out of a tree.
 fn take_from<T: AggTree<Bundle>, L>(tree: &mut T, low: u64, steps: &mut Steps<L>) -> Bundle
     ensures value { (b : Bundled) → value_at low (T.pairs tree.old) ≡ Some b → result ≡ b }
@@ -305,16 +318,11 @@ fn take_from<T: AggTree<Bundle>, L>(tree: &mut T, low: u64, steps: &mut Steps<L>
 }
 
 // Takes the partial under a time out of a row.
-fn take_near<L>(near: &mut FlatTree<Bundle>, low: u64, steps: &mut Steps<L>) -> Bundle
+fn take_near(near: &mut PairRow<Bundle>, low: u64) -> Bundle
     ensures value { (b : Bundled) → value_at low near.old.pairs ≡ Some b → result ≡ b }
     ensures pairs { near.new.pairs ≡ without low near.old.pairs }
     ensures spare { near.old.spare ≤ near.new.spare }
     ensures row { length near.new.pairs ≤ length near.old.pairs }
-    ensures no_step { steps.new ≡ steps.old }
 {
-    let mut probes = Probes::new();
-    match near.remove(low, &mut probes, steps) {
-        Some(bundle) => bundle,
-        None => Bundle::unit(),
-    }
+    near.remove(low).unwrap_or(Bundle::unit())
 }

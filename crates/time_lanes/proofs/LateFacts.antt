@@ -1,13 +1,10 @@
--- The complete intervals that hold a time.
-use Rattle.std.proofs.Common.{◌≡◌, ◌∙◌, ℕ, zero, suc, ◌+◌, ◌-◌, ◌*◌, ◌/◌, ◌<◌, ◌≤◌, Bool, true, false, cond, Option, None, Some, List, [], ◌∷◌, ◌++◌, length, get_or, map, ap, sym, refl, arith, inl, inr, append_assoc}
-use Rattle.std.specs.Prelude.{◌⊎◌, ◌&&◌, min, nat_le, nat_lt}
-use Rattle.std.specs.List.{All, Contains, filter, range_with_len}
-use Rattle.std.proofs.lemmas.Bool.{cases_lt, le-leb, le-ltb, lt-leb, lt-ltb}
-use Rattle.std.proofs.lemmas.List.{length-map, map-append}
+-- What a late tuple changes of the complete intervals that hold it.
+use Rattle.std.proofs.Common.{◌≡◌, ◌∙◌, ℕ, zero, suc, ◌+◌, ◌<◌, ◌≤◌, Bool, true, false, cond, Option, None, Some, List, [], ◌∷◌, ◌++◌, length, get_or, map, ap, sym, refl, arith, inl, inr}
+use Rattle.std.specs.Prelude.{◌⊎◌, ◌&&◌, nat_le, nat_lt}
+use Rattle.std.specs.List.{All, Contains}
+use Rattle.std.proofs.lemmas.Bool.{cases_lt, le-leb, le-ltb, lt-ltb}
+use Rattle.std.proofs.lemmas.List.{length-map}
 use Rattle.std.proofs.lemmas.List.Elements.{All-contains, All-filter, filter-append}
-use Rattle.std.proofs.lemmas.List.FromFn.{map-range_with_len_more}
-use Rattle.std.proofs.lemmas.Nat.{le-div}
-use Rattle.std.proofs.Math.Nat.{div-mul-le_self}
 use Rattle.stream_base.specs.declared.change.Change.{Change}
 use Rattle.stream_base.specs.declared.change.Change.TheVariants.{Again, New}
 use Rattle.stream_base.specs.declared.def.Def.{Def}
@@ -19,7 +16,7 @@ use Rattle.stream_base.specs.Limits.{IsKindWithin}
 use Rattle.stream_base.specs.Model.Changes.{emissions, former_of, row_of}
 use Rattle.stream_base.specs.Model.Journal.{put_in_order}
 use Rattle.stream_base.specs.Model.Windows.{interval, is_selecting, is_within, starts_holding, within}
-use Rattle.stream_base.proofs.Members.{filter_map_of, filter_members, filter_same, map_same}
+use Rattle.stream_base.proofs.Members.{filter_members, map_same}
 use Rattle.stream_base.proofs.Spans.{starts_holding_members}
 use Rattle.window_laws.specs.After.{with_tuple}
 use Rattle.window_laws.specs.Late.{late_change, length_of, slide_of}
@@ -27,100 +24,10 @@ use Rattle.window_laws.proofs.LateFacts.{timed_late_emissions}
 use Rattle.window_laws.proofs.Order.{nd_split}
 use Rattle.window_laws.proofs.RunFacts.{put_behind, put_first}
 use Rattle.agg_store.specs.Stored.{Stored, tuples_of}
-use Rattle.time_lanes.specs.Late.{AreApartAt, IsLate, again_or_new, complete_holding, complete_starts, ended, former_at, former_if, formers_of, starts_from, told_at, told_late}
+use Rattle.interval_walks.specs.Told.{again_or_new, complete_starts, former_at, former_if, starts_from, told_at, told_late}
+use Rattle.time_lanes.specs.Late.{AreApartAt, IsLate, complete_holding, formers_of}
 use Rattle.time_lanes.specs.Moves.{moment}
-use Rattle.time_lanes.specs.Spans.{IsSpan}
-
--- ---- their starts are multiples in a row
-upto : (b s k : ℕ) → filter (λ i. nat_lt i b) (range_with_len s k) ≡ range_with_len s (min k (b - s))
-upto b s zero = let e : 0 ≡ min 0 (b - s) = omega arith in ap (range_with_len s) e
-upto b s (suc k) = by (upto b (s + 1) k) (cases_lt s b)
-  where
-    by : filter (λ i. nat_lt i b) (range_with_len (s + 1) k) ≡ range_with_len (s + 1) (min k (b - (s + 1))) → (s < b) ⊎ (b ≤ s) → filter (λ i. nat_lt i b) (range_with_len s (suc k)) ≡ range_with_len s (min (suc k) (b - s))
-    by h (inl l) =
-        let e : suc (min k (b - (s + 1))) ≡ min (suc k) (b - s) = omega arith in
-        ap (λ t. cond t (s ∷ filter (λ i. nat_lt i b) (range_with_len (s + 1) k)) (filter (λ i. nat_lt i b) (range_with_len (s + 1) k))) (lt-ltb s b l)
-        ∙ ap (λ q. s ∷ q) h
-        ∙ ap (range_with_len s) e
-    by h (inr l) =
-        let e : min k (b - (s + 1)) ≡ 0 = omega arith in
-        let f : 0 ≡ min (suc k) (b - s) = omega arith in
-        ap (λ t. cond t (s ∷ filter (λ i. nat_lt i b) (range_with_len (s + 1) k)) (filter (λ i. nat_lt i b) (range_with_len (s + 1) k))) (le-ltb s b l)
-        ∙ h
-        ∙ ap (range_with_len (s + 1)) e
-        ∙ ap (range_with_len s) f
-
-times_mono : (a b c : ℕ) → a ≤ b → a * c ≤ b * c
-times_mono a b c h = grind arith
-
-has_ended : (length slide water k : ℕ) → 1 ≤ slide → nat_le (k * slide + length) water ≡ nat_lt k (ended length slide water)
-has_ended length slide water k moves = by (cases_lt water length)
-  where
-    by : (water < length) ⊎ (length ≤ water) → nat_le (k * slide + length) water ≡ nat_lt k (ended length slide water)
-    by (inl l) = lt-leb (k * slide + length) water (omega arith) ∙ sym (ap (λ b. nat_lt k (cond b 0 ((water - length) / slide + 1))) (lt-ltb water length l) ∙ le-ltb k 0 (omega arith))
-    by (inr l) = own (cases_lt k ((water - length) / slide + 1)) ∙ sym (ap (λ b. nat_lt k (cond b 0 ((water - length) / slide + 1))) (le-ltb water length l))
-      where
-        own : (k < (water - length) / slide + 1) ⊎ ((water - length) / slide + 1 ≤ k) → nat_le (k * slide + length) water ≡ nat_lt k ((water - length) / slide + 1)
-        own (inl m) =
-            let t : k * slide ≤ (water - length) / slide * slide = times_mono k ((water - length) / slide) slide (omega arith) in
-            le-leb (k * slide + length) water (omega (arith, div-mul-le_self (water - length) slide)) ∙ sym (lt-ltb k ((water - length) / slide + 1) m)
-        own (inr m) = lt-leb (k * slide + length) water (late (cases_lt water (k * slide + length))) ∙ sym (le-ltb k ((water - length) / slide + 1) m)
-          where
-            late : (water < k * slide + length) ⊎ (k * slide + length ≤ water) → water < k * slide + length
-            late (inl s) = s
-            late (inr s) = absurd (let q : k ≤ (water - length) / slide = le-div k (water - length) slide moves (omega arith) in omega arith)
-
-pub starts_are : (length slide time water : ℕ) → 1 ≤ slide
-    → complete_starts length slide time water ≡ starts_from slide ((time + slide - length) / slide) (min (time / slide + 1) (ended length slide water) - (time + slide - length) / slide)
-starts_are length slide time water moves =
-    let first : ℕ = (time + slide - length) / slide in
-    let e : min (time / slide + 1 - (time + slide - length) / slide) (ended length slide water - (time + slide - length) / slide) ≡ min (time / slide + 1) (ended length slide water) - (time + slide - length) / slide = omega arith in
-    filter_map_of (λ low. nat_le (low + length) water) (λ k. k * slide) (range_with_len ((time + slide - length) / slide) (time / slide + 1 - (time + slide - length) / slide))
-    ∙ ap (map (λ k. k * slide)) (filter_same (λ k. nat_le (k * slide + length) water) (λ k. nat_lt k (ended length slide water)) (range_with_len ((time + slide - length) / slide) (time / slide + 1 - (time + slide - length) / slide)) (λ k c. has_ended length slide water k moves))
-    ∙ ap (map (λ k. k * slide)) (upto (ended length slide water) ((time + slide - length) / slide) (time / slide + 1 - (time + slide - length) / slide))
-    ∙ ap (λ n. map (λ k. k * slide) (range_with_len ((time + slide - length) / slide) n)) e
-
-range_length : (a n : ℕ) → length (range_with_len a n) ≡ n
-range_length a zero = refl
-range_length a (suc n) = ap suc (range_length (a + 1) n)
-
-pub starts_length : (slide first count : ℕ) → length (starts_from slide first count) ≡ count
-starts_length slide first count = length-map (range_with_len first count) (λ k. k * slide) ∙ range_length first count
-
-pub starts_in_time : (slide first count time upper k : ℕ) → count ≡ min (time / slide + 1) upper - first → k < count → (first + k) * slide ≤ time
-starts_in_time slide first count time upper k e l =
-    let t : (first + k) * slide ≤ time / slide * slide = times_mono (first + k) (time / slide) slide (omega arith) in
-    omega (arith, div-mul-le_self time slide)
-
--- one more
-pub starts_more : (slide first k low : ℕ) → low ≡ (first + k) * slide → starts_from slide first (k + 1) ≡ starts_from slide first k ++ low ∷ []
-starts_more slide first k low e = map-range_with_len_more (λ k. k * slide) first k (first + k) refl ∙ ap (λ l. starts_from slide first k ++ l ∷ []) (sym e)
-
--- ---- told one after another
-pub former_more : (f : ℕ → Option Former) (before out pushed : List (Option Former)) (slide first k low : ℕ) (former : Option Former) → low ≡ (first + k) * slide → out ≡ before ++ map f (starts_from slide first k) → former ≡ f low → pushed ≡ out ++ former ∷ [] → pushed ≡ before ++ map f (starts_from slide first (k + 1))
-former_more f before out pushed slide first k low former e h is p =
-    p
-    ∙ (λ i. h i ++ is i ∷ [])
-    ∙ append_assoc before (map f (starts_from slide first k)) (f low ∷ [])
-    ∙ ap (λ l. before ++ l) (sym (ap (map f) (starts_more slide first k low e) ∙ map-append f (starts_from slide first k) (low ∷ [])))
-
-told_push : (told : ℕ → Option Former → Change) (lows : List ℕ) (low : ℕ) (formers : List (Option Former)) (d : Option Former) → length lows < length formers → told_late told (lows ++ low ∷ []) formers ≡ told_late told lows formers ++ told low (get_or formers (length lows) d) ∷ []
-told_push told [] low [] d h = absurd (omega arith)
-told_push told [] low (f ∷ formers) d h = refl
-told_push told (l ∷ lows) low [] d h = absurd (omega arith)
-told_push told (l ∷ lows) low (f ∷ formers) d h = ap (λ q. told l f ∷ q) (told_push told lows low formers d (omega arith))
-
-pub late_more : (told : ℕ → Option Former → Change) (before out pushed : List Change) (slide first k low : ℕ) (formers : List (Option Former)) (former d : Option Former) (change : Change) → low ≡ (first + k) * slide → k < length formers → out ≡ before ++ told_late told (starts_from slide first k) formers → former ≡ get_or formers k d → change ≡ told low former → pushed ≡ out ++ change ∷ [] → pushed ≡ before ++ told_late told (starts_from slide first (k + 1)) formers
-late_more told before out pushed slide first k low formers former d change e l h g is p =
-    let n : length (starts_from slide first k) ≡ k = starts_length slide first k in
-    p
-    ∙ (λ i. h i ++ (is ∙ ap (told low) (g ∙ ap (λ j. get_or formers j d) (sym n))) i ∷ [])
-    ∙ append_assoc before (told_late told (starts_from slide first k) formers) (told low (get_or formers (length (starts_from slide first k)) d) ∷ [])
-    ∙ ap (λ q. before ++ q) (sym (ap (λ s. told_late told s formers) (starts_more slide first k low e) ∙ told_push told (starts_from slide first k) low formers d (omega (arith, n))))
-
-pub none_told : (told : ℕ → Option Former → Change) (before : List Change) (formers : List (Option Former)) → before ≡ before ++ told_late told [] formers
-none_told told [] formers = refl
-none_told told (c ∷ before) formers = ap (λ l. c ∷ l) (none_told told before formers)
+use Rattle.interval_walks.specs.Spans.{IsSpan}
 
 told_of_map : (told : ℕ → Option Former → Change) (g : ℕ → Option Former) (lows : List ℕ) → told_late told lows (map g lows) ≡ map (λ low. told low (g low)) lows
 told_of_map told g [] = refl
@@ -209,13 +116,6 @@ late_number window key def time water kept marks x timed kind at =
     ap (λ t. length (complete_holding def.kind t water)) (sym at)
     ∙ sym (length-map (complete_holding def.kind x.time water) (late_change window key def.func (length_of def.kind) kept x))
     ∙ ap length (sym (timed_late_emissions window key def (moment kept marks water) x timed kind))
-
--- ---- numbers
-pub at_most_times : (n s : ℕ) → 1 ≤ s → n ≤ n * s
-at_most_times n s h = grind arith
-
-pub one_more_time : (a k : ℕ) → a * (k + 1) ≡ a * k + a
-one_more_time a k = grind arith
 
 -- ---- the same, as a lane has it
 pub formers_told : (def : Def) (time water : ℕ) (gone : List Kept) (s : Stored) (length_is slide_is first count : ℕ) (before after : List (Option Former)) → length_is ≡ length_of def.kind → slide_is ≡ slide_of def.kind → complete_starts length_is slide_is time water ≡ starts_from slide_is first count → AreApartAt def.kind time gone → after ≡ before ++ map (former_at def.func length_is (tuples_of s)) (starts_from slide_is first count) → after ≡ before ++ formers_of def time water (gone ++ tuples_of s)

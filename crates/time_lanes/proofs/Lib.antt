@@ -1,10 +1,5 @@
-pub mod Ranges
-pub mod NextFacts
-pub mod Counts
-pub mod HeldFacts
+pub mod EndFacts
 pub mod LateFacts
-pub mod ServedFacts
-pub mod WalkFacts
 pub mod MoveFacts
 pub mod AdvanceFacts
 pub mod StayFacts

@@ -1,14 +1,13 @@
 -- What a lane is in contracts, and what it knows of the slices of its key.
-use Rattle.std.specs.Prelude.{◌≡◌, ◌≤◌, ℕ, Bool, false, List, [], map, if◌then◌else◌}
-use Rattle.stream_base.specs.declared.kept.Kept.{Kept}
+use Rattle.std.specs.Prelude.{◌≡◌, ◌≤◌, ℕ, Bool, false, List, [], if◌then◌else◌}
 use Rattle.stream_base.specs.declared.kind.Kind.{Kind}
-use Rattle.aggregates.specs.Bundled.{Bundled, bundle_of}
+use Rattle.aggregates.specs.Bundled.{Bundled}
 use Rattle.window_laws.specs.Late.{length_of, slide_of}
 use Rattle.window_laws.specs.Runs.{runs_within}
 use Rattle.window_laws.specs.Walk.{next_start_of}
-use Rattle.slice_runs.specs.Slices.{values_of}
 use Rattle.agg_store.specs.Stored.{Stored}
-use Rattle.time_lanes.specs.Spans.{IsEdge, last_end_of}
+use Rattle.interval_walks.specs.Held.{partials_of}
+use Rattle.interval_walks.specs.Spans.{IsEdge, last_end_of}
 
 -- the partials of the slices that it holds, oldest first; up to where it holds them; whether one of them has changed since; for how many more there is room; and what is left of the steps that were paid for
 pub record Laned : Type 0 where
@@ -17,10 +16,6 @@ pub record Laned : Type 0 where
   pub stale : Bool
   pub spare : ℕ
   pub credit : ℕ
-
--- the partials of slices
-abbrev pub partials_of : List (List Kept) → List Bundled
-partials_of runs = map (λ run. bundle_of (values_of run)) runs
 
 -- what is left of a lane that lets all go where one of the slices has changed
 abbrev pub fresh_partials : Laned → List Bundled

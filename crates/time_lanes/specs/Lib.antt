@@ -1,5 +1,3 @@
-pub mod Spans
 pub mod Lane
-pub mod Held
 pub mod Late
 pub mod Moves

@@ -1,18 +1,15 @@
 -- What a move of the watermark completes, and what a lane takes up for it.
 use Rattle.std.specs.Prelude.{◌≡◌, ◌<◌, ◌+◌, ◌-◌, ◌*◌, ◌^◌, ℕ, List, [], max, length}
-use Rattle.stream_base.specs.declared.change.Change.{Change}
-use Rattle.stream_base.specs.declared.change.Change.TheVariants.{New}
-use Rattle.stream_base.specs.declared.func.Func.{Func}
 use Rattle.stream_base.specs.declared.kept.Kept.{Kept}
 use Rattle.stream_base.specs.declared.kind.Kind.{Kind}
-use Rattle.stream_base.specs.Model.Changes.{Moment, row_of}
-use Rattle.stream_base.specs.Model.Windows.{interval, within}
+use Rattle.stream_base.specs.Model.Changes.{Moment}
+use Rattle.stream_base.specs.Model.Windows.{within}
 use Rattle.window_laws.specs.Late.{length_of, slide_of}
 use Rattle.window_laws.specs.Runs.{runs_within}
 use Rattle.window_laws.specs.Walk.{due_from, next_start_of}
 use Rattle.agg_store.specs.Stored.{Stored, tuples_of}
 use Rattle.time_lanes.specs.Lane.{Knows, Laned, fresh_to}
-use Rattle.time_lanes.specs.Spans.{last_end_of}
+use Rattle.interval_walks.specs.Spans.{last_end_of}
 
 -- a key's tuples and marks under a watermark
 abbrev pub moment : List Kept → List ℕ → ℕ → Moment
@@ -22,10 +19,6 @@ moment kept marks water = record { kept = kept; marks = marks; water = water }
 abbrev pub completed_starts : Kind → List Kept → ℕ → ℕ → List ℕ
 completed_starts kind kept old new =
     due_from (length_of kind) (slide_of kind) kept (next_start_of kind old) new
-
--- the interval of a length that starts so, told as new
-abbrev pub new_at : ℕ → List ℕ → Func → ℕ → List Kept → ℕ → Change
-new_at window key func length kept low = New (row_of window key func (interval low (low + length) kept))
 
 -- from where a lane has yet to take up slices
 abbrev pub taken_from : Kind → Laned → ℕ → ℕ

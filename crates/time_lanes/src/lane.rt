@@ -15,18 +15,15 @@ ghost use Rattle.agg_store.specs.Stored.{IsSliced, Stored, tuples_of};
 ghost use Rattle.time_lanes.specs.Lane.{IsAsBefore, IsSameUpTo, Knows, KnowsAll, fresh_partials, fresh_to};
 ghost use Rattle.time_lanes.specs.Late.{IsFound, IsLate, complete_holding, formers_of};
 ghost use Rattle.time_lanes.specs.Moves.{MayMove, completed_starts, moment, slices_between, slices_due, slices_in_last};
-ghost use Rattle.time_lanes.specs.Spans.{IsWater, IsWindowAt, is_served, last_end_of};
+ghost use Rattle.interval_walks.specs.Spans.{IsWater, IsWindowAt, is_served, last_end_of};
 
-use crate::due::{count_due, count_slices, tell_due};
-use crate::held::Held;
-use crate::late::{append_formers, append_late, complete_at};
-use crate::next::end_from;
-use crate::owner::Owner;
-use crate::served::{Served, serve, window_at};
-use crate::span::Span;
 use agg_laws::{AggQueue, Steps};
 use agg_store::AggStore;
 use aggregates::Bundle;
+use interval_walks::{
+    Held, Owner, Served, Span, append_formers, append_late, complete_at, count_due, count_slices,
+    end_from, serve, tell_due, window_at,
+};
 use std::alloc::Global;
 use std::marker::Model;
 use stream_base::{Change, Defs, Former, KeyText, NoMemory};

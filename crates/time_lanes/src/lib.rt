@@ -10,14 +10,7 @@
 //! 2021) over a queue that aggregates in order (Tangwongsan, Hirzel, Schneider, DEBS 2017).
 #![tactic(auto)]
 
-mod due;
-mod held;
 mod lane;
-mod late;
 pub mod laws;
-mod next;
-mod owner;
-mod served;
-mod span;
 
 pub use lane::Lane;

@@ -21,7 +21,7 @@ use Rattle.window_laws.specs.Due.{first_open}
 use Rattle.window_laws.specs.Counts as whole
 use Rattle.window_laws.proofs.NextFacts.{next_of_counts}
 use Rattle.count_shift.specs.Counting.{count_of, next_filled, upper}
-use Rattle.time_lanes.proofs.WalkFacts.{one_time_more}
+use Rattle.interval_walks.proofs.WalkFacts.{one_time_more}
 use Rattle.key_parts.specs.Calls.{window_at}
 use Rattle.key_parts.specs.Work.{change_work, row_work}
 use Rattle.time_parts.specs.Counted.{CountsAt}

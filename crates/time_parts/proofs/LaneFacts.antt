@@ -33,7 +33,8 @@ use Rattle.window_laws.proofs.Order.{nd_head, nd_tail}
 use Rattle.window_laws.proofs.SettledFacts.{all_member}
 use Rattle.agg_store.specs.Stored.{Stored, tuples_of}
 use Rattle.slice_runs.proofs.SliceEdits.{put_length}
-use Rattle.time_lanes.specs.Late.{IsLate, complete_holding, former_at, formers_of}
+use Rattle.interval_walks.specs.Told.{former_at}
+use Rattle.time_lanes.specs.Late.{IsLate, complete_holding, formers_of}
 use Rattle.time_lanes.specs.Moves.{moment}
 use Rattle.key_parts.specs.Calls.{window_at}
 use Rattle.key_parts.specs.Moves.{AreLists, Comes, IsPutStep, IsStored}

@@ -13,7 +13,7 @@ invariant_of-self g c =
     record {
       below = c.make_way-self-inside.ensures.below;
       from = subst (AreFrom edge) (sym c.insert.ensures.inserted) (from_inserted edge c.args.low c.args.partial near begins c.make_way-self-inside.ensures.from);
-      few = omega (arith, c.insert.ensures.reach, c.make_way-self-inside.ensures.few);
+      few = omega (arith, c.insert.ensures.count, c.make_way-self-inside.ensures.few);
     }
 
 pub invariant_of-self-else-is_near : goal.invariant_of-self-else-is_near

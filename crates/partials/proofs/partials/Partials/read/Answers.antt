@@ -1,19 +1,13 @@
--- The pair with the key is in the row, or its range in the tree has it alone.
-use Rattle.std.proofs.Common.{◌≡◌, ◌∙◌, Some, sym, arith}
+-- The pair with the key is in the tree where the key is below the edge, and else in the row.
+use Rattle.std.proofs.Common.{◌≡◌, ◌∙◌, Some, sym}
 use Rattle.partials.proofs.RowFacts.{absent_before, absent_behind, value_inside, value_near}
-use Rattle.partials.proofs.OnePair.{one_at_most, read_one}
 use Rattle.partials.proofs.partials.Partials.read.Goals as goal
 
 pub returns-then-low-self-clause-value : goal.returns-then-low-self-clause-value
 returns-then-low-self-clause-value g c =
     let s = c.self.inside in
-    let xs = g.T.AggTree.pairs s.tree in
     rw (← c.self.view_is)
-    (λ b v e. c.fold_range.ensures.value ∙ read_one c.args.low b xs c.fold_range.ensures.rising v (sym (value_inside c.args.low xs s.near.pairs (absent_before s.edge c.args.low s.near.pairs c.if-low-self.true c.self.invariant.from)) ∙ e))
-
-pub returns-then-low-self-clause-cost : goal.returns-then-low-self-clause-cost
-returns-then-low-self-clause-cost g c =
-    omega (arith, c.fold_range.ensures.one_each, one_at_most c.args.low (g.T.AggTree.pairs c.self.inside.tree) c.fold_range.ensures.rising)
+    (λ b v e. c.read_in.ensures.value b v (sym (value_inside c.args.low (g.T.AggTree.pairs s.tree) s.near.pairs (absent_before s.edge c.args.low s.near.pairs c.if-low-self.true c.self.invariant.from)) ∙ e))
 
 pub returns-else-low-self-clause-value : goal.returns-else-low-self-clause-value
 returns-else-low-self-clause-value g c =

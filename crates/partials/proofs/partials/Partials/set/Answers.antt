@@ -30,7 +30,7 @@ invariant_of-self-else-low-self g c =
     record {
       below = c.self.invariant.below;
       from = subst (AreFrom s.edge) (sym c.set-else-low-self.ensures.replaced) (from_replaced s.edge c.args.low c.args.partial s.near.pairs c.self.invariant.from);
-      few = omega (arith, c.self.invariant.few, c.set-else-low-self.ensures.reach);
+      few = omega (arith, c.self.invariant.few, c.set-else-low-self.ensures.count);
     }
 
 pub returns-then-low-self-clause-replaced : goal.returns-then-low-self-clause-replaced

@@ -4,7 +4,7 @@ use Rattle.stream_base.specs.declared.def.Def.{Def}
 use Rattle.agg_store.specs.Stored.{tuples_of}
 use Rattle.time_lanes.specs.Late.{IsFound, formers_of}
 use Rattle.time_lanes.proofs.LateFacts.{formers_told}
-use Rattle.time_lanes.proofs.ServedFacts.{same_window}
+use Rattle.interval_walks.proofs.ServedFacts.{same_window}
 use Rattle.time_lanes.proofs.lane.Lane.formers.Goals as goal
 
 pub returns-clause-formers : goal.returns-clause-formers

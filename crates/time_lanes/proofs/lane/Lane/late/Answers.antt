@@ -6,7 +6,7 @@ use Rattle.window_laws.specs.After.{with_tuple}
 use Rattle.time_lanes.specs.Late.{IsLate}
 use Rattle.time_lanes.specs.Moves.{moment}
 use Rattle.time_lanes.proofs.LateFacts.{lane_late}
-use Rattle.time_lanes.proofs.ServedFacts.{same_window, span_of_kind}
+use Rattle.interval_walks.proofs.ServedFacts.{same_window, span_of_kind}
 use Rattle.time_lanes.proofs.lane.Lane.late.Goals as goal
 
 pub returns-clause-changes : goal.returns-clause-changes

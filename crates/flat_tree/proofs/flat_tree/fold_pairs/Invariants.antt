@@ -1,9 +1,0 @@
--- The sum so far is that of the pairs so far behind the first sum, and each took one step.
-use Rattle.std.proofs.Common.{◌≡◌, ◌≤◌, ◌+◌, take}
-use Rattle.std.specs.Prelude.{fold}
-use Rattle.agg_laws.specs.Pairs.{values_of}
-use Rattle.flat_tree.proofs.flat_tree.fold_pairs.Given as goal
-
-abbrev pub invariant-loop-pair : goal.invariant-loop-pair
-invariant-loop-pair g l =
-    (l.sum ≡ fold g.M.Monoid.op l.initial.sum (values_of (take l.pair-index l.pairs))) × (l.steps ≤ l.initial.steps + l.pair-index)

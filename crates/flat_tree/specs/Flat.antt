@@ -1,7 +1,0 @@
--- What a sorted vector of pairs is in contracts.
-use Rattle.std.specs.Prelude.{ℕ, List}
-
--- its pairs, and for how many more there is room
-pub record Flat (M : Type 0) : Type 0 where
-  pub pairs : List (ℕ × M)
-  pub spare : ℕ

@@ -1,0 +1,7 @@
+pub mod Counts
+pub mod HeldFacts
+pub mod NextFacts
+pub mod Ranges
+pub mod ServedFacts
+pub mod ToldFacts
+pub mod WalkFacts

@@ -1,0 +1,111 @@
+-- The complete intervals that hold a time, one after another.
+use Rattle.std.proofs.Common.{◌≡◌, ◌∙◌, ℕ, zero, suc, ◌+◌, ◌-◌, ◌*◌, ◌/◌, ◌<◌, ◌≤◌, cond, Option, List, [], ◌∷◌, ◌++◌, length, get_or, map, ap, sym, refl, arith, inl, inr, append_assoc}
+use Rattle.std.specs.Prelude.{◌⊎◌, min, nat_le, nat_lt}
+use Rattle.std.specs.List.{filter, range_with_len}
+use Rattle.std.proofs.lemmas.Bool.{cases_lt, le-leb, le-ltb, lt-leb, lt-ltb}
+use Rattle.std.proofs.lemmas.List.{length-map, map-append}
+use Rattle.std.proofs.lemmas.List.FromFn.{map-range_with_len_more}
+use Rattle.std.proofs.lemmas.Nat.{le-div}
+use Rattle.std.proofs.Math.Nat.{div-mul-le_self}
+use Rattle.stream_base.specs.declared.change.Change.{Change}
+use Rattle.stream_base.specs.declared.former.Former.{Former}
+use Rattle.stream_base.proofs.Members.{filter_map_of, filter_same}
+use Rattle.interval_walks.specs.Told.{complete_starts, ended, starts_from, told_late}
+
+-- ---- their starts are multiples in a row
+upto : (b s k : ℕ) → filter (λ i. nat_lt i b) (range_with_len s k) ≡ range_with_len s (min k (b - s))
+upto b s zero = let e : 0 ≡ min 0 (b - s) = omega arith in ap (range_with_len s) e
+upto b s (suc k) = by (upto b (s + 1) k) (cases_lt s b)
+  where
+    by : filter (λ i. nat_lt i b) (range_with_len (s + 1) k) ≡ range_with_len (s + 1) (min k (b - (s + 1))) → (s < b) ⊎ (b ≤ s) → filter (λ i. nat_lt i b) (range_with_len s (suc k)) ≡ range_with_len s (min (suc k) (b - s))
+    by h (inl l) =
+        let e : suc (min k (b - (s + 1))) ≡ min (suc k) (b - s) = omega arith in
+        ap (λ t. cond t (s ∷ filter (λ i. nat_lt i b) (range_with_len (s + 1) k)) (filter (λ i. nat_lt i b) (range_with_len (s + 1) k))) (lt-ltb s b l)
+        ∙ ap (λ q. s ∷ q) h
+        ∙ ap (range_with_len s) e
+    by h (inr l) =
+        let e : min k (b - (s + 1)) ≡ 0 = omega arith in
+        let f : 0 ≡ min (suc k) (b - s) = omega arith in
+        ap (λ t. cond t (s ∷ filter (λ i. nat_lt i b) (range_with_len (s + 1) k)) (filter (λ i. nat_lt i b) (range_with_len (s + 1) k))) (le-ltb s b l)
+        ∙ h
+        ∙ ap (range_with_len (s + 1)) e
+        ∙ ap (range_with_len s) f
+
+times_mono : (a b c : ℕ) → a ≤ b → a * c ≤ b * c
+times_mono a b c h = grind arith
+
+has_ended : (length slide water k : ℕ) → 1 ≤ slide → nat_le (k * slide + length) water ≡ nat_lt k (ended length slide water)
+has_ended length slide water k moves = by (cases_lt water length)
+  where
+    by : (water < length) ⊎ (length ≤ water) → nat_le (k * slide + length) water ≡ nat_lt k (ended length slide water)
+    by (inl l) = lt-leb (k * slide + length) water (omega arith) ∙ sym (ap (λ b. nat_lt k (cond b 0 ((water - length) / slide + 1))) (lt-ltb water length l) ∙ le-ltb k 0 (omega arith))
+    by (inr l) = own (cases_lt k ((water - length) / slide + 1)) ∙ sym (ap (λ b. nat_lt k (cond b 0 ((water - length) / slide + 1))) (le-ltb water length l))
+      where
+        own : (k < (water - length) / slide + 1) ⊎ ((water - length) / slide + 1 ≤ k) → nat_le (k * slide + length) water ≡ nat_lt k ((water - length) / slide + 1)
+        own (inl m) =
+            let t : k * slide ≤ (water - length) / slide * slide = times_mono k ((water - length) / slide) slide (omega arith) in
+            le-leb (k * slide + length) water (omega (arith, div-mul-le_self (water - length) slide)) ∙ sym (lt-ltb k ((water - length) / slide + 1) m)
+        own (inr m) = lt-leb (k * slide + length) water (late (cases_lt water (k * slide + length))) ∙ sym (le-ltb k ((water - length) / slide + 1) m)
+          where
+            late : (water < k * slide + length) ⊎ (k * slide + length ≤ water) → water < k * slide + length
+            late (inl s) = s
+            late (inr s) = absurd (let q : k ≤ (water - length) / slide = le-div k (water - length) slide moves (omega arith) in omega arith)
+
+pub starts_are : (length slide time water : ℕ) → 1 ≤ slide
+    → complete_starts length slide time water ≡ starts_from slide ((time + slide - length) / slide) (min (time / slide + 1) (ended length slide water) - (time + slide - length) / slide)
+starts_are length slide time water moves =
+    let first : ℕ = (time + slide - length) / slide in
+    let e : min (time / slide + 1 - (time + slide - length) / slide) (ended length slide water - (time + slide - length) / slide) ≡ min (time / slide + 1) (ended length slide water) - (time + slide - length) / slide = omega arith in
+    filter_map_of (λ low. nat_le (low + length) water) (λ k. k * slide) (range_with_len ((time + slide - length) / slide) (time / slide + 1 - (time + slide - length) / slide))
+    ∙ ap (map (λ k. k * slide)) (filter_same (λ k. nat_le (k * slide + length) water) (λ k. nat_lt k (ended length slide water)) (range_with_len ((time + slide - length) / slide) (time / slide + 1 - (time + slide - length) / slide)) (λ k c. has_ended length slide water k moves))
+    ∙ ap (map (λ k. k * slide)) (upto (ended length slide water) ((time + slide - length) / slide) (time / slide + 1 - (time + slide - length) / slide))
+    ∙ ap (λ n. map (λ k. k * slide) (range_with_len ((time + slide - length) / slide) n)) e
+
+range_length : (a n : ℕ) → length (range_with_len a n) ≡ n
+range_length a zero = refl
+range_length a (suc n) = ap suc (range_length (a + 1) n)
+
+pub starts_length : (slide first count : ℕ) → length (starts_from slide first count) ≡ count
+starts_length slide first count = length-map (range_with_len first count) (λ k. k * slide) ∙ range_length first count
+
+pub starts_in_time : (slide first count time upper k : ℕ) → count ≡ min (time / slide + 1) upper - first → k < count → (first + k) * slide ≤ time
+starts_in_time slide first count time upper k e l =
+    let t : (first + k) * slide ≤ time / slide * slide = times_mono (first + k) (time / slide) slide (omega arith) in
+    omega (arith, div-mul-le_self time slide)
+
+-- one more
+pub starts_more : (slide first k low : ℕ) → low ≡ (first + k) * slide → starts_from slide first (k + 1) ≡ starts_from slide first k ++ low ∷ []
+starts_more slide first k low e = map-range_with_len_more (λ k. k * slide) first k (first + k) refl ∙ ap (λ l. starts_from slide first k ++ l ∷ []) (sym e)
+
+-- ---- told one after another
+pub former_more : (f : ℕ → Option Former) (before out pushed : List (Option Former)) (slide first k low : ℕ) (former : Option Former) → low ≡ (first + k) * slide → out ≡ before ++ map f (starts_from slide first k) → former ≡ f low → pushed ≡ out ++ former ∷ [] → pushed ≡ before ++ map f (starts_from slide first (k + 1))
+former_more f before out pushed slide first k low former e h is p =
+    p
+    ∙ (λ i. h i ++ is i ∷ [])
+    ∙ append_assoc before (map f (starts_from slide first k)) (f low ∷ [])
+    ∙ ap (λ l. before ++ l) (sym (ap (map f) (starts_more slide first k low e) ∙ map-append f (starts_from slide first k) (low ∷ [])))
+
+told_push : (told : ℕ → Option Former → Change) (lows : List ℕ) (low : ℕ) (formers : List (Option Former)) (d : Option Former) → length lows < length formers → told_late told (lows ++ low ∷ []) formers ≡ told_late told lows formers ++ told low (get_or formers (length lows) d) ∷ []
+told_push told [] low [] d h = absurd (omega arith)
+told_push told [] low (f ∷ formers) d h = refl
+told_push told (l ∷ lows) low [] d h = absurd (omega arith)
+told_push told (l ∷ lows) low (f ∷ formers) d h = ap (λ q. told l f ∷ q) (told_push told lows low formers d (omega arith))
+
+pub late_more : (told : ℕ → Option Former → Change) (before out pushed : List Change) (slide first k low : ℕ) (formers : List (Option Former)) (former d : Option Former) (change : Change) → low ≡ (first + k) * slide → k < length formers → out ≡ before ++ told_late told (starts_from slide first k) formers → former ≡ get_or formers k d → change ≡ told low former → pushed ≡ out ++ change ∷ [] → pushed ≡ before ++ told_late told (starts_from slide first (k + 1)) formers
+late_more told before out pushed slide first k low formers former d change e l h g is p =
+    let n : length (starts_from slide first k) ≡ k = starts_length slide first k in
+    p
+    ∙ (λ i. h i ++ (is ∙ ap (told low) (g ∙ ap (λ j. get_or formers j d) (sym n))) i ∷ [])
+    ∙ append_assoc before (told_late told (starts_from slide first k) formers) (told low (get_or formers (length (starts_from slide first k)) d) ∷ [])
+    ∙ ap (λ q. before ++ q) (sym (ap (λ s. told_late told s formers) (starts_more slide first k low e) ∙ told_push told (starts_from slide first k) low formers d (omega (arith, n))))
+
+pub none_told : (told : ℕ → Option Former → Change) (before : List Change) (formers : List (Option Former)) → before ≡ before ++ told_late told [] formers
+none_told told [] formers = refl
+none_told told (c ∷ before) formers = ap (λ l. c ∷ l) (none_told told before formers)
+
+-- ---- numbers
+pub at_most_times : (n s : ℕ) → 1 ≤ s → n ≤ n * s
+at_most_times n s h = grind arith
+
+pub one_more_time : (a k : ℕ) → a * (k + 1) ≡ a * k + a
+one_more_time a k = grind arith

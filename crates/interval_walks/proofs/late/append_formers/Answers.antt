@@ -1,0 +1,24 @@
+-- One interval more is told.
+use Rattle.std.proofs.Common.{◌∙◌, ◌+◌, ◌*◌, arith, refl}
+use Rattle.agg_store.specs.Stored.{tuples_of}
+use Rattle.interval_walks.specs.Told.{former_at}
+use Rattle.interval_walks.proofs.ToldFacts.{at_most_times, former_more, one_more_time}
+use Rattle.interval_walks.proofs.late.append_formers.Goals as goal
+
+pub overflow_add-low : goal.overflow_add-low
+overflow_add-low g c =
+    omega (arith, c.requires.early c.loop-k.k c.loop-k-test.true, at_most_times (c.args.complete.first + c.loop-k.k) c.args.span.now.slide c.args.span.now.within.moves)
+
+pub loop-k-preserved : goal.loop-k-preserved
+loop-k-preserved g c =
+    let slide = c.args.span.now.slide in
+    let tuples = tuples_of (g.S.AggStore.stored c.args.store.now) in
+    let low = (c.args.complete.first + c.loop-k.k) * slide in
+    let h = c.loop-k.invariant in
+    record {
+      told = λ few.
+          former_more (former_at c.args.func c.args.span.now.length tuples) c.args.into.now.items c.loop-k.into.items c.push_reserved.new.self.items slide c.args.complete.first c.loop-k.k low c.former.result refl (h.told few) (c.former.ensures tuples low (low + c.args.span.now.length) c.fold_interval-folded.ensures.value few) c.push_reserved.ensures.items;
+      number = omega (arith, c.push_reserved.ensures.len, h.number);
+      capacity = c.push_reserved.ensures.capacity ∙ h.capacity;
+      cost = omega (arith, c.fold_interval-folded.ensures.cost, h.cost, one_more_time (64 * ((g.S.AggStore.stored c.args.store.now).reach + 2)) c.loop-k.k);
+    }

@@ -1,0 +1,55 @@
+-- The slices that a lane holds, and the next ones of a store.
+use Rattle.std.specs.Prelude.{◌≡◌, ◌≤◌, ◌<◌, ◌+◌, ◌*◌, ◌⊎◌, ℕ, List, [], ◌∷◌, map, max, All}
+use Rattle.stream_base.specs.declared.kept.Kept.{Kept}
+use Rattle.stream_base.specs.declared.limits.TheConstants.{FINAL, TIME_MAX}
+use Rattle.stream_base.specs.Model.Windows.{within}
+use Rattle.aggregates.specs.Bundled.{Bundled, bundle_of}
+use Rattle.window_laws.specs.Runs.{IsAligned, runs_within}
+use Rattle.window_laws.specs.Walk.{IsFirstFrom, due_from, next_start}
+use Rattle.slice_runs.specs.declared.slice.Slice.{Slice}
+use Rattle.slice_runs.specs.Slices.{joined, slice_of, values_of}
+use Rattle.agg_store.specs.Stored.{Stored, tuples_of}
+
+-- the partials of slices
+abbrev pub partials_of : List (List Kept) → List Bundled
+partials_of runs = map (λ run. bundle_of (values_of run)) runs
+
+-- the partials of slices in a row, up to where, for how many more there is room, and what is left of the steps that were paid for
+pub record Holding : Type 0 where
+  pub partials : List Bundled
+  pub to : ℕ
+  pub spare : ℕ
+  pub credit : ℕ
+
+-- it holds exactly the slices from a time on, up to where it goes
+abbrev pub HoldsFrom : ℕ → Stored → Holding → Type 0
+HoldsFrom from s h = h.partials ≡ partials_of (runs_within from h.to s.slices)
+
+-- the slice is the first that begins in an interval, and the others begin behind its last time
+pub record IsNextIn (slices : List (List Kept)) (from to : ℕ) (slice : Slice) : Type 0 where
+  pub run : List Kept
+  pub shows : slice ≡ slice_of run
+  pub first : runs_within from to slices ≡ run ∷ runs_within (slice.high + 1) to slices
+  pub alone : runs_within slice.low (slice.high + 1) slices ≡ run ∷ []
+  pub tuples : within slice.low (slice.high + 1) (joined slices) ≡ run
+  pub after : from ≤ slice.low
+  pub before : slice.low < to
+  pub ordered : slice.low ≤ slice.high
+  pub time : slice.high ≤ TIME_MAX
+  pub low : IsAligned slices slice.low
+  pub high : IsAligned slices (slice.high + 1)
+
+-- the next interval that is due starts so: no slice begins between, and the rest is due from the start behind it
+pub record IsNextDue (length slide : ℕ) (s : Stored) (from new low : ℕ) : Type 0 where
+  pub multiple : (k : ℕ) × (low ≡ k * slide)
+  pub onward : from ≤ low
+  pub ends : low + length ≤ new
+  pub due : due_from length slide (tuples_of s) from new
+      ≡ low ∷ due_from length slide (tuples_of s) (low + slide) new
+  pub none_between : runs_within from low s.slices ≡ []
+
+-- the end of the first interval from a start on that holds a tuple, and the final time where there is none
+abbrev pub IsEndFrom : ℕ → ℕ → List Kept → ℕ → ℕ → Type 0
+IsEndFrom length slide kept from end =
+    ((x : Kept) × IsFirstFrom kept from x × (end ≡ max from (next_start length slide x.time) + length))
+    ⊎ (All (λ x. x.time < from) kept × (end ≡ FINAL))

@@ -1,0 +1,149 @@
+//! The walk over the intervals that a move of the watermark completes.
+ghost use Rattle.std.specs.Prelude.{◌≡◌, ◌≤◌, ◌<◌, ◌+◌, ◌-◌, ◌*◌, ◌^◌, ◌++◌, ◌∷◌, ℕ, [], length, map, max, vec_len, vec_capacity};
+ghost use Rattle.stream_base.specs.declared.limits.TheConstants.{FINAL};
+ghost use Rattle.window_laws.specs.Runs.{runs_within};
+ghost use Rattle.window_laws.specs.Walk.{due_from, next_start};
+ghost use Rattle.agg_store.specs.Stored.{tuples_of};
+ghost use Rattle.interval_walks.specs.Held.{HoldsFrom};
+ghost use Rattle.interval_walks.specs.Told.{new_at};
+ghost use Rattle.interval_walks.specs.Spans.{ArePartedAt, last_end};
+
+use crate::held::Held;
+use crate::next::{next_due, next_slice};
+use crate::owner::Owner;
+use crate::span::Span;
+use agg_laws::{AggQueue, Steps};
+use agg_store::AggStore;
+use aggregates::Bundle;
+use stream_base::Change;
+
+/// Tells the intervals that are due from a start on, one after another. Answers from where on the
+/// slices are held then.
+pub fn tell_due<Q: AggQueue<Bundle>, S: AggStore, L>(
+    held: &mut Held<Q>,
+    owner: Owner,
+    span: &Span,
+    store: &S,
+    from: u64,
+    new: u64,
+    out: &mut Vec<Change>,
+    steps: &mut Steps<L>,
+) -> u64
+    requires parted { ArePartedAt span.now.length span.now.slide (S.stored store.now).slices }
+    requires multiple { (k : ℕ) × (from ≡ k * span.now.slide) }
+    requires early { from ≤ FINAL }
+    requires new { new ≤ FINAL }
+    requires room { length (runs_within (max from (held.old).to)
+        (last_end span.now.length span.now.slide new) (S.stored store.now).slices)
+        ≤ (held.old).spare }
+    requires spare { length
+        (due_from span.now.length span.now.slide (tuples_of (S.stored store.now)) from new)
+        ≤ vec_capacity out.old - vec_len out.old }
+    ensures told { HoldsFrom from (S.stored store.now) held.old
+        → (held.old).to ≤ from + span.now.length
+        → length (tuples_of (S.stored store.now)) < 2 ^ 64 → out.new.items ≡ out.old.items
+        ++ map (new_at owner.entry.window owner.entry.key.now owner.entry.func span.now.length
+        (tuples_of (S.stored store.now)))
+        (due_from span.now.length span.now.slide (tuples_of (S.stored store.now)) from new) }
+    ensures held { HoldsFrom from (S.stored store.now) held.old
+        → HoldsFrom result (S.stored store.now) held.new }
+    ensures onward { from ≤ result }
+    ensures within { result ≤ max from (next_start span.now.length span.now.slide new) }
+    ensures to { (held.new).to
+        ≤ max (held.old).to (last_end span.now.length span.now.slide new) }
+    ensures number { vec_len out.new ≡ vec_len out.old
+        + length (due_from span.now.length span.now.slide (tuples_of (S.stored store.now))
+        from new) }
+    ensures capacity { vec_capacity out.new ≡ vec_capacity out.old }
+    ensures room { (held.old).spare + length (runs_within (max result (held.new).to)
+        (last_end span.now.length span.now.slide new) (S.stored store.now).slices)
+        ≤ (held.new).spare + length (runs_within (max from (held.old).to)
+        (last_end span.now.length span.now.slide new) (S.stored store.now).slices) }
+    ensures cost { steps.new + (held.new).credit + 10 * length
+        (runs_within (max result (held.new).to)
+        (last_end span.now.length span.now.slide new) (S.stored store.now).slices)
+        ≤ steps.old + (held.old).credit + 10 * length (runs_within (max from (held.old).to)
+        (last_end span.now.length span.now.slide new) (S.stored store.now).slices)
+        + length (due_from span.now.length span.now.slide (tuples_of (S.stored store.now))
+        from new) }
+{
+    let _count = store.slice_count();
+    let mut start = from;
+    while let Some(low) = next_due(store, span, start, new) {
+        tell_one(held, owner, span, store, low, out, steps);
+        start = low + span.slide;
+    }
+    start
+}
+
+// Tells the interval that starts so, and lets the slices go that the next one doesn't need.
+fn tell_one<Q: AggQueue<Bundle>, S: AggStore, L>(
+    held: &mut Held<Q>,
+    owner: Owner,
+    span: &Span,
+    store: &S,
+    low: u64,
+    out: &mut Vec<Change>,
+    steps: &mut Steps<L>,
+)
+    requires parted { ArePartedAt span.now.length span.now.slide (S.stored store.now).slices }
+    requires multiple { (k : ℕ) × (low ≡ k * span.now.slide) }
+    requires end { low + span.now.length ≤ FINAL }
+    requires room { length (runs_within (max low (held.old).to) (low + span.now.length)
+        (S.stored store.now).slices) ≤ (held.old).spare }
+    requires spare { 1 ≤ vec_capacity out.old - vec_len out.old }
+    ensures told { HoldsFrom low (S.stored store.now) held.old
+        → (held.old).to ≤ low + span.now.length
+        → length (tuples_of (S.stored store.now)) < 2 ^ 64 → out.new.items ≡ out.old.items
+        ++ new_at owner.entry.window owner.entry.key.now owner.entry.func span.now.length
+        (tuples_of (S.stored store.now)) low ∷ [] }
+    ensures held { HoldsFrom low (S.stored store.now) held.old
+        → HoldsFrom (low + span.now.slide) (S.stored store.now) held.new }
+    ensures to { (held.new).to ≡ max (held.old).to (low + span.now.length) }
+    ensures number { vec_len out.new ≡ vec_len out.old + 1 }
+    ensures capacity { vec_capacity out.new ≡ vec_capacity out.old }
+    ensures room { (held.old).spare ≤ (held.new).spare + length
+        (runs_within (max low (held.old).to) (low + span.now.length) (S.stored store.now).slices) }
+    ensures cost { steps.new + (held.new).credit ≤ steps.old + (held.old).credit + 10 * length
+        (runs_within (max low (held.old).to) (low + span.now.length)
+        (S.stored store.now).slices) + 1 }
+{
+    let _count = store.slice_count();
+    let end = low + span.length;
+    held.pull(store, low, end, steps);
+    let bundle = held.fold(steps);
+    out.push_reserved(Change::New(owner.row(low, end, &bundle)));
+    held.shed(store, low, low + span.slide, steps);
+}
+
+/// How many intervals are due from a start on.
+pub fn count_due<S: AggStore>(store: &S, span: &Span, from: u64, new: u64) -> u64
+    requires parted { ArePartedAt span.now.length span.now.slide (S.stored store.now).slices }
+    requires multiple { (k : ℕ) × (from ≡ k * span.now.slide) }
+    requires early { from ≤ FINAL }
+    requires new { new ≤ FINAL }
+    ensures { result
+        ≡ length (due_from span.now.length span.now.slide (tuples_of (S.stored store.now))
+        from new) }
+{
+    let mut count = 0;
+    let mut start = from;
+    while let Some(low) = next_due(store, span, start, new) {
+        count += 1;
+        start = low + span.slide;
+    }
+    count
+}
+
+/// How many slices begin in an interval.
+pub fn count_slices<S: AggStore>(store: &S, from: u64, to: u64) -> u64
+    ensures { result ≡ length (runs_within from to (S.stored store.now).slices) }
+{
+    let mut count = 0;
+    let mut at = from;
+    while let Some(slice) = next_slice(store, at, to) {
+        count += 1;
+        at = slice.high + 1;
+    }
+    count
+}

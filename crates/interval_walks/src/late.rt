@@ -1,0 +1,134 @@
+//! The complete intervals that hold a time: what stood of them, and what a late tuple changes.
+ghost use Rattle.std.specs.Prelude.{◌≡◌, ◌≤◌, ◌<◌, ◌+◌, ◌-◌, ◌*◌, ◌/◌, ◌^◌, ◌++◌, ℕ, length, map, vec_len, vec_capacity};
+ghost use Rattle.stream_base.specs.declared.limits.TheConstants.{FINAL, TIME_MAX};
+ghost use Rattle.stream_base.specs.Model.Windows.{within};
+ghost use Rattle.aggregates.specs.Bundled.{bundle_of};
+ghost use Rattle.slice_runs.specs.Slices.{values_of};
+ghost use Rattle.agg_store.specs.Stored.{tuples_of};
+ghost use Rattle.interval_walks.specs.Told.{again_or_new, complete_starts, ended, former_at, starts_from, told_at, told_late};
+ghost use Rattle.interval_walks.specs.Spans.{ArePartedAt};
+
+use crate::owner::{Owner, former};
+use crate::span::Span;
+use agg_laws::Steps;
+use agg_store::AggStore;
+use aggregates::Bundle;
+use stream_base::{Change, Former, Func, Row};
+
+/// The complete intervals that hold a time: the number of the first, and how many there are.
+#[derive(Clone, Copy)]
+pub struct Complete {
+    pub first: u64,
+    pub count: u64,
+}
+
+pub fn complete_at(span: &Span, time: u64, water: u64) -> Complete
+    requires time { time ≤ TIME_MAX }
+    requires water { water ≤ FINAL }
+    ensures starts { complete_starts span.now.length span.now.slide time water
+        ≡ starts_from span.now.slide result.first result.count }
+    ensures number { result.count
+        ≡ length (complete_starts span.now.length span.now.slide time water) }
+    ensures within { (k : ℕ) → k < result.count
+        → (result.first + k) * span.now.slide ≤ time }
+{
+    let first = (time + span.slide).saturating_sub(span.length) / span.slide;
+    let holding = time / span.slide + 1;
+    Complete {
+        first,
+        count: holding.min(ended(span, water)).saturating_sub(first),
+    }
+}
+
+// How many intervals end at or before a watermark.
+fn ended(span: &Span, water: u64) -> u64
+    requires { water ≤ FINAL }
+    ensures { result ≡ ended span.now.length span.now.slide water }
+{
+    if water < span.length {
+        0
+    } else {
+        (water - span.length) / span.slide + 1
+    }
+}
+
+/// Appends what stood of each.
+pub fn append_formers<S: AggStore, L>(
+    func: Func,
+    span: &Span,
+    store: &S,
+    complete: Complete,
+    into: &mut Vec<Option<Former>>,
+    steps: &mut Steps<L>,
+)
+    requires parted { ArePartedAt span.now.length span.now.slide (S.stored store.now).slices }
+    requires early { (k : ℕ) → k < complete.count
+        → (complete.first + k) * span.now.slide ≤ TIME_MAX }
+    requires spare { complete.count ≤ vec_capacity into.old - vec_len into.old }
+    ensures told { length (tuples_of (S.stored store.now)) < 2 ^ 64
+        → into.new.items ≡ into.old.items
+        ++ map (former_at func span.now.length (tuples_of (S.stored store.now)))
+        (starts_from span.now.slide complete.first complete.count) }
+    ensures number { vec_len into.new ≡ vec_len into.old + complete.count }
+    ensures capacity { vec_capacity into.new ≡ vec_capacity into.old }
+    ensures cost { steps.new ≤ steps.old + 64 * ((S.stored store.now).reach + 2) * complete.count }
+{
+    for k in 0..complete.count {
+        let low = (complete.first + k) * span.slide;
+        let folded = fold_interval(span, store, low, steps);
+        into.push_reserved(former(func, &folded));
+    }
+}
+
+/// Appends each as it shows now, with what stood of it before.
+pub fn append_late<S: AggStore, L>(
+    owner: Owner,
+    span: &Span,
+    store: &S,
+    complete: Complete,
+    formers: &[Option<Former>],
+    out: &mut Vec<Change>,
+    steps: &mut Steps<L>,
+)
+    requires parted { ArePartedAt span.now.length span.now.slide (S.stored store.now).slices }
+    requires early { (k : ℕ) → k < complete.count
+        → (complete.first + k) * span.now.slide ≤ TIME_MAX }
+    requires formers { complete.count ≤ length formers.now }
+    requires spare { complete.count ≤ vec_capacity out.old - vec_len out.old }
+    ensures told { length (tuples_of (S.stored store.now)) < 2 ^ 64 → out.new.items ≡ out.old.items
+        ++ told_late (told_at owner.entry.window owner.entry.key.now owner.entry.func
+        span.now.length (tuples_of (S.stored store.now)))
+        (starts_from span.now.slide complete.first complete.count) formers.now }
+    ensures number { vec_len out.new ≡ vec_len out.old + complete.count }
+    ensures capacity { vec_capacity out.new ≡ vec_capacity out.old }
+    ensures cost { steps.new ≤ steps.old + 64 * ((S.stored store.now).reach + 2) * complete.count }
+{
+    for k in 0..complete.count {
+        let low = (complete.first + k) * span.slide;
+        let folded = fold_interval(span, store, low, steps);
+        let row = owner.row(low, low + span.length, &folded);
+        out.push_reserved(told(row, formers[k as usize]));
+    }
+}
+
+// The fold of the interval that starts so.
+fn fold_interval<S: AggStore, L>(span: &Span, store: &S, low: u64, steps: &mut Steps<L>) -> Bundle
+    requires parted { ArePartedAt span.now.length span.now.slide (S.stored store.now).slices }
+    requires multiple { (k : ℕ) × (low ≡ k * span.now.slide) }
+    requires early { low ≤ TIME_MAX }
+    ensures value { result ≡ bundle_of
+        (values_of (within low (low + span.now.length) (tuples_of (S.stored store.now)))) }
+    ensures cost { steps.new ≤ steps.old + 64 * ((S.stored store.now).reach + 2) }
+{
+    store.fold(low, low + span.length, steps)
+}
+
+// The change of an interval that holds a late tuple.
+fn told(row: Row, former: Option<Former>) -> Change
+    ensures { result ≡ again_or_new former row }
+{
+    match former {
+        Some(former) => Change::Again { row, former },
+        None => Change::New(row),
+    }
+}

@@ -1,0 +1,56 @@
+//! The next slice of a store, and the next interval that is due.
+ghost use Rattle.std.specs.Prelude.{◌≡◌, ◌≤◌, ◌+◌, ◌*◌, ℕ, [], IfSome, IfNone, length};
+ghost use Rattle.stream_base.specs.declared.limits.TheConstants.{FINAL};
+ghost use Rattle.window_laws.specs.Runs.{runs_within};
+ghost use Rattle.window_laws.specs.Walk.{due_from};
+ghost use Rattle.agg_store.specs.Stored.{tuples_of};
+ghost use Rattle.interval_walks.specs.Held.{IsEndFrom, IsNextDue, IsNextIn};
+ghost use Rattle.interval_walks.specs.Spans.{ArePartedAt};
+
+use crate::span::Span;
+use agg_store::AggStore;
+use slice_runs::Slice;
+use stream_base::FINAL;
+
+/// The first slice that begins in an interval.
+pub fn next_slice<S: AggStore>(store: &S, from: u64, to: u64) -> Option<Slice>
+    ensures some { IfSome result (λ slice. IsNextIn (S.stored store.now).slices from to slice) }
+    ensures none { IfNone result (runs_within from to (S.stored store.now).slices ≡ []) }
+{
+    let slice = store.slice_from(from)?;
+    if slice.low < to { Some(slice) } else { None }
+}
+
+/// The start of the next interval that is due.
+pub fn next_due<S: AggStore>(store: &S, span: &Span, from: u64, new: u64) -> Option<u64>
+    requires parted { ArePartedAt span.now.length span.now.slide (S.stored store.now).slices }
+    requires multiple { (k : ℕ) × (from ≡ k * span.now.slide) }
+    requires early { from ≤ FINAL }
+    requires new { new ≤ FINAL }
+    ensures some { IfSome result
+        (λ low. IsNextDue span.now.length span.now.slide (S.stored store.now) from new low) }
+    ensures none { IfNone result
+        (due_from span.now.length span.now.slide (tuples_of (S.stored store.now)) from new ≡ []) }
+{
+    let slice = store.slice_from(from)?;
+    let low = from.max(span.next_start(slice.low));
+    if low + span.length <= new {
+        Some(low)
+    } else {
+        None
+    }
+}
+
+/// The end of the first interval from a start on that holds a tuple.
+pub fn end_from<S: AggStore>(store: &S, span: &Span, from: u64) -> u64
+    requires parted { ArePartedAt span.now.length span.now.slide (S.stored store.now).slices }
+    requires multiple { (k : ℕ) × (from ≡ k * span.now.slide) }
+    requires early { from ≤ FINAL }
+    ensures { IsEndFrom span.now.length span.now.slide (tuples_of (S.stored store.now)) from
+        result }
+{
+    match store.slice_from(from) {
+        Some(slice) => span.next_start(slice.low).max(from) + span.length,
+        None => FINAL,
+    }
+}

@@ -1,0 +1,40 @@
+-- The list falls apart around the pair that is taken out.
+use Rattle.std.proofs.Common.{◌≡◌, None, false, subst, sym, ◌∙◌, rules}
+use Rattle.agg_laws.specs.Pairs.{AreRising, StandsAt, has_key}
+use Rattle.pair_row.proofs.Places.{found_value, found_without}
+use Rattle.agg_laws.proofs.RisingPairs.{rising-without, value_at-absent, without-absent}
+use Rattle.pair_row.proofs.pair_row.PairRow.remove.Goals as goal
+
+pub invariant_of-self : goal.invariant_of-self
+invariant_of-self g c =
+    let pairs = c.self.inside.pairs.items in
+    let stands : StandsAt c.args.key c.in_ok-at.at pairs = subst (StandsAt c.args.key c.in_ok-at.at) c.as_slice.ensures c.in_ok-at.ensures.found in
+    let rest = found_without c.args.key c.in_ok-at.at pairs c.remove.result c.self.invariant stands c.remove.ensures.value in
+    subst AreRising (rest ∙ sym c.remove.ensures.items) (rising-without c.args.key pairs c.self.invariant)
+
+pub returns-clause-rising : goal.returns-clause-rising
+returns-clause-rising g c = invariant_of-self g c
+
+pub returns-clause-value : goal.returns-clause-value
+returns-clause-value g c =
+    let pairs = c.self.inside.pairs.items in
+    let stands : StandsAt c.args.key c.in_ok-at.at pairs = subst (StandsAt c.args.key c.in_ok-at.at) c.as_slice.ensures c.in_ok-at.ensures.found in
+    rw (← c.self.view_is) (sym (found_value c.args.key c.in_ok-at.at pairs c.remove.result c.self.invariant stands c.remove.ensures.value))
+
+pub returns-clause-rest : goal.returns-clause-rest
+returns-clause-rest g c =
+    let pairs = c.self.inside.pairs.items in
+    let stands : StandsAt c.args.key c.in_ok-at.at pairs = subst (StandsAt c.args.key c.in_ok-at.at) c.as_slice.ensures c.in_ok-at.ensures.found in
+    let rest = found_without c.args.key c.in_ok-at.at pairs c.remove.result c.self.invariant stands c.remove.ensures.value in
+    rw (← c.self.view_is) (c.remove.ensures.items ∙ sym rest)
+
+pub returns-in_err-at-clause-value : goal.returns-in_err-at-clause-value
+returns-in_err-at-clause-value g c =
+    let absent : has_key c.args.key c.args.self.now.pairs ≡ false = search rules in
+    let none : c.from_residual.result ≡ None = search rules in
+    none ∙ sym (value_at-absent c.args.key c.args.self.now.pairs absent)
+
+pub returns-in_err-at-clause-rest : goal.returns-in_err-at-clause-rest
+returns-in_err-at-clause-rest g c =
+    let absent : has_key c.args.key c.args.self.now.pairs ≡ false = search rules in
+    sym (without-absent c.args.key c.args.self.now.pairs absent)
