@@ -2,19 +2,16 @@
 //! and at the least session gap, with a partial aggregate for each slice.
 //!
 //! *From* tuples and marks in any order of time, *to* folds of ranges that all windows of the key
-//! share. *Stands on* `slice_runs` for the tuples, parted into slices, and on `partials` for what each
-//! slice comes to; general over the tree that keeps the partials. *Promise*: the slices are exactly
-//! the runs of the tuples with no cut between neighbours, after each tuple that comes late, joins two
-//! slices or splits none, each mark and each purge; a fold of a range is that of its tuples in event
-//! order; and the work is counted. The source is general stream slicing (Traub et al., Scotty, TODS
-//! 2021).
+//! share. *Stands on* `agg_store` for what windows ask of it, on `slice_runs` for the tuples, parted
+//! into slices, on `partials` for what each slice comes to, and on `slice_partials` for how that
+//! follows the slices; general over the tree that keeps the partials. *Promise*: the slices are
+//! exactly the runs of the tuples with no cut between neighbours, after each tuple that comes late,
+//! joins two slices or splits none, each mark and each purge; a fold of a range is that of its tuples
+//! in event order; and the work is counted. The source is general stream slicing (Traub et al.,
+//! Scotty, TODS 2021).
 #![tactic(auto)]
 
-mod entering;
-mod leaving;
-mod lifting;
 mod placed;
-mod splitting;
 mod store;
 
 pub use placed::Placed;

@@ -17,14 +17,12 @@ ghost use Rattle.agg_store.specs.Entered.{IsPut, slices_near};
 ghost use Rattle.agg_store.specs.Stored.{IsAsBefore, IsSliced, IsStore, tuples_of};
 ghost use Rattle.slice_store.specs.Placing.{is_last, placed_in};
 
-use crate::entering::enter;
-use crate::leaving::take_first;
 use crate::placed::Placed;
-use crate::splitting::split;
 use agg_laws::{AggTree, Steps};
 use agg_store::AggStore;
 use aggregates::Bundle;
 use partials::Partials;
+use slice_partials::{enter, split, take_first};
 use slice_runs::{Runs, Slice, add_mark, first_entered, keep_last, last_entered};
 use std::alloc::Global;
 use std::marker::Model;

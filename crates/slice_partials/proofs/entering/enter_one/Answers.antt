@@ -2,7 +2,7 @@
 use Rattle.std.proofs.Common.{◌<◌, ap, arith, length}
 use Rattle.slice_runs.specs.declared.slice.Slice.{Slice}
 use Rattle.slice_runs.proofs.SliceParts.{slice_ends}
-use Rattle.slice_store.proofs.entering.enter_one.Goals as goal
+use Rattle.slice_partials.proofs.entering.enter_one.Goals as goal
 
 pub returns-else-x-slice-clause-in_order : goal.returns-else-x-slice-clause-in_order
 returns-else-x-slice-clause-in_order g c = λ h.

@@ -1,6 +1,6 @@
 -- By how many slices the tuple enters.
-use Rattle.slice_store.proofs.EnterFacts.{can_alone, can_one, can_two}
-use Rattle.slice_store.proofs.entering.enter.Goals as goal
+use Rattle.slice_partials.proofs.EnterFacts.{can_alone, can_one, can_two}
+use Rattle.slice_partials.proofs.entering.enter.Goals as goal
 
 pub add-requires-clause-can : goal.add-requires-clause-can
 add-requires-clause-can g c = can_alone c.args.from c.args.to c.args.x c.args.runs.now c.requires.can c.if-count-eq0.true

@@ -8,8 +8,8 @@ use Rattle.slice_runs.specs.declared.slice.Slice.{Slice}
 use Rattle.slice_runs.specs.Slices.{values_of}
 use Rattle.agg_store.specs.Stored.{partial_of}
 use Rattle.slice_runs.proofs.SliceFacts.{entered_there, refolded_length}
-use Rattle.slice_store.proofs.PartialFacts.{partial_there, refolded_there}
-use Rattle.slice_store.proofs.entering.refold.Goals as goal
+use Rattle.slice_partials.proofs.PartialFacts.{partial_there, refolded_there}
+use Rattle.slice_partials.proofs.entering.refold.Goals as goal
 
 pub set-requires : goal.set-requires
 set-requires g c =

@@ -1,7 +1,7 @@
 -- What is folded so far are the tuples so far, each of which took a step.
 use Rattle.std.proofs.Common.{◌≡◌, ◌≤◌, ◌+◌, take}
-use Rattle.slice_store.proofs.Folding.{folded_run}
-use Rattle.slice_store.proofs.lifting.folded.Given as goal
+use Rattle.slice_partials.proofs.Folding.{folded_run}
+use Rattle.slice_partials.proofs.lifting.folded.Given as goal
 
 abbrev pub invariant-loop-x : goal.invariant-loop-x
 invariant-loop-x g l = record {

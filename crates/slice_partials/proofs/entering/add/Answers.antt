@@ -2,8 +2,8 @@
 use Rattle.std.proofs.Common.{◌∙◌, ap, sym, map, refl}
 use Rattle.agg_laws.specs.Pairs.{has_key, inserted}
 use Rattle.agg_store.specs.Stored.{partial_of}
-use Rattle.slice_store.proofs.PartialFacts.{alone_absent, alone_there}
-use Rattle.slice_store.proofs.entering.add.Goals as goal
+use Rattle.slice_partials.proofs.PartialFacts.{alone_absent, alone_there}
+use Rattle.slice_partials.proofs.entering.add.Goals as goal
 
 pub insert-requires-clause-absent : goal.insert-requires-clause-absent
 insert-requires-clause-absent g c =

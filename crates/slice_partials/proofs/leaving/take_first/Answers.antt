@@ -2,8 +2,8 @@
 use Rattle.std.proofs.Common.{◌∙◌, ◌<◌, ap, arith, length}
 use Rattle.agg_laws.specs.Pairs.{without}
 use Rattle.slice_runs.specs.declared.slice.Slice.{Slice}
-use Rattle.slice_store.proofs.LeavePartials.{first_leaves, one_more}
-use Rattle.slice_store.proofs.leaving.take_first.Goals as goal
+use Rattle.slice_partials.proofs.LeavePartials.{first_leaves, one_more}
+use Rattle.slice_partials.proofs.leaving.take_first.Goals as goal
 
 pub loop-at-preserved : goal.loop-at-preserved
 loop-at-preserved g c =

@@ -11,9 +11,9 @@ use Rattle.slice_runs.specs.declared.slice.Slice.{Slice}
 use Rattle.slice_runs.specs.Slices.{slice_of, split_at, values_of}
 use Rattle.agg_store.specs.Stored.{partial_of}
 use Rattle.slice_runs.proofs.MarkFacts.{parts_length, split_first, split_longer, split_second}
-use Rattle.slice_store.proofs.SplitPartials.{split_absent, split_there}
-use Rattle.slice_store.proofs.PartialFacts.{partial_there}
-use Rattle.slice_store.proofs.splitting.split.Goals as goal
+use Rattle.slice_partials.proofs.SplitPartials.{split_absent, split_there}
+use Rattle.slice_partials.proofs.PartialFacts.{partial_there}
+use Rattle.slice_partials.proofs.splitting.split.Goals as goal
 
 pub slice-next-requires : goal.slice-next-requires
 slice-next-requires g c =

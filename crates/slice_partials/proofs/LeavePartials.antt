@@ -9,7 +9,7 @@ use Rattle.agg_laws.proofs.RisingPairs.{without-middle}
 use Rattle.window_laws.specs.Runs.{AreInOrder}
 use Rattle.slice_runs.specs.Slices.{values_of}
 use Rattle.agg_store.specs.Stored.{partial_of}
-use Rattle.slice_store.proofs.PartialFacts.{firsts_above}
+use Rattle.slice_partials.proofs.PartialFacts.{firsts_above}
 use Rattle.slice_runs.proofs.SliceOrder.{first_below_last}
 use Rattle.slice_runs.proofs.LeaveFacts.{order_from}
 

@@ -11,8 +11,8 @@ use Rattle.slice_runs.specs.declared.slice.Slice.{Slice}
 use Rattle.slice_runs.specs.Slices.{slice_of, values_of}
 use Rattle.agg_store.specs.Stored.{partial_of}
 use Rattle.slice_runs.proofs.SliceFacts.{ends_in_time, values_at}
-use Rattle.slice_store.proofs.PartialFacts.{merged_is, merged_there, partial_found, partial_is_value}
-use Rattle.slice_store.proofs.entering.merge.Goals as goal
+use Rattle.slice_partials.proofs.PartialFacts.{merged_is, merged_there, partial_found, partial_is_value}
+use Rattle.slice_partials.proofs.entering.merge.Goals as goal
 
 pub read-left-requires : goal.read-left-requires
 read-left-requires g c =

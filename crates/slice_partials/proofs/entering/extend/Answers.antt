@@ -11,8 +11,8 @@ use Rattle.slice_runs.specs.declared.slice.Slice.{Slice}
 use Rattle.slice_runs.specs.Slices.{values_of}
 use Rattle.agg_store.specs.Stored.{partial_of}
 use Rattle.slice_runs.proofs.SliceFacts.{ends_in_time, values_at}
-use Rattle.slice_store.proofs.PartialFacts.{extended_there, partial_found, partial_is_value, partial_there}
-use Rattle.slice_store.proofs.entering.extend.Goals as goal
+use Rattle.slice_partials.proofs.PartialFacts.{extended_there, partial_found, partial_is_value, partial_there}
+use Rattle.slice_partials.proofs.entering.extend.Goals as goal
 
 pub extend-requires-clause-time : goal.extend-requires-clause-time
 extend-requires-clause-time g c =

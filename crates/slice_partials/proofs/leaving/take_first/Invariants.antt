@@ -1,7 +1,7 @@
 -- The partials of the slices so far are taken out.
 use Rattle.std.proofs.Common.{◌≡◌, ◌≤◌, ◌+◌, ◌*◌, drop, map}
 use Rattle.agg_store.specs.Stored.{partial_of}
-use Rattle.slice_store.proofs.leaving.take_first.Given as goal
+use Rattle.slice_partials.proofs.leaving.take_first.Given as goal
 
 abbrev pub invariant-loop-at : goal.invariant-loop-at
 invariant-loop-at g l = record {
