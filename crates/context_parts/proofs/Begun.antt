@@ -6,10 +6,10 @@ use Rattle.std.specs.Option.{option_map_or}
 use Rattle.std.proofs.lemmas.Bool.{cases_lt, le-ltb, lt-ltb}
 use Rattle.std.proofs.lemmas.List.Elements.{All-head, All-tail, All-weaker}
 use Rattle.stream_base.specs.declared.limits.TheConstants.{TIME_MAX}
-use Rattle.context_windows.specs.declared.span.Span.{Span}
-use Rattle.context_windows.specs.Ahead.{end_of_last_begun, first_after, start_after}
-use Rattle.context_windows.specs.Spans.{AreApart}
-use Rattle.context_windows.proofs.Lasts.{begins_later, begun_first}
+use Rattle.window_spans.specs.declared.span.Span.{Span}
+use Rattle.window_spans.specs.Ahead.{end_of_last_begun, first_after, start_after}
+use Rattle.window_spans.specs.Spans.{AreApart}
+use Rattle.window_spans.proofs.Lasts.{begins_later, begun_first}
 
 -- ---- one span in front
 first_starts : (time : ℕ) (s : Span) (ss : List Span) → time < s.high → start_after time (s ∷ ss) ≡ s.low

@@ -4,9 +4,9 @@ use Rattle.std.specs.Prelude.{◌⊎◌, nat_le, nat_lt}
 use Rattle.std.specs.Option.{option_map_or}
 use Rattle.std.proofs.lemmas.Bool.{and_from, and_left, cases_Bool, le-leb, ltb-true}
 use Rattle.stream_base.specs.declared.limits.TheConstants.{FINAL}
-use Rattle.context_windows.specs.declared.span.Span.{Span}
-use Rattle.context_windows.specs.Ahead.{end_after, first_after}
-use Rattle.context_windows.specs.Spans.{due_of}
+use Rattle.window_spans.specs.declared.span.Span.{Span}
+use Rattle.window_spans.specs.Ahead.{end_after, first_after}
+use Rattle.window_spans.specs.Spans.{due_of}
 
 pub some_due : (water end : ℕ) (ss : List Span) → end_after water ss ≡ end → end ≤ FINAL → (water < end) × (1 ≤ length (due_of water end ss))
 some_due water end [] e l = absurd (omega arith)

@@ -21,11 +21,12 @@ use Rattle.window_laws.specs.Runs.{AreParted, IsAligned}
 use Rattle.window_laws.proofs.Order.{All-split, IsApart, IsNear, pieces_in_order}
 use Rattle.slice_runs.specs.Slices.{joined}
 use Rattle.agg_store.specs.Stored.{Stored, tuples_of}
-use Rattle.context_windows.specs.declared.span.Span.{Span}
+use Rattle.window_spans.specs.declared.span.Span.{Span}
+use Rattle.window_spans.specs.Held.{AreAlignedWith, IsAlignedWith}
+use Rattle.window_spans.specs.Parted.{back_of, front_of, head_before}
+use Rattle.window_spans.specs.Spans.{due_of, head_standing, is_due, is_near, near_of, stands}
 use Rattle.context_windows.specs.Aligned.{IsOfWindows}
-use Rattle.context_windows.specs.Held.{AreAlignedWith, IsAlignedWith}
-use Rattle.context_windows.specs.Marked.{AreIntervals, IsEdge, Marked, asked_at, back_of, entered_at, front_of, head_before, holder_in, parted_of, with_parts}
-use Rattle.context_windows.specs.Spans.{due_of, head_standing, is_due, is_near, near_of, stands}
+use Rattle.context_windows.specs.Marked.{AreIntervals, IsEdge, Marked, asked_at, entered_at, holder_in, parted_of, with_parts}
 use Rattle.context_windows.proofs.Aligning.{edges_aligned}
 use Rattle.context_windows.proofs.Intervals.{holder_between}
 use Rattle.key_parts.specs.Held.{IsHeld}

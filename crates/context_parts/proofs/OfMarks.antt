@@ -24,11 +24,11 @@ use Rattle.window_laws.specs.Settled.{MayLeave, without_first}
 use Rattle.window_laws.proofs.InstanceFacts.{between_ends}
 use Rattle.window_laws.proofs.Order.{All-map_of}
 use Rattle.agg_store.specs.Stored.{Stored, tuples_of}
-use Rattle.context_windows.specs.declared.span.Span.{Span}
-use Rattle.context_windows.specs.Ahead.{start_after}
+use Rattle.window_spans.specs.declared.span.Span.{Span}
+use Rattle.window_spans.specs.Ahead.{start_after}
+use Rattle.window_spans.specs.Spans.{AreApart, span_of}
 use Rattle.context_windows.specs.Marked.{AreIntervals, FollowsMarks, HoldsStretches, IsEdge, Marked, marks_window, stretches_after}
 use Rattle.context_windows.specs.Spanned.{window_at}
-use Rattle.context_windows.specs.Spans.{AreApart, span_of}
 use Rattle.key_parts.specs.Moves.{SettlesUpTo}
 use Rattle.key_parts.specs.Work.{change_work}
 use Rattle.context_parts.specs.MarksStand.{DoStandBetween, IsMarksAt}

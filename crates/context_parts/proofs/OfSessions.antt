@@ -16,11 +16,10 @@ use Rattle.stream_base.proofs.Distinct.{All_from_members, standing_rises}
 use Rattle.window_laws.specs.After.{with_mark}
 use Rattle.window_laws.specs.Settled.{MayLeave}
 use Rattle.agg_store.specs.Stored.{Stored, tuples_of}
+use Rattle.window_spans.specs.declared.span.Span.{Span}
+use Rattle.window_spans.specs.Spans.{asked_of, goes, joined_span, near_of, put_changes, span_of, stands, told_at}
 use Rattle.context_windows.specs.Aligned.{IsOfSessions}
-use Rattle.context_windows.specs.Held.{HoldsSessions}
-use Rattle.context_windows.specs.Spanned.{Follows, IsSession, IsSessionAt, Spanned, gap_at, gap_of, sessions_after, window_at}
-use Rattle.context_windows.specs.declared.span.Span.{Span}
-use Rattle.context_windows.specs.Spans.{asked_of, goes, joined_span, near_of, put_changes, span_of, stands, told_at}
+use Rattle.context_windows.specs.Spanned.{Follows, HoldsSessions, IsSession, IsSessionAt, Spanned, gap_at, gap_of, sessions_after, window_at}
 use Rattle.context_windows.proofs.Following.{session_within}
 use Rattle.key_parts.specs.Work.{change_work}
 use Rattle.context_parts.proofs.Rest.{HoldsRest, is_window, left_over, open_alike, open_few, open_selects, rest_is_kept, rest_windows}

@@ -19,10 +19,10 @@ use Rattle.window_laws.specs.Settled.{MayLeave, without_first}
 use Rattle.window_laws.proofs.InstanceFacts.{gap_cut, session_far, session_near, session_runs, sessions_select}
 use Rattle.window_laws.proofs.Order.{All-map_of, IsApart, IsNear, run_spans, runs_behind}
 use Rattle.window_laws.proofs.SettledMoves.{session_last}
-use Rattle.context_windows.specs.declared.span.Span.{Span}
-use Rattle.context_windows.specs.Ahead.{start_after}
+use Rattle.window_spans.specs.declared.span.Span.{Span}
+use Rattle.window_spans.specs.Ahead.{start_after}
+use Rattle.window_spans.specs.Spans.{AreApart, span_of}
 use Rattle.context_windows.specs.Spanned.{Follows, IsSession, Spanned, gap_at, gap_of, sessions_after, window_at}
-use Rattle.context_windows.specs.Spans.{AreApart, span_of}
 use Rattle.context_windows.proofs.Following.{gap_some}
 use Rattle.key_parts.specs.Moves.{SettlesUpTo}
 use Rattle.context_parts.specs.SessionsStand.{DoStand}

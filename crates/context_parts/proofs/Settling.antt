@@ -16,11 +16,11 @@ use Rattle.window_laws.specs.After.{at_water}
 use Rattle.window_laws.specs.Positions.{AreKept}
 use Rattle.window_laws.specs.Settled.{IsSettledAt, MayLeave, without_first}
 use Rattle.window_laws.proofs.SettledFacts.{holding, told_by_times}
-use Rattle.context_windows.specs.declared.span.Span.{Span}
-use Rattle.context_windows.specs.Ahead.{start_after}
-use Rattle.context_windows.specs.Spans.{AreApart, span_of}
+use Rattle.window_spans.specs.declared.span.Span.{Span}
+use Rattle.window_spans.specs.Ahead.{start_after}
+use Rattle.window_spans.specs.Spans.{AreApart, span_of}
+use Rattle.window_spans.proofs.Parts.{filter_twice}
 use Rattle.context_windows.proofs.Following.{only_later}
-use Rattle.context_windows.proofs.Parts.{filter_twice}
 use Rattle.key_parts.specs.Moves.{SettlesUpTo}
 use Rattle.context_parts.proofs.Rest.{left_over, open_alike, rest_is_kept}
 use Rattle.context_parts.proofs.Starts.{ends_early, ends_late, later, low_first, starts_with}

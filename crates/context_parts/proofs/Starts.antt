@@ -7,10 +7,10 @@ use Rattle.std.proofs.lemmas.Bool.{cases_lt, le-ltb, lt-ltb}
 use Rattle.std.proofs.lemmas.List.Elements.{All-contains}
 use Rattle.stream_base.proofs.Members.{filter_members}
 use Rattle.stream_base.proofs.Rising.{Contains-cons_cases, Contains-head, none_in_nil}
-use Rattle.context_windows.specs.declared.span.Span.{Span}
-use Rattle.context_windows.specs.Ahead.{first_after, start_after}
-use Rattle.context_windows.specs.Spans.{AreApart}
-use Rattle.context_windows.proofs.Apart.{proper}
+use Rattle.window_spans.specs.declared.span.Span.{Span}
+use Rattle.window_spans.specs.Ahead.{first_after, start_after}
+use Rattle.window_spans.specs.Spans.{AreApart}
+use Rattle.window_spans.proofs.Apart.{proper}
 
 -- the start of the first of some spans
 abbrev pub low_first : List Span → ℕ

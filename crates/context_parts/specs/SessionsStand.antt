@@ -3,8 +3,8 @@ use Rattle.std.specs.Prelude.{◌≤◌, ◌-◌, ℕ, drop}
 use Rattle.stream_base.specs.Limits.{Definitions}
 use Rattle.stream_base.specs.Model.Changes.{Moment}
 use Rattle.window_laws.specs.After.{at_water}
+use Rattle.window_spans.proofs.Lasts.{stays_before}
 use Rattle.context_windows.specs.Spanned.{Follows, HasAsked, IsSessionAt, Remembers, Spanned, gap_at, window_at}
-use Rattle.context_windows.proofs.Lasts.{stays_before}
 
 -- they are the sessions of all that is kept of a key, and of what is left of it without so many first tuples, but for some that end by the watermark minus the lateness
 pub record DoStand (d : Definitions) (window : ℕ) (m : Moment) (n : ℕ) (s : Spanned) : Type 0 where

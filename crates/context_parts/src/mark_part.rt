@@ -29,9 +29,9 @@ fn func_at(defs: &Defs, window: u32) -> Func
 impl KeyPart for MarkPart {
     ghost use Rattle.std.proofs.Common.{◌≤◌, ◌-◌, length, zero-le};
     ghost use Rattle.context_parts.specs.MarksStand.{DoStandBetween, IsMarksAt, RemembersHolderAt, do_stand_between_on};
-    ghost use Rattle.context_windows.specs.Ahead.{start_after};
+    ghost use Rattle.window_spans.specs.Ahead.{start_after};
+    ghost use Rattle.window_spans.specs.Spans.{due_of};
     ghost use Rattle.context_windows.specs.Marked.{holder_in, most_changes};
-    ghost use Rattle.context_windows.specs.Spans.{due_of};
 
     ghost is_for = { IsMarksAt };
 

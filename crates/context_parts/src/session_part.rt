@@ -19,9 +19,9 @@ pub struct SessionPart {
 impl KeyPart for SessionPart {
     ghost use Rattle.std.proofs.Common.{◌≤◌, ◌-◌, length, zero-le};
     ghost use Rattle.context_parts.specs.SessionsStand.{AreAsked, DoStand, do_stand_on};
-    ghost use Rattle.context_windows.specs.Ahead.{start_after};
+    ghost use Rattle.window_spans.specs.Ahead.{start_after};
+    ghost use Rattle.window_spans.specs.Spans.{due_of, put_changes};
     ghost use Rattle.context_windows.specs.Spanned.{IsSessionAt, gap_at};
-    ghost use Rattle.context_windows.specs.Spans.{due_of, put_changes};
 
     ghost is_for = { IsSessionAt };
 

@@ -19,12 +19,12 @@ use Rattle.window_laws.specs.Runs.{IsAligned}
 use Rattle.window_laws.proofs.EdgeFacts.{aligned, end_is_cut, marks_align, start_is_cut}
 use Rattle.window_laws.proofs.Order.{All-map_of}
 use Rattle.agg_store.specs.Stored.{Stored, tuples_of}
-use Rattle.context_windows.specs.declared.span.Span.{Span}
+use Rattle.window_spans.specs.declared.span.Span.{Span}
+use Rattle.window_spans.specs.Held.{AreAlignedWith, IsAlignedWith}
+use Rattle.window_spans.specs.Spans.{asked_of, due_of, is_due, is_near, joined_span, near_of, span_of, spans_with, stands, told_at}
 use Rattle.context_windows.specs.Aligned.{IsOfSessions, IsOfWindows}
-use Rattle.context_windows.specs.Held.{AreAlignedWith, IsAlignedWith}
 use Rattle.context_windows.specs.Marked.{IsEdge}
 use Rattle.context_windows.specs.Spanned.{Follows, IsSession, Spanned, gap_of, sessions_after}
-use Rattle.context_windows.specs.Spans.{asked_of, due_of, is_due, is_near, joined_span, near_of, span_of, spans_with, stands, told_at}
 use Rattle.context_windows.proofs.Changing.{put_follows}
 
 no_events : (kind : Kind) → IsSession kind → is_events kind ≡ false

@@ -21,13 +21,13 @@ use Rattle.window_laws.specs.Sessions.{AreChangesOfNear, IsPutInSessions, joined
 use Rattle.window_laws.proofs.PartFacts.{session_changes}
 use Rattle.agg_store.specs.Stored.{Stored, tuples_of}
 use Rattle.slice_runs.proofs.SliceEdits.{put_length}
-use Rattle.context_windows.specs.declared.span.Span.{Span}
-use Rattle.context_windows.specs.declared.standing.Standing.{Standing}
-use Rattle.context_windows.specs.Held.{AreHeld, HoldsSessions, IsHeld}
-use Rattle.context_windows.specs.Spanned.{Follows, IsSession, Remembers, Spanned, changes_of, gap_of, near_standing, sessions_after}
-use Rattle.context_windows.specs.Spans.{asked_of, due_of, goes, is_due, is_near, is_same_span, joined_span, near_of, span_alone, span_of, spans_with, stands}
-use Rattle.context_windows.specs.Telling.{as_standing, come_of, gone_of, row_for, told_as}
-use Rattle.context_windows.proofs.Apart.{high_rises}
+use Rattle.window_spans.specs.declared.span.Span.{Span}
+use Rattle.window_spans.specs.declared.standing.Standing.{Standing}
+use Rattle.window_spans.specs.Held.{AreHeld, IsHeld}
+use Rattle.window_spans.specs.Spans.{asked_of, due_of, goes, is_due, is_near, is_same_span, joined_span, near_of, span_alone, span_of, spans_with, stands}
+use Rattle.window_spans.specs.Telling.{as_standing, come_of, gone_of, row_for, told_as}
+use Rattle.window_spans.proofs.Apart.{high_rises}
+use Rattle.context_windows.specs.Spanned.{Follows, HoldsSessions, IsSession, Remembers, Spanned, changes_of, gap_of, near_standing, sessions_after}
 use Rattle.context_windows.proofs.Following.{asked_is, bounds_are_ends, completions_are, due_is, gap_some, joined_is, near_complete, session_kind, session_within, spans_become, spans_near}
 use Rattle.window_laws.proofs.SessionFacts.{put_times, sessions_after_put}
 

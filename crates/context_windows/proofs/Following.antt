@@ -27,10 +27,10 @@ use Rattle.slice_runs.specs.declared.slice.Slice.{Slice}
 use Rattle.slice_runs.specs.Slices.{joined}
 use Rattle.slice_runs.proofs.SliceEdits.{entered_shown}
 use Rattle.slice_runs.proofs.SliceOrder.{first_below_last}
-use Rattle.context_windows.specs.declared.span.Span.{Span}
+use Rattle.window_spans.specs.declared.span.Span.{Span}
+use Rattle.window_spans.specs.Spans.{asked_of, due_of, is_due, is_near, joined_span, near_of, span_of, spans_with, stands}
+use Rattle.window_spans.proofs.Parts.{filter_alike, filter_twice, fewer_pass, take_few}
 use Rattle.context_windows.specs.Spanned.{Follows, IsSession, Spanned, gap_of, near_standing, sessions_after}
-use Rattle.context_windows.specs.Spans.{asked_of, due_of, is_due, is_near, joined_span, near_of, span_of, spans_with, stands}
-use Rattle.context_windows.proofs.Parts.{filter_alike, filter_twice, fewer_pass, take_few}
 use Rattle.context_windows.proofs.Thirds.{InThirds, backs_later, mids_are, spans_back, spans_front, spans_mid}
 
 pub session_kind : (kind : Kind) → IsSession kind → kind ≡ Session (gap_of kind)

@@ -12,11 +12,12 @@ use Rattle.stream_base.proofs.Members.{filter_members}
 use Rattle.stream_base.proofs.Rising.{Contains-head, Contains-insert_key, Contains-insert_key_cases, Contains-insert_key_self, Contains-tail}
 use Rattle.stream_base.proofs.Distinct.{All_from_members}
 use Rattle.slice_runs.proofs.MarkFacts.{rising_more}
-use Rattle.context_windows.specs.declared.span.Span.{Span}
-use Rattle.context_windows.specs.Marked.{AreIntervals, IsEdge, back_of, first_or, front_of, head_before, holder_in, holder_of, part_if, parted_of}
-use Rattle.context_windows.specs.Spans.{AreApart, is_near, near_of}
-use Rattle.context_windows.proofs.Apart.{All_filtered, append_apart, apart_filter, ordered, proper}
-use Rattle.context_windows.proofs.MarkSides.{last_by, last_from, next_behind, next_by, next_final}
+use Rattle.window_spans.specs.declared.span.Span.{Span}
+use Rattle.window_spans.specs.Parted.{back_of, first_or, front_of, head_before, holder_of, part_if}
+use Rattle.window_spans.specs.Spans.{AreApart, is_near, near_of}
+use Rattle.window_spans.proofs.Apart.{All_filtered, append_apart, apart_filter, ordered, proper}
+use Rattle.window_spans.proofs.MarkSides.{last_by, last_from, next_behind, next_by, next_final}
+use Rattle.context_windows.specs.Marked.{AreIntervals, IsEdge, holder_in, parted_of}
 
 -- ---- a span between those that end by a time and those that start behind it
 pub record IsBetween (spans : List Span) (marks : List ℕ) (time : ℕ) (s : Span) : Type 0 where

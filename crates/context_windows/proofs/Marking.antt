@@ -23,14 +23,15 @@ use Rattle.stream_base.proofs.Filters.{filter_all}
 use Rattle.window_laws.proofs.PartFacts.{holder_changes, parting_changes}
 use Rattle.window_laws.proofs.StretchFacts.{empty_interval}
 use Rattle.agg_store.specs.Stored.{Stored, tuples_of}
-use Rattle.context_windows.specs.declared.span.Span.{Span}
-use Rattle.context_windows.specs.declared.standing.Standing.{Standing}
-use Rattle.context_windows.specs.Held.{IsHeld}
-use Rattle.context_windows.specs.Marked.{FollowsMarks, HoldsStretches, Marked, RemembersHolder, back_of, come_if, front_of, gone_if, head_before, holder_in, marks_window, part_if, parted_of, stretches_after}
+use Rattle.window_spans.specs.declared.span.Span.{Span}
+use Rattle.window_spans.specs.declared.standing.Standing.{Standing}
+use Rattle.window_spans.specs.Held.{IsHeld}
+use Rattle.window_spans.specs.Parted.{back_of, come_if, front_of, gone_if, head_before, part_if}
+use Rattle.window_spans.specs.Spans.{is_same_span, near_of, span_of}
+use Rattle.window_spans.specs.Telling.{as_standing, come_of, told_as}
+use Rattle.window_spans.proofs.Parts.{fewer_pass, filter_twice}
+use Rattle.context_windows.specs.Marked.{FollowsMarks, HoldsStretches, Marked, RemembersHolder, holder_in, marks_window, parted_of, stretches_after}
 use Rattle.context_windows.specs.Spanned.{changes_of}
-use Rattle.context_windows.specs.Spans.{is_same_span, near_of, span_of}
-use Rattle.context_windows.specs.Telling.{as_standing, come_of, told_as}
-use Rattle.context_windows.proofs.Parts.{fewer_pass, filter_twice}
 use Rattle.context_windows.proofs.Stretching.{held_each, holder_is, marked_thirds, put_thirds}
 use Rattle.context_windows.proofs.Thirds.{backs_later, mids_are, spans_back, spans_front, spans_mid}
 

@@ -9,11 +9,12 @@ use Rattle.stream_base.specs.declared.func.Func.{Func}
 use Rattle.stream_base.specs.declared.kept.Kept.{Kept}
 use Rattle.stream_base.specs.declared.limits.TheConstants.{FINAL}
 use Rattle.stream_base.proofs.Filters.{filter_all}
-use Rattle.context_windows.specs.declared.span.Span.{Span}
-use Rattle.context_windows.specs.Marked.{FollowsMarks, Marked, RemembersHolder, asked_at, entered_at, first_or, holder_of, holder_standing}
-use Rattle.context_windows.specs.Spans.{AreApart, asked_of, changes_of_joining, goes, head_standing, is_near, is_same_span, joined_span, near_of, put_changes, span_alone, span_of, stands}
-use Rattle.context_windows.specs.Telling.{as_standing}
-use Rattle.context_windows.proofs.Apart.{All_filtered, apart_filter, low_falls}
+use Rattle.window_spans.specs.declared.span.Span.{Span}
+use Rattle.window_spans.specs.Parted.{first_or, holder_of}
+use Rattle.window_spans.specs.Spans.{AreApart, asked_of, changes_of_joining, goes, head_standing, is_near, is_same_span, joined_span, near_of, put_changes, span_alone, span_of, stands}
+use Rattle.window_spans.specs.Telling.{as_standing}
+use Rattle.window_spans.proofs.Apart.{All_filtered, apart_filter, low_falls}
+use Rattle.context_windows.specs.Marked.{FollowsMarks, Marked, RemembersHolder, asked_at, entered_at, holder_standing}
 use Rattle.context_windows.proofs.Stretching.{asked_spans}
 
 -- ---- sessions

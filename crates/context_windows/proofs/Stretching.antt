@@ -26,14 +26,15 @@ use Rattle.window_laws.proofs.Order.{All-split}
 use Rattle.window_laws.proofs.SessionFacts.{put_times}
 use Rattle.window_laws.proofs.StretchFacts.{edges_of, span_of_holder, stretches_after_mark, stretches_after_put}
 use Rattle.agg_store.specs.Stored.{Stored, tuples_of}
-use Rattle.context_windows.specs.declared.span.Span.{Span}
-use Rattle.context_windows.specs.declared.standing.Standing.{Standing}
-use Rattle.context_windows.specs.Held.{AreHeld, IsHeld}
-use Rattle.context_windows.specs.Marked.{FollowsMarks, HoldsStretches, Marked, RemembersHolder, asked_at, first_or, holder_in, holder_of, holder_standing, marks_window, stretches_after}
-use Rattle.context_windows.specs.Spans.{due_of, head_standing, is_due, is_near, span_of}
-use Rattle.context_windows.specs.Telling.{as_standing}
+use Rattle.window_spans.specs.declared.span.Span.{Span}
+use Rattle.window_spans.specs.declared.standing.Standing.{Standing}
+use Rattle.window_spans.specs.Held.{AreHeld, IsHeld}
+use Rattle.window_spans.specs.Parted.{first_or, holder_of}
+use Rattle.window_spans.specs.Spans.{due_of, head_standing, is_due, is_near, span_of}
+use Rattle.window_spans.specs.Telling.{as_standing}
+use Rattle.window_spans.proofs.Parts.{filter_alike, filter_twice}
+use Rattle.context_windows.specs.Marked.{FollowsMarks, HoldsStretches, Marked, RemembersHolder, asked_at, holder_in, holder_standing, marks_window, stretches_after}
 use Rattle.context_windows.proofs.Following.{later_forgotten, only_later}
-use Rattle.context_windows.proofs.Parts.{filter_alike, filter_twice}
 use Rattle.context_windows.proofs.Thirds.{InThirds, IsMid, backs_later, mids_are, spans_back, spans_front, spans_mid}
 
 -- each interval ends behind its start, and its bound is its end

@@ -7,9 +7,9 @@ use Rattle.std.proofs.lemmas.List.Elements.{All-filter, All-weaker, filter-appen
 use Rattle.stream_base.specs.Model.Windows.{Instance}
 use Rattle.stream_base.proofs.Members.{filter_map_of}
 use Rattle.stream_base.proofs.Filters.{filter_all}
-use Rattle.context_windows.specs.declared.span.Span.{Span}
-use Rattle.context_windows.specs.Spans.{is_near, near_of, span_of}
-use Rattle.context_windows.proofs.Parts.{filter_back, filter_front, filter_near}
+use Rattle.window_spans.specs.declared.span.Span.{Span}
+use Rattle.window_spans.specs.Spans.{is_near, near_of, span_of}
+use Rattle.window_spans.proofs.Parts.{filter_back, filter_front, filter_near}
 
 abbrev pub IsFront : ℕ → ℕ → Instance → Type 0
 IsFront gap time i = (i.high ≤ time) × (i.low < time + gap)

@@ -1,24 +1,21 @@
 -- What the intervals between the marks of a key are in contracts.
-use Rattle.std.specs.Prelude.{◌≡◌, ◌≤◌, ◌<◌, ◌^◌, ◌⊎◌, ◌&&◌, ℕ, Bool, List, [], ◌∷◌, filter, length, map, nat_lt, nat_le, All, Option, None, Some, option_to_list, if◌then◌else◌}
+use Rattle.std.specs.Prelude.{◌≡◌, ◌≤◌, ◌<◌, ◌^◌, ◌⊎◌, ℕ, List, [], ◌∷◌, filter, length, map, nat_lt, nat_le, All, Option, None, Some, option_to_list, if◌then◌else◌}
 use Rattle.std.specs.List.{Contains}
 use Rattle.std.specs.List.Sorted.{IsStrictlyIncreasing}
-use Rattle.stream_base.specs.declared.change.Change.{Change}
-use Rattle.stream_base.specs.declared.change.Change.TheVariants.{Gone, New}
 use Rattle.stream_base.specs.declared.def.Def.{Def}
 use Rattle.stream_base.specs.declared.func.Func.{Func}
 use Rattle.stream_base.specs.declared.kept.Kept.{Kept}
 use Rattle.stream_base.specs.declared.kind.Kind.TheVariants.{Marks}
 use Rattle.stream_base.specs.declared.limits.TheConstants.{FINAL, TIME_MAX}
 use Rattle.stream_base.specs.Laws.{TimesDoNotFall}
-use Rattle.stream_base.specs.Model.Changes.{row_of}
 use Rattle.stream_base.specs.Model.Windows.{Instance, stretches, within}
 use Rattle.window_laws.specs.After.{complete_at}
-use Rattle.window_laws.specs.Stretches.{last_mark, next_mark}
 use Rattle.agg_store.specs.Stored.{Stored, tuples_of}
-use Rattle.context_windows.specs.declared.span.Span.{Span}
-use Rattle.context_windows.specs.declared.standing.Standing.{Standing}
-use Rattle.context_windows.specs.Spans.{AreApart, head_standing, is_near, near_of, span_of, stands}
-use Rattle.context_windows.specs.Telling.{as_standing}
+use Rattle.window_spans.specs.declared.span.Span.{Span}
+use Rattle.window_spans.specs.declared.standing.Standing.{Standing}
+use Rattle.window_spans.specs.Parted.{back_of, first_or, front_of, head_before, holder_of}
+use Rattle.window_spans.specs.Spans.{AreApart, head_standing, is_near, near_of, span_of, stands}
+use Rattle.window_spans.specs.Telling.{as_standing}
 
 -- the spans of a key's intervals that have a tuple, oldest first; its marks, rising; what was kept of the one that stood before a tuple comes; up to which time intervals are forgotten; and for how many more there is room
 pub record Marked : Type 0 where
@@ -46,15 +43,6 @@ pub record AreIntervals (spans : List Span) (marks : List ℕ) : Type 0 where
   pub in_time : All (λ m. m ≤ TIME_MAX) marks
   pub edges : All (λ s. IsEdge marks s.low × IsEdge marks s.high) spans
 
--- the interval between the marks at the sides of a time
-abbrev pub holder_of : List ℕ → ℕ → Span
-holder_of marks time = record { low = last_mark marks time; high = next_mark marks time }
-
--- the first of some spans, or else another
-abbrev pub first_or : Span → List Span → Span
-first_or other [] = other
-first_or other (s ∷ ss) = s
-
 -- the interval that holds a time: one that has a tuple, or else that between the marks at its sides
 abbrev pub holder_in : ℕ → List Span → List ℕ → Span
 holder_in time spans marks = first_or (holder_of marks time) (near_of 1 time spans)
@@ -70,18 +58,6 @@ asked_at time water spans = option_to_list (head_standing water (near_of 1 time 
 -- at least as many as the changes of a tuple or of a mark at a time: where its interval stands that goes and two come, and else one before the time may come to stand
 abbrev pub most_changes : ℕ → ℕ → Span → ℕ
 most_changes time water holder = if stands water holder then 3 else (if nat_le time water then 1 else 0)
-
--- the first part of an interval, and the second, where a mark comes
-abbrev pub front_of : ℕ → Span → Span
-front_of time s = record { low = s.low; high = time }
-
-abbrev pub back_of : ℕ → Span → Span
-back_of time s = record { low = time; high = s.high }
-
--- the first of some intervals, if there is one and it begins before a time
-abbrev pub head_before : ℕ → List Span → Option Span
-head_before time [] = None
-head_before time (s ∷ ss) = if nat_lt s.low time then Some s else None
 
 -- the interval that a mark at a time parts: the one that has a tuple and begins before the time and ends behind it
 abbrev pub parted_of : ℕ → List Span → Option Span
@@ -119,19 +95,3 @@ pub record RemembersHolder (func : Func) (time water : ℕ) (marks : List ℕ) (
 -- a marks window with a function
 abbrev pub marks_window : Func → Def
 marks_window func = record { kind = Marks; func = func }
-
--- an interval that stands goes
-abbrev pub gone_if : ℕ → List ℕ → Func → ℕ → Instance → List Change
-gone_if window key func water i = map (λ i. Gone (row_of window key func i)) (complete_at water (i ∷ []))
-
--- a part of it that has a tuple and stands comes
-abbrev pub shown_if : Bool → ℕ → Span → List Span
-shown_if filled water s = if filled && stands water s then s ∷ [] else []
-
-abbrev pub come_if : ℕ → List ℕ → Func → Bool → ℕ → Instance → List Change
-come_if window key func filled water i =
-    if filled && stands water (span_of i) then New (row_of window key func i) ∷ [] else []
-
--- a part of an interval, if it has a tuple and isn't forgotten
-abbrev pub part_if : Bool → ℕ → Span → Option Span
-part_if filled forgotten s = if filled && nat_lt forgotten s.high then Some s else None

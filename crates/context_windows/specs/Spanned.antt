@@ -1,5 +1,5 @@
 -- What the sessions of a key are in contracts.
-use Rattle.std.specs.Prelude.{◌≡◌, ◌<◌, ◌++◌, ℕ, List, filter, length, map, nat_lt, slice_index_or}
+use Rattle.std.specs.Prelude.{◌≡◌, ◌<◌, ◌^◌, ◌++◌, ℕ, List, filter, length, map, nat_lt, slice_index_or, All}
 use Rattle.stream_base.specs.declared.change.Change.{Change}
 use Rattle.stream_base.specs.declared.def.Def.{Def}
 use Rattle.stream_base.specs.declared.func.Func.TheVariants.{Count}
@@ -9,12 +9,13 @@ use Rattle.stream_base.specs.declared.kind.Kind.TheVariants.{Tumbling, Sliding, 
 use Rattle.stream_base.specs.Laws.{TimesDoNotFall}
 use Rattle.stream_base.specs.Limits.{Definitions, IsKindWithin}
 use Rattle.stream_base.specs.Model.Changes.{Moment, emissions, retractions}
-use Rattle.stream_base.specs.Model.Windows.{Instance, sessions}
+use Rattle.stream_base.specs.Model.Windows.{Instance, sessions, within}
 use Rattle.window_laws.specs.After.{complete_at}
-use Rattle.context_windows.specs.declared.span.Span.{Span}
-use Rattle.context_windows.specs.declared.standing.Standing.{Standing}
-use Rattle.context_windows.specs.Spans.{asked_of, is_near, span_of}
-use Rattle.context_windows.specs.Telling.{as_standing}
+use Rattle.agg_store.specs.Stored.{Stored, tuples_of}
+use Rattle.window_spans.specs.declared.span.Span.{Span}
+use Rattle.window_spans.specs.declared.standing.Standing.{Standing}
+use Rattle.window_spans.specs.Spans.{asked_of, is_near, span_of}
+use Rattle.window_spans.specs.Telling.{as_standing}
 
 -- the spans of a key's sessions, oldest first; what was kept of those that stood before a tuple comes; up to which time sessions are forgotten; and for how many more there is room
 pub record Spanned : Type 0 where
@@ -66,6 +67,11 @@ sessions_after gap time kept = filter (λ i. nat_lt time i.high) (sessions gap k
 pub record Follows (gap : ℕ) (kept : List Kept) (s : Spanned) : Type 0 where
   pub in_order : TimesDoNotFall kept
   pub spans : s.spans ≡ map span_of (sessions_after gap s.forgotten kept)
+
+-- in each session that ends after a time the store holds exactly the tuples that it selects, and can count them
+pub record HoldsSessions (gap time : ℕ) (kept : List Kept) (store : Stored) : Type 0 where
+  pub chosen : All (λ i. within i.low i.high (tuples_of store) ≡ i.chosen) (sessions_after gap time kept)
+  pub few : All (λ i. length i.chosen < 2 ^ 64) (sessions_after gap time kept)
 
 -- the sessions that stand of those less than the gap away from a time
 abbrev pub near_standing : ℕ → ℕ → ℕ → List Kept → List Instance

@@ -6,11 +6,11 @@ ghost use Rattle.stream_base.specs.declared.kept.Kept.{Kept};
 ghost use Rattle.stream_base.specs.Model.Journal.{put_in_order};
 ghost use Rattle.window_laws.specs.Runs.{IsAligned};
 ghost use Rattle.agg_store.specs.Stored.{Stored};
+ghost use Rattle.window_spans.specs.Held.{AreAlignedWith};
+ghost use Rattle.window_spans.specs.Spans.{asked_of, due_of, told_at};
 ghost use Rattle.context_windows.specs.Aligned.{IsOfSessions, IsOfWindows};
-ghost use Rattle.context_windows.specs.Held.{AreAlignedWith};
 ghost use Rattle.context_windows.specs.Marked.{IsEdge};
 ghost use Rattle.context_windows.specs.Spanned.{Follows, Spanned, gap_of};
-ghost use Rattle.context_windows.specs.Spans.{asked_of, due_of, told_at};
 
 /// What `before`, `put` and `water` of sessions ask of the slices: of a store that holds some of the
 /// key's tuples, with the new one among them in `put`.

@@ -1,26 +1,17 @@
 //! Windows whose extents depend on the data: sessions, and the intervals between marks.
 //!
 //! *From* the tuples of one key in a store of slices, its marks and the moves of the watermark, *to*
-//! the changes of one window of the key. *Stands on* `stream_base`, `window_laws`, `agg_laws` and
-//! `agg_store`, whose folds it tells; it keeps the bounds of instances and no tuple. *Promise*: each
-//! call appends exactly its window's changes, retractions first, with what stood before; the work is
-//! counted. A late tuple joins sessions that had stood apart, and each of those is taken back.
+//! the changes of one window of the key. *Stands on* `stream_base`, `window_laws`, `agg_laws`,
+//! `agg_store`, and `window_spans`, which tells the folds of the store; it keeps the bounds of
+//! instances and no tuple. *Promise*: each call appends exactly its window's changes, retractions
+//! first, with what stood before; the work is counted. A late tuple joins sessions that had stood
+//! apart, and each of those is taken back.
 #![tactic(auto)]
 
-mod ahead;
-mod edges;
-mod joining;
 pub mod laws;
 mod mark_windows;
-mod near;
-mod parting;
 mod sessions;
-mod span;
-mod standing;
-mod telling;
 mod windows;
 
 pub use mark_windows::MarkWindows;
 pub use sessions::Sessions;
-pub use span::Span;
-pub use standing::Standing;

@@ -8,25 +8,22 @@ ghost use Rattle.stream_base.specs.Laws.{completions};
 ghost use Rattle.stream_base.specs.Model.Changes.{Moment};
 ghost use Rattle.stream_base.specs.Model.Journal.{put_in_order};
 ghost use Rattle.window_laws.specs.After.{with_mark, with_tuple};
-ghost use Rattle.context_windows.specs.Ahead.{end_after, end_of_last_begun, start_after};
-ghost use Rattle.context_windows.specs.Held.{AreAlignedWith};
+ghost use Rattle.window_spans.specs.Ahead.{end_after, end_of_last_begun, start_after};
+ghost use Rattle.window_spans.specs.Held.{AreAlignedWith};
+ghost use Rattle.window_spans.specs.Spans.{due_of};
 ghost use Rattle.context_windows.specs.Marked.{FollowsMarks, HoldsStretches, IsMarkedAsBefore, RemembersHolder, asked_at, entered_at, holder_in, marks_window, most_changes, parted_of, with_parts};
 ghost use Rattle.context_windows.specs.Spanned.{changes_of};
-ghost use Rattle.context_windows.specs.Spans.{due_of};
 
-use crate::ahead::{end_after, end_of_last_begun, start_after};
-use crate::edges::{add_mark, holder};
-use crate::joining::replace;
-use crate::near::{between, due, first_asked, first_before, first_or, near};
-use crate::parting::{back_of, front_of, is_filled, part, part_if};
-use crate::span::Span;
-use crate::standing::Standing;
-use crate::telling::{Teller, ask, tell_all, tell_joined, tell_part, tell_taken};
 use agg_laws::Steps;
 use agg_store::AggStore;
 use std::alloc::Global;
 use std::marker::Model;
 use stream_base::{Change, Func, KeyText, NoMemory};
+use window_spans::{
+    Span, Standing, Teller, add_mark, ask, back_of, between, due, end_after, end_of_last_begun,
+    first_asked, first_before, first_or, front_of, holder, is_filled, near, part, part_if, replace,
+    start_after, tell_all, tell_joined, tell_part, tell_taken,
+};
 
 /// The intervals between the marks of one key, for a marks window of it: the span of each that has a
 /// tuple, the marks, and what the interval showed that a coming tuple may change. Contracts see these,

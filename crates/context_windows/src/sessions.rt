@@ -6,23 +6,21 @@ ghost use Rattle.stream_base.specs.Laws.{completions};
 ghost use Rattle.stream_base.specs.Model.Changes.{Moment};
 ghost use Rattle.stream_base.specs.Model.Journal.{put_in_order};
 ghost use Rattle.window_laws.specs.After.{with_tuple};
-ghost use Rattle.context_windows.specs.Ahead.{end_after, end_of_last_begun, start_after};
-ghost use Rattle.context_windows.specs.Held.{AreAlignedWith, HoldsSessions};
-ghost use Rattle.context_windows.specs.Spanned.{Follows, HasAsked, IsAsBefore, IsSessionAt, Remembers, changes_of, gap_at, window_at};
-ghost use Rattle.context_windows.specs.Spans.{asked_of, due_of, put_changes, spans_with, told_at};
+ghost use Rattle.window_spans.specs.Ahead.{end_after, end_of_last_begun, start_after};
+ghost use Rattle.window_spans.specs.Held.{AreAlignedWith};
+ghost use Rattle.window_spans.specs.Spans.{asked_of, due_of, put_changes, spans_with, told_at};
+ghost use Rattle.context_windows.specs.Spanned.{Follows, HasAsked, HoldsSessions, IsAsBefore, IsSessionAt, Remembers, changes_of, gap_at, window_at};
 
-use crate::ahead::{end_after, end_of_last_begun, start_after};
-use crate::joining::{changes_of_joining, joined, replace};
-use crate::near::{between, due, first_standing, near};
-use crate::span::Span;
-use crate::standing::Standing;
-use crate::telling::{Teller, ask, tell_all, tell_joined};
 use crate::windows::{gap_of, window_at};
 use agg_laws::Steps;
 use agg_store::AggStore;
 use std::alloc::Global;
 use std::marker::Model;
 use stream_base::{Change, Defs, KeyText, NoMemory};
+use window_spans::{
+    Span, Standing, Teller, ask, between, changes_of_joining, due, end_after, end_of_last_begun,
+    first_standing, joined, near, replace, start_after, tell_all, tell_joined,
+};
 
 /// The sessions of one key for a session window of it: the span of each, and what those showed that a
 /// coming tuple may change. Contracts see these, up to which time sessions are forgotten, and for how
@@ -40,8 +38,8 @@ pub struct Sessions {
 
 impl Model for Sessions {
     ghost use Rattle.std.specs.Prelude.{◌-◌, ◌++◌, vec_len, vec_capacity, option_to_list};
+    ghost use Rattle.window_spans.specs.Spans.{AreApart};
     ghost use Rattle.context_windows.specs.Spanned.{Spanned};
-    ghost use Rattle.context_windows.specs.Spans.{AreApart};
 
     ghost Value = { Spanned };
 

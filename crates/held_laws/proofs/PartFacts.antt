@@ -16,12 +16,11 @@ use Rattle.window_laws.specs.Positions.{AreKept}
 use Rattle.window_laws.specs.Runs.{IsAligned}
 use Rattle.window_laws.proofs.InstanceFacts.{sessions_select, spans_hold_selections}
 use Rattle.agg_store.specs.Stored.{IsStore, Stored, tuples_of}
+use Rattle.window_spans.proofs.Parts.{fewer_pass}
 use Rattle.context_windows.specs.Aligned.{IsOfSessions, IsOfWindows}
-use Rattle.context_windows.specs.Held.{HoldsSessions}
+use Rattle.context_windows.specs.Spanned.{HoldsSessions, IsSession}
 use Rattle.context_windows.specs.Marked.{HoldsStretches, IsEdge}
-use Rattle.context_windows.specs.Spanned.{IsSession}
 use Rattle.context_windows.proofs.Aligning.{edges_aligned}
-use Rattle.context_windows.proofs.Parts.{fewer_pass}
 use Rattle.key_parts.specs.Held.{IsHeld}
 use Rattle.key_parts.specs.Moves.{AreLists}
 use Rattle.held_laws.proofs.AlikeFacts.{left_kept}

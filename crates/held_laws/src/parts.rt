@@ -9,9 +9,8 @@ ghost use Rattle.stream_base.specs.Model.Changes.{Moment};
 ghost use Rattle.window_laws.specs.Runs.{IsAligned};
 ghost use Rattle.agg_store.specs.Stored.{IsStore, Stored, tuples_of};
 ghost use Rattle.context_windows.specs.Aligned.{IsOfSessions, IsOfWindows};
-ghost use Rattle.context_windows.specs.Held.{HoldsSessions};
+ghost use Rattle.context_windows.specs.Spanned.{HoldsSessions, IsSession};
 ghost use Rattle.context_windows.specs.Marked.{HoldsStretches, IsEdge};
-ghost use Rattle.context_windows.specs.Spanned.{IsSession};
 ghost use Rattle.key_parts.specs.Held.{IsHeld};
 ghost use Rattle.key_parts.specs.Moves.{AreLists};
 

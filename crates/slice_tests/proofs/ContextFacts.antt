@@ -22,12 +22,13 @@ use Rattle.window_laws.proofs.StretchFacts.{edges_of}
 use Rattle.agg_store.specs.Stored.{IsSliced, IsStore, Stored, tuples_of}
 use Rattle.agg_store.specs.Stored.{IsAsBefore as IsStoreAsBefore}
 use Rattle.slice_runs.proofs.SliceOrder.{times_of_order}
-use Rattle.context_windows.specs.declared.span.Span.{Span}
+use Rattle.window_spans.specs.declared.span.Span.{Span}
+use Rattle.window_spans.specs.Held.{AreAlignedWith, IsAlignedWith}
+use Rattle.window_spans.specs.Parted.{back_of, first_or, front_of, head_before, holder_of}
+use Rattle.window_spans.specs.Spans.{head_standing, near_of, is_near, span_of, stands}
 use Rattle.context_windows.specs.Aligned.{IsOfSessions, IsOfWindows}
-use Rattle.context_windows.specs.Held.{AreAlignedWith, IsAlignedWith}
-use Rattle.context_windows.specs.Marked.{FollowsMarks, HoldsStretches, IsEdge, IsMarkedAsBefore, Marked, back_of, first_or, front_of, head_before, holder_in, holder_of, parted_of, stretches_after, with_parts}
+use Rattle.context_windows.specs.Marked.{FollowsMarks, HoldsStretches, IsEdge, IsMarkedAsBefore, Marked, holder_in, parted_of, stretches_after, with_parts}
 use Rattle.context_windows.specs.Spanned.{Follows, IsAsBefore, IsSessionAt, Spanned, window_at}
-use Rattle.context_windows.specs.Spans.{head_standing, near_of, is_near, span_of, stands}
 use Rattle.slice_tests.specs.Together.{AreOfMarks, AreOfSessions}
 
 pub cut_for : (d : Definitions) (store : Stored) → AreWithinLimits d → IsStore store → IsSliced d.windows store → IsOfWindows d.windows store

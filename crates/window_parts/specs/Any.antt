@@ -6,10 +6,10 @@ use Rattle.stream_base.specs.Limits.{Definitions}
 use Rattle.stream_base.specs.Model.Changes.{Moment}
 use Rattle.window_laws.specs.After.{at_water}
 use Rattle.agg_store.specs.Stored.{IsAsBefore, Stored}
-use Rattle.context_windows.specs.Ahead.{start_after}
+use Rattle.window_spans.specs.Ahead.{start_after}
+use Rattle.window_spans.specs.Spans.{due_of, put_changes}
 use Rattle.context_windows.specs.Marked.{holder_in, most_changes}
 use Rattle.context_windows.specs.Spanned.{gap_at}
-use Rattle.context_windows.specs.Spans.{due_of, put_changes}
 use Rattle.key_parts.specs.Calls.{StandsAt, window_at}
 use Rattle.context_parts.specs.MarksStand.{DoStandBetween, RemembersHolderAt, do_stand_between_on}
 use Rattle.context_parts.specs.SessionsStand.{AreAsked, DoStand, do_stand_on}

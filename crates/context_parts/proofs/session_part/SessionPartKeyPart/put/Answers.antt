@@ -1,8 +1,8 @@
 -- The store holds all of the session that the tuple makes.
 use Rattle.std.proofs.Common.{◌≤◌, ◌+◌, ◌-◌, ◌*◌, arith, refl, subst, sym, drop, length, vec_len}
 use Rattle.std.proofs.Math.Nat.{mul-le-mul_left}
+use Rattle.window_spans.specs.Spans.{told_at}
 use Rattle.context_windows.specs.Spanned.{Follows, Remembers, gap_at, window_at}
-use Rattle.context_windows.specs.Spans.{told_at}
 use Rattle.context_windows.proofs.Aligning.{told_aligned}
 use Rattle.key_windows.specs.Calls.{kept_at}
 use Rattle.window_laws.specs.After.{with_tuple}

@@ -3,7 +3,7 @@ use Rattle.std.proofs.Common.{◌≡◌, ◌∙◌, ap, sym, subst, rules}
 use Rattle.std.specs.Prelude.{max, nat_lt}
 use Rattle.std.specs.List.{filter}
 use Rattle.std.proofs.lemmas.Fn.{filter_same}
-use Rattle.context_windows.specs.declared.span.Span.{Span}
+use Rattle.window_spans.specs.declared.span.Span.{Span}
 use Rattle.context_windows.specs.Marked.{AreIntervals, Marked}
 use Rattle.context_windows.proofs.Intervals.{intervals_left}
 use Rattle.context_windows.proofs.Stretching.{marks_later}

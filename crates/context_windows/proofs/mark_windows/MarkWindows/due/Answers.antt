@@ -1,7 +1,7 @@
 -- The intervals that are due are those that become complete.
 use Rattle.std.proofs.Common.{◌≡◌, ◌∙◌, ◌≤◌, ◌-◌, length, take, drop, ap, sym, arith, rules}
 use Rattle.std.proofs.lemmas.List.{length-drop, length-take}
-use Rattle.context_windows.specs.Spans.{due_of}
+use Rattle.window_spans.specs.Spans.{due_of}
 use Rattle.context_windows.proofs.Stretching.{marks_due_length}
 use Rattle.context_windows.proofs.mark_windows.MarkWindows.due.Goals as goal
 

@@ -10,9 +10,10 @@ use Rattle.stream_base.specs.declared.limits.TheConstants.{FINAL}
 use Rattle.stream_base.specs.Model.Windows.{within}
 use Rattle.agg_store.specs.Stored.{tuples_of}
 use Rattle.window_laws.proofs.StretchFacts.{stretches_after_mark}
-use Rattle.context_windows.specs.declared.span.Span.{Span}
-use Rattle.context_windows.specs.Held.{IsAlignedWith}
-use Rattle.context_windows.specs.Marked.{AreIntervals, Marked, back_of, front_of, part_if, parted_of, with_parts}
+use Rattle.window_spans.specs.declared.span.Span.{Span}
+use Rattle.window_spans.specs.Held.{IsAlignedWith}
+use Rattle.window_spans.specs.Parted.{back_of, front_of, part_if}
+use Rattle.context_windows.specs.Marked.{AreIntervals, Marked, parted_of, with_parts}
 use Rattle.context_windows.proofs.Intervals.{intervals_marked, intervals_parted}
 use Rattle.context_windows.proofs.Marking.{mark_follows, mark_leaves, mark_tells, mark_tells_none, three_costs}
 use Rattle.context_windows.proofs.mark_windows.MarkWindows.mark.Goals as goal

@@ -1,9 +1,9 @@
 -- What is due ends after the watermark, and so at the first end behind it or later.
 use Rattle.std.proofs.Common.{◌≡◌, ◌<◌, subst, rules}
-use Rattle.context_windows.specs.Ahead.{end_after}
+use Rattle.window_spans.specs.Ahead.{end_after}
+use Rattle.window_spans.specs.Spans.{AreApart}
+use Rattle.window_spans.proofs.Firsts.{none_due}
 use Rattle.context_windows.specs.Marked.{Marked}
-use Rattle.context_windows.specs.Spans.{AreApart}
-use Rattle.context_windows.proofs.Firsts.{none_due}
 use Rattle.context_windows.proofs.mark_windows.MarkWindows.next_end.Goals as goal
 
 pub returns-clause-none_due : goal.returns-clause-none_due

@@ -4,7 +4,7 @@ use Rattle.std.specs.Prelude.{nat_le, option_to_list}
 use Rattle.std.specs.List.{filter}
 use Rattle.stream_base.specs.declared.limits.TheConstants.{FINAL}
 use Rattle.stream_base.specs.Model.Journal.{put_in_order}
-use Rattle.context_windows.specs.declared.span.Span.{Span}
+use Rattle.window_spans.specs.declared.span.Span.{Span}
 use Rattle.context_windows.specs.Marked.{AreIntervals, HoldsStretches, Marked, RemembersHolder, holder_in}
 use Rattle.context_windows.proofs.Intervals.{intervals_with}
 use Rattle.context_windows.proofs.Marking.{marks_put_told}

@@ -1,8 +1,8 @@
 -- The intervals that are due are told.
 use Rattle.std.proofs.Common.{◌≡◌, ◌∙◌, sym, subst, rules}
 use Rattle.std.specs.List.{All}
-use Rattle.context_windows.specs.Held.{IsAlignedWith}
-use Rattle.context_windows.specs.Spans.{due_of}
+use Rattle.window_spans.specs.Held.{IsAlignedWith}
+use Rattle.window_spans.specs.Spans.{due_of}
 use Rattle.context_windows.proofs.Stretching.{marks_move_told}
 use Rattle.context_windows.proofs.mark_windows.MarkWindows.water.Goals as goal
 

@@ -3,10 +3,10 @@ use Rattle.std.proofs.Common.{◌≡◌, ◌∙◌, ◌++◌, refl, sym, subst, 
 use Rattle.std.specs.Prelude.{option_to_list}
 use Rattle.std.specs.List.{All}
 use Rattle.window_laws.proofs.Order.{All-split}
-use Rattle.context_windows.specs.Held.{IsAlignedWith}
+use Rattle.window_spans.specs.Held.{IsAlignedWith}
+use Rattle.window_spans.specs.Spans.{AreApart, asked_of, is_near}
+use Rattle.window_spans.proofs.Apart.{apart_filter}
 use Rattle.context_windows.specs.Spanned.{gap_at, window_at}
-use Rattle.context_windows.specs.Spans.{AreApart, asked_of, is_near}
-use Rattle.context_windows.proofs.Apart.{apart_filter}
 use Rattle.context_windows.proofs.Changing.{remembered}
 use Rattle.context_windows.proofs.sessions.Sessions.before.Goals as goal
 

@@ -3,10 +3,10 @@ use Rattle.std.proofs.Common.{◌≡◌, ◌∙◌, ap, sym, subst, rules}
 use Rattle.std.specs.Prelude.{max, nat_lt}
 use Rattle.std.specs.List.{filter}
 use Rattle.std.proofs.lemmas.Fn.{filter_same}
-use Rattle.context_windows.specs.declared.span.Span.{Span}
+use Rattle.window_spans.specs.declared.span.Span.{Span}
+use Rattle.window_spans.specs.Spans.{AreApart}
+use Rattle.window_spans.proofs.Apart.{apart_filter}
 use Rattle.context_windows.specs.Spanned.{Spanned}
-use Rattle.context_windows.specs.Spans.{AreApart}
-use Rattle.context_windows.proofs.Apart.{apart_filter}
 use Rattle.context_windows.proofs.Following.{follows_later}
 use Rattle.context_windows.proofs.sessions.Sessions.drop_settled.Goals as goal
 

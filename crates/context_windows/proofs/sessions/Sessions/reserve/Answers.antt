@@ -1,7 +1,7 @@
 -- The sessions near the time are apart as all are.
 use Rattle.std.proofs.Common.{subst, rules}
-use Rattle.context_windows.specs.Spans.{AreApart, is_near}
-use Rattle.context_windows.proofs.Apart.{apart_filter}
+use Rattle.window_spans.specs.Spans.{AreApart, is_near}
+use Rattle.window_spans.proofs.Apart.{apart_filter}
 use Rattle.context_windows.proofs.sessions.Sessions.reserve.Goals as goal
 
 pub first_standing-first-requires : goal.first_standing-first-requires

@@ -1,7 +1,7 @@
 -- The slices of the store part at the intervals that become complete.
 use Rattle.std.proofs.lemmas.List.Elements.{All-filter}
 use Rattle.agg_store.specs.Stored.{tuples_of}
-use Rattle.context_windows.specs.Spans.{is_due}
+use Rattle.window_spans.specs.Spans.{is_due}
 use Rattle.slice_tests.proofs.ContextFacts.{LiesBetween, edges_align, spans_lie}
 use Rattle.slice_tests.proofs.marks.MarksWindow.move_water.Goals as goal
 

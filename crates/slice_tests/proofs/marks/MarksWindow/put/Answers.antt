@@ -8,8 +8,8 @@ use Rattle.stream_base.specs.declared.kept.Kept.{Kept}
 use Rattle.stream_base.specs.Model.Journal.{put_in_order}
 use Rattle.slice_runs.specs.Slices.{kept_at}
 use Rattle.agg_store.specs.Stored.{tuples_of}
+use Rattle.window_spans.specs.Spans.{is_near, near_of, stands}
 use Rattle.context_windows.specs.Marked.{FollowsMarks, holder_in}
-use Rattle.context_windows.specs.Spans.{is_near, near_of, stands}
 use Rattle.slice_tests.specs.Together.{AreOfMarks}
 use Rattle.slice_tests.proofs.ContextFacts.{LiesBetween, edges_align, longer, marks_after_before, marks_stay, spans_lie, standing_lies, within_lies}
 use Rattle.slice_tests.proofs.marks.MarksWindow.put.Goals as goal

@@ -1,8 +1,0 @@
--- What ends by the time lies in front, and what starts at the gap behind it or later lies behind.
-use Rattle.context_windows.proofs.Searches.{near_at}
-use Rattle.context_windows.proofs.near.near.Goals as goal
-
-pub returns : goal.returns
-returns c = record {
-  places = near_at c.args.gap c.args.time c.requires.gap c.args.spans.now c.requires.apart c.ended_by-from.result c.begun_before-to.result c.ended_by-from.ensures c.begun_before-to.ensures;
-}

@@ -1,0 +1,10 @@
+pub mod Apart
+pub mod Searches
+pub mod Edits
+pub mod Counting
+pub mod Parts
+pub mod Holding
+pub mod MarkSides
+pub mod Filled
+pub mod Firsts
+pub mod Lasts

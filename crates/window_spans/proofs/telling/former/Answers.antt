@@ -1,0 +1,12 @@
+-- The count of the bundle is that of the tuples.
+use Rattle.std.proofs.Common.{◌∙◌, length, map}
+use Rattle.stream_base.specs.declared.kept.Kept.{Kept}
+use Rattle.window_spans.proofs.Counting.{count_shows}
+use Rattle.window_spans.proofs.telling.former.Goals as goal
+
+pub returns : goal.returns
+returns c = λ i is few.
+    let values = map (λ (x : Kept). x.value) i.chosen in
+    let number = c.count_of.ensures (length i.chosen) (c.show.ensures.shown values is ∙ count_shows i.chosen few) few in
+    let shown = c.show-2.ensures.shown values is in
+    λ j. record { number = number j; shown = shown j }

@@ -1,0 +1,5 @@
+pub mod Spans
+pub mod Telling
+pub mod Held
+pub mod Parted
+pub mod Ahead

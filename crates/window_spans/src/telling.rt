@@ -1,0 +1,303 @@
+//! How instances of one window are told from a store of slices.
+ghost use Rattle.std.specs.Prelude.{◌≡◌, ◌≤◌, ◌<◌, ◌+◌, ◌-◌, ◌*◌, ◌^◌, ◌++◌, ◌∷◌, [], ℕ, List, pos, filter, find, length, map, vec_len, vec_capacity, option_to_list};
+ghost use Rattle.stream_base.specs.declared.change.Change.TheVariants.{New};
+ghost use Rattle.stream_base.specs.Model.Changes.{former_of, row_of};
+ghost use Rattle.stream_base.specs.Model.Windows.{Instance};
+ghost use Rattle.aggregates.specs.Bundled.{bundle_of};
+ghost use Rattle.window_spans.specs.declared.standing.Standing.{Standing};
+ghost use Rattle.window_spans.specs.Held.{AreAlignedWith, AreHeld, IsAlignedWith, IsHeld};
+ghost use Rattle.window_spans.specs.Parted.{come_if, gone_if, shown_if};
+ghost use Rattle.window_spans.specs.Spans.{is_same_span, stands};
+ghost use Rattle.window_spans.specs.Telling.{as_standing, come_of, gone_of, row_for, told_as};
+
+use crate::joining::goes;
+use crate::span::Span;
+use crate::standing::Standing;
+use agg_laws::Steps;
+use agg_store::AggStore;
+use aggregates::Bundle;
+use stream_base::{Change, Former, Func, KeyText, Row, Shown};
+
+/// Whose instances are told: a window, by its place among the definitions, and a key.
+#[derive(Clone, Copy)]
+pub struct Teller<'a> {
+    pub window: u32,
+    pub key: &'a KeyText,
+}
+
+impl Teller<'_> {
+    fn row_for(&self, s: &Standing) -> Row
+        ensures { result ≡ row_for self.now.window self.now.key.now s.now }
+    {
+        Row {
+            window: self.window,
+            key: *self.key,
+            low: s.span.low,
+            high: s.span.high,
+            number: s.former.number,
+            shown: s.former.shown,
+        }
+    }
+
+    /// Tells one that stood as gone, unless the session that a tuple made stands over its span.
+    pub fn tell_gone(
+        &self,
+        stood: Option<Standing>,
+        joined: Span,
+        water: u64,
+        out: &mut Vec<Change>,
+    )
+        requires spare { length (gone_of self.now.window self.now.key.now water joined
+            (option_to_list stood))
+            ≤ vec_capacity out.old - vec_len out.old }
+        ensures items { out.new.items ≡ out.old.items
+            ++ gone_of self.now.window self.now.key.now water joined (option_to_list stood) }
+        ensures len { vec_len out.new ≡ vec_len out.old + length (gone_of self.now.window
+            self.now.key.now water joined (option_to_list stood)) }
+        ensures capacity { vec_capacity out.new ≡ vec_capacity out.old }
+    {
+        match stood {
+            Some(s) if goes(s.span, joined, water) => {
+                out.push_reserved(Change::Gone(self.row_for(&s)));
+            }
+            _ => {}
+        }
+    }
+
+    // Tells one that stands again, where one of two stood over its span, and else as new.
+    fn tell_come(
+        &self,
+        first: Option<Standing>,
+        second: Option<Standing>,
+        now: &Standing,
+        out: &mut Vec<Change>,
+    )
+        requires spare { 1 ≤ vec_capacity out.old - vec_len out.old }
+        ensures items { out.new.items ≡ out.old.items ++ told_as self.now.window self.now.key.now
+            now.now (find (λ s. is_same_span now.now.span s.span)
+            (option_to_list first ++ option_to_list second)) ∷ [] }
+        ensures len { vec_len out.new ≡ vec_len out.old + 1 }
+        ensures capacity { vec_capacity out.new ≡ vec_capacity out.old }
+    {
+        out.push_reserved(told_as(self.row_for(now), over(first, second, now.span)));
+    }
+
+    // Tells one that stands as new.
+    fn tell_new(&self, now: &Standing, out: &mut Vec<Change>)
+        requires spare { 1 ≤ vec_capacity out.old - vec_len out.old }
+        ensures items { out.new.items ≡ out.old.items
+            ++ New (row_for self.now.window self.now.key.now now.now) ∷ [] }
+        ensures len { vec_len out.new ≡ vec_len out.old + 1 }
+        ensures capacity { vec_capacity out.new ≡ vec_capacity out.old }
+    {
+        out.push_reserved(Change::New(self.row_for(now)));
+    }
+}
+
+// An update where an instance stood over the span, and else an emission.
+fn told_as(row: Row, before: Option<Standing>) -> Change
+    ensures { (window : ℕ) (key : List ℕ) (now : Standing) → row ≡ row_for window key now
+        → result ≡ told_as window key now before }
+{
+    match before {
+        Some(before) => Change::Again {
+            row,
+            former: before.former,
+        },
+        None => Change::New(row),
+    }
+}
+
+// The one of two that stood over a span.
+fn over(first: Option<Standing>, second: Option<Standing>, span: Span) -> Option<Standing>
+    ensures { result ≡ find (λ s. is_same_span span s.span)
+        (option_to_list first ++ option_to_list second) }
+{
+    match first {
+        Some(s) if is_same(span, s.span) => Some(s),
+        _ => over_one(second, span),
+    }
+}
+
+fn over_one(stood: Option<Standing>, span: Span) -> Option<Standing>
+    ensures { result ≡ find (λ s. is_same_span span s.span) (option_to_list stood) }
+{
+    match stood {
+        Some(s) if is_same(span, s.span) => Some(s),
+        _ => None,
+    }
+}
+
+fn is_same(first: Span, second: Span) -> bool
+    ensures { result ≡ is_same_span first second }
+{
+    first.low == second.low && first.high == second.high
+}
+
+// What the instance over a span shows, by the fold of its slices.
+pub fn standing<S: AggStore, L>(store: &S, span: Span, func: Func, steps: &mut Steps<L>) -> Standing
+    requires { IsAlignedWith (S.stored store.now).slices span }
+    ensures span { result.span ≡ span }
+    ensures value { (i : Instance) → IsHeld span (S.stored store.now) i
+        → result ≡ as_standing func i }
+    ensures cost { steps.new ≤ steps.old + 64 * ((S.stored store.now).reach + 2) }
+{
+    let bundle = store.fold(span.low, span.high, steps);
+    Standing {
+        span,
+        former: former(&bundle, func),
+    }
+}
+
+// What a bundle shows, and of how many values.
+fn former(bundle: &Bundle, func: Func) -> Former
+    ensures { (i : Instance) → bundle.now ≡ bundle_of (map (λ x. x.value) i.chosen)
+        → length i.chosen < 2 ^ 64 → result ≡ former_of func i }
+{
+    Former {
+        number: count_of(bundle.show(Func::Count)),
+        shown: bundle.show(func),
+    }
+}
+
+fn count_of(shown: Shown) -> u64
+    ensures { (n : ℕ) → shown ≡ Shown.Whole (pos n) → n < 2 ^ 64 → result ≡ n }
+{
+    match shown {
+        Shown::Whole(count) => u64::try_from(count).unwrap_or(0),
+        Shown::Ratio { .. } => 0,
+    }
+}
+
+/// Tells the session that a tuple made, if it stands: again, where one of two stood over its span,
+/// and else as new.
+pub fn tell_joined<S: AggStore, L>(
+    teller: &Teller,
+    store: &S,
+    first: Option<Standing>,
+    second: Option<Standing>,
+    joined: Span,
+    water: u64,
+    func: Func,
+    out: &mut Vec<Change>,
+    steps: &mut Steps<L>,
+)
+    requires aligned { AreAlignedWith (S.stored store.now).slices
+        (filter (stands water) (joined ∷ [])) }
+    requires spare { length (filter (stands water) (joined ∷ []))
+        ≤ vec_capacity out.old - vec_len out.old }
+    ensures told { (i : Instance) → IsHeld joined (S.stored store.now) i
+        → out.new.items ≡ out.old.items
+        ++ come_of teller.now.window teller.now.key.now water
+        (option_to_list first ++ option_to_list second) (as_standing func i) }
+    ensures len { vec_len out.new
+        ≡ vec_len out.old + length (filter (stands water) (joined ∷ [])) }
+    ensures capacity { vec_capacity out.new ≡ vec_capacity out.old }
+    ensures cost { steps.new ≤ steps.old
+        + 64 * ((S.stored store.now).reach + 2) * length (filter (stands water) (joined ∷ [])) }
+{
+    if joined.high <= water {
+        let now = standing(store, joined, func, steps);
+        teller.tell_come(first, second, &now, out);
+    }
+}
+
+/// Tells all instances over some spans as new.
+pub fn tell_all<S: AggStore, L>(
+    teller: &Teller,
+    store: &S,
+    spans: &[Span],
+    func: Func,
+    out: &mut Vec<Change>,
+    steps: &mut Steps<L>,
+)
+    requires aligned { AreAlignedWith (S.stored store.now).slices spans.now }
+    requires spare { length spans.now ≤ vec_capacity out.old - vec_len out.old }
+    ensures told { (is : List Instance) → AreHeld spans.now (S.stored store.now) is → out.new.items
+        ≡ out.old.items
+        ++ map (λ i. New (row_of teller.now.window teller.now.key.now func i)) is }
+    ensures len { vec_len out.new ≡ vec_len out.old + length spans.now }
+    ensures capacity { vec_capacity out.new ≡ vec_capacity out.old }
+    ensures cost { steps.new
+        ≤ steps.old + 64 * ((S.stored store.now).reach + 2) * (vec_len out.new - vec_len out.old) }
+{
+    for span in spans {
+        let now = standing(store, *span, func, steps);
+        teller.tell_new(&now, out);
+    }
+}
+
+/// What the instance over a span shows, if there is one.
+pub fn ask<S: AggStore, L>(
+    store: &S,
+    span: Option<Span>,
+    func: Func,
+    steps: &mut Steps<L>,
+) -> Option<Standing>
+    requires { AreAlignedWith (S.stored store.now).slices (option_to_list span) }
+    ensures span { map (λ s. s.span) (option_to_list result) ≡ option_to_list span }
+    ensures value { (is : List Instance) → AreHeld (option_to_list span) (S.stored store.now) is
+        → option_to_list result ≡ map (as_standing func) is }
+    ensures cost { steps.new
+        ≤ steps.old + 64 * ((S.stored store.now).reach + 2) * length (option_to_list result) }
+{
+    match span {
+        Some(span) => Some(standing(store, span, func, steps)),
+        None => None,
+    }
+}
+
+/// Tells the interval over a span as gone, if it stands.
+pub fn tell_taken<S: AggStore, L>(
+    teller: &Teller,
+    store: &S,
+    span: Span,
+    water: u64,
+    func: Func,
+    out: &mut Vec<Change>,
+    steps: &mut Steps<L>,
+)
+    requires aligned { IsAlignedWith (S.stored store.now).slices span }
+    requires spare { length (filter (stands water) (span ∷ []))
+        ≤ vec_capacity out.old - vec_len out.old }
+    ensures told { (i : Instance) → IsHeld span (S.stored store.now) i → i.bound ≡ i.high
+        → out.new.items ≡ out.old.items
+        ++ gone_if teller.now.window teller.now.key.now func water i }
+    ensures len { vec_len out.new ≡ vec_len out.old + length (filter (stands water) (span ∷ [])) }
+    ensures capacity { vec_capacity out.new ≡ vec_capacity out.old }
+    ensures cost { steps.new ≤ steps.old
+        + 64 * ((S.stored store.now).reach + 2) * (vec_len out.new - vec_len out.old) }
+{
+    if span.high <= water {
+        let was = standing(store, span, func, steps);
+        out.push_reserved(Change::Gone(teller.row_for(&was)));
+    }
+}
+
+/// Tells the interval over a span as new, if it has a tuple and stands.
+pub fn tell_part<S: AggStore, L>(
+    teller: &Teller,
+    store: &S,
+    span: Span,
+    filled: bool,
+    water: u64,
+    func: Func,
+    out: &mut Vec<Change>,
+    steps: &mut Steps<L>,
+)
+    requires aligned { IsAlignedWith (S.stored store.now).slices span }
+    requires spare { length (shown_if filled water span)
+        ≤ vec_capacity out.old - vec_len out.old }
+    ensures told { (i : Instance) → IsHeld span (S.stored store.now) i
+        → out.new.items ≡ out.old.items
+        ++ come_if teller.now.window teller.now.key.now func filled water i }
+    ensures len { vec_len out.new ≡ vec_len out.old + length (shown_if filled water span) }
+    ensures capacity { vec_capacity out.new ≡ vec_capacity out.old }
+    ensures cost { steps.new ≤ steps.old
+        + 64 * ((S.stored store.now).reach + 2) * (vec_len out.new - vec_len out.old) }
+{
+    if filled && span.high <= water {
+        let now = standing(store, span, func, steps);
+        teller.tell_new(&now, out);
+    }
+}
