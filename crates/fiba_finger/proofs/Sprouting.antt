@@ -11,7 +11,7 @@ use Rattle.fiba_arena.specs.Roots.{IsChanged}
 use Rattle.fiba_arena.proofs.Opened.{no_pairs}
 use Rattle.fiba_arena.proofs.Planting.{weigh_low}
 use Rattle.fiba_arena.proofs.Sound.{weight_of}
-use Rattle.fiba_finger.proofs.Edges.{opens}
+use Rattle.fiba_spine.proofs.Edges.{opens}
 
 module _ {M : Type 0} where
   tally_none : (w : ℕ → ℕ) (look : Look M) (slots : List (Slot M)) (last : ℕ) → tally (weigh w look 0) slots last ≡ 0

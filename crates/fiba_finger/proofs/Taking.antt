@@ -10,8 +10,8 @@ use Rattle.fiba_arena.specs.Stores.{Store}
 use Rattle.fiba_arena.specs.Trees.{pair_of, pairs_at, plain}
 use Rattle.fiba_arena.specs.Changes.{Applies, CanApply}
 use Rattle.fiba_arena.specs.Roots.{CanChange, IsChanged, IsPlanted}
-use Rattle.fiba_finger.specs.Pulls.{IsDrained, IsPulled}
-use Rattle.fiba_finger.proofs.Pulling.{taken_some}
+use Rattle.fiba_spine.specs.Pulls.{IsDrained, IsPulled}
+use Rattle.fiba_spine.proofs.Pulling.{taken_some}
 
 module _ {M : Type 0} where
   same_item : (x y : Item M) → pair_of x ≡ pair_of y → x ≡ y

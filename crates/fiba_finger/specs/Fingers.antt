@@ -4,7 +4,7 @@ use Rattle.fiba_arena.specs.declared.root.Root.{Root}
 use Rattle.fiba_arena.specs.Stores.{Store}
 use Rattle.fiba_arena.specs.Trees.{plain, size}
 use Rattle.fiba_arena.specs.Arena.{IsArena}
-use Rattle.fiba_finger.specs.Edges.{edge, left_edge}
+use Rattle.fiba_spine.specs.Edges.{edge, left_edge}
 
 -- its pairs, for how many more there is room, its height, how many nodes it has, and how many nodes of its store are full, with three items
 pub record Fingers (M : Type 0) : Type 0 where

@@ -1,4 +1,1 @@
-pub mod Edges
-pub mod Climbs
 pub mod Fingers
-pub mod Pulls

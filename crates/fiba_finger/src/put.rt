@@ -5,16 +5,13 @@ ghost use Rattle.fiba_arena.specs.Stores.{full_nodes};
 ghost use Rattle.fiba_arena.specs.Changes.{is_first};
 ghost use Rattle.fiba_arena.specs.Roots.{CanChange, IsTree};
 ghost use Rattle.fiba_arena.specs.declared.change.Change.TheVariants.{Insert};
-ghost use Rattle.fiba_finger.specs.Climbs.{IsPut, distance};
+ghost use Rattle.fiba_spine.specs.Climbs.{IsPut, distance};
 ghost use Rattle.fiba_finger.specs.Fingers.{IsFinger, IsFront};
 
-use crate::climb::climb;
-use crate::climbed::Climbed;
-use crate::edge::{leftmost, right_place, rightmost};
 use crate::grown::Grown;
-use crate::raise::raise;
 use agg_laws::{Monoid, Probes, Steps};
 use fiba_arena::{Change, Item, Nodes, Root, change_root};
+use fiba_spine::{Climbed, climb, leftmost, raise, right_place, rightmost};
 
 /// A tree after an insertion, its first and its last leaf, and what the insertion did.
 #[derive(Clone, Copy)]

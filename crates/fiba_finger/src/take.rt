@@ -6,10 +6,9 @@ ghost use Rattle.fiba_arena.specs.Roots.{CanChange, IsChanged};
 ghost use Rattle.fiba_arena.specs.declared.change.Change.TheVariants.{Remove};
 ghost use Rattle.fiba_finger.specs.Fingers.{IsFront};
 
-use crate::edge::right_place;
-use crate::pull::pull;
 use agg_laws::{Monoid, Probes, Steps};
 use fiba_arena::{Change, Changed, Item, Nodes, Open, Root, Row, change_root, plant};
+use fiba_spine::{pull, right_place};
 
 /// Takes the item with a key out of a tree, if there is one: along the left edge where it is the
 /// first item, and else on the way from the root. At most 16 steps a level, and 16.

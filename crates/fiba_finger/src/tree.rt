@@ -1,14 +1,14 @@
 ghost use Rattle.std.specs.Prelude.{◌≡◌, ◌≤◌, ◌<◌, ◌+◌, ◌-◌, ◌*◌, ◌^◌, ◌↔◌, [], length, None, IsTrue, OnOk, false};
 ghost use Rattle.agg_laws.specs.Laws.{total};
 ghost use Rattle.agg_laws.specs.Pairs.{AreRising, has_key, inserted, least_key, replaced, within, values_of, value_at, without};
-ghost use Rattle.fiba_finger.specs.Climbs.{distance};
+ghost use Rattle.fiba_spine.specs.Climbs.{distance};
 
-use crate::edge::right_place;
 use crate::grown::Grown;
 use crate::put::{end_of, put_near, start_of};
 use crate::take::take;
 use agg_laws::{AggTree, Monoid, Probes, Steps};
 use fiba_arena::{Bound, Change, Item, Nodes, Root, change_root, fold_span};
+use fiba_spine::right_place;
 use std::alloc::Global;
 use std::marker::Model;
 use stream_base::NoMemory;

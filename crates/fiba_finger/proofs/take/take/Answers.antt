@@ -5,7 +5,7 @@ use Rattle.fiba_arena.specs.Trees.{IsAt, pair_of, pairs_at, plain, vacancy}
 use Rattle.fiba_arena.specs.Roots.{CanChange}
 use Rattle.fiba_arena.specs.declared.change.Change.TheVariants.{Remove}
 use Rattle.fiba_arena.proofs.Opened.{is_some}
-use Rattle.fiba_finger.proofs.Lefts.{IsLeast, least_of, left_least}
+use Rattle.fiba_spine.proofs.Lefts.{IsLeast, least_of, left_least}
 use Rattle.fiba_finger.proofs.take.take.Goals as goal
 
 pub peek-requires : goal.peek-requires

@@ -4,7 +4,7 @@ use Rattle.std.specs.Prelude.{slice_get}
 use Rattle.fiba_arena.specs.Trees.{IsAt, pair_of, pairs_at, plain, vacancy}
 use Rattle.fiba_arena.proofs.Tops.{key_of_first}
 use Rattle.fiba_arena.proofs.Opened.{is_some, no_pairs}
-use Rattle.fiba_finger.proofs.Lefts.{IsLeast, least_of, left_least}
+use Rattle.fiba_spine.proofs.Lefts.{IsLeast, least_of, left_least}
 use Rattle.fiba_finger.proofs.tree.FingerTreeAggTree.first_key.Goals as goal
 
 pub returns-then-self-eq0-clause-least : goal.returns-then-self-eq0-clause-least

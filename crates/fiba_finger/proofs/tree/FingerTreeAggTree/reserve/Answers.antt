@@ -1,7 +1,7 @@
 -- The nodes stay, and there is room for more.
 use Rattle.std.proofs.Common.{true, arith, ap, sym, ◌∙◌}
 use Rattle.fiba_arena.specs.Trees.{plain}
-use Rattle.fiba_finger.specs.Edges.{edge, left_edge}
+use Rattle.fiba_spine.specs.Edges.{edge, left_edge}
 use Rattle.fiba_arena.proofs.Fullness.{full_kept}
 use Rattle.fiba_arena.proofs.Tops.{arena_roomier, size_kept}
 use Rattle.fiba_finger.proofs.tree.FingerTreeAggTree.reserve.Goals as goal

@@ -1,0 +1,6 @@
+pub mod Edges
+pub mod Climbing
+pub mod Regrown
+pub mod Pulling
+pub mod Raising
+pub mod Lefts
