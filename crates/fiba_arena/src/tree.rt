@@ -1,19 +1,12 @@
 ghost use Rattle.std.specs.Prelude.{◌≡◌, ◌≤◌, ◌<◌, ◌+◌, ◌-◌, ◌*◌, ◌^◌, ◌↔◌, [], length, None, Some, IsTrue, false, suc, slice_get};
 ghost use Rattle.agg_laws.specs.Laws.{total};
 ghost use Rattle.agg_laws.specs.Pairs.{AreRising, has_key, inserted, replaced, within, values_of, value_at, without};
-ghost use Rattle.fiba_arena.specs.Trees.{IsAt, pair_of, pairs_at, plain};
-ghost use Rattle.fiba_arena.specs.Changes.{pairs_of};
+ghost use Rattle.fiba_nodes.specs.Trees.{IsAt, pair_of, pairs_at, plain};
+ghost use Rattle.fiba_changes.specs.Changes.{pairs_of};
 
-use crate::bound::Bound;
-use crate::change::Change;
-use crate::item::Item;
-use crate::least::first_item;
-use crate::nodes::Nodes;
-use crate::place::Place;
-use crate::root::Root;
-use crate::rooting::change_root;
-use crate::spans::fold_span;
 use agg_laws::{AggTree, Monoid, Probes, Steps};
+use fiba_changes::{Change, Root, change_root, first_item, fold_span};
+use fiba_nodes::{Bound, Item, Nodes, Place};
 use std::alloc::Global;
 use std::marker::Model;
 use stream_base::NoMemory;
@@ -34,7 +27,7 @@ pub struct ArenaTree<M: Monoid> {
 
 impl<M: Monoid> Model for ArenaTree<M> {
     ghost use Rattle.std.specs.Prelude.{◌-◌, false};
-    ghost use Rattle.fiba_arena.specs.Arena.{Arena, IsArena, pairs_in};
+    ghost use Rattle.fiba_changes.specs.Arena.{Arena, IsArena, pairs_in};
 
     ghost Value = { Arena M };
 

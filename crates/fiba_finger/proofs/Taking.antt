@@ -2,14 +2,14 @@
 use Rattle.std.proofs.Common.{◌≡◌, ◌≤◌, ◌==◌, ◌-◌, ◌++◌, ℕ, suc, true, List, [], ◌∷◌, Option, None, Some, refl, sym, ap, subst, ◌∙◌, arith}
 use Rattle.std.specs.Prelude.{slice_get}
 use Rattle.std.proofs.lemmas.Bool.Decides.{nat_tests}
-use Rattle.fiba_arena.specs.declared.item.Item.{Item}
-use Rattle.fiba_arena.specs.declared.root.Root.{Root}
-use Rattle.fiba_arena.specs.declared.change.Change.TheVariants.{Remove, First}
-use Rattle.fiba_arena.specs.Arena.{pairs_in}
-use Rattle.fiba_arena.specs.Stores.{Store}
-use Rattle.fiba_arena.specs.Trees.{pair_of, pairs_at, plain}
-use Rattle.fiba_arena.specs.Changes.{Applies, CanApply}
-use Rattle.fiba_arena.specs.Roots.{CanChange, IsChanged, IsPlanted}
+use Rattle.fiba_nodes.specs.declared.item.Item.{Item}
+use Rattle.fiba_changes.specs.declared.root.Root.{Root}
+use Rattle.fiba_changes.specs.declared.change.Change.TheVariants.{Remove, First}
+use Rattle.fiba_changes.specs.Arena.{pairs_in}
+use Rattle.fiba_nodes.specs.Stores.{Store}
+use Rattle.fiba_nodes.specs.Trees.{pair_of, pairs_at, plain}
+use Rattle.fiba_changes.specs.Changes.{Applies, CanApply}
+use Rattle.fiba_changes.specs.Roots.{CanChange, IsChanged, IsPlanted}
 use Rattle.fiba_spine.specs.Pulls.{IsDrained, IsPulled}
 use Rattle.fiba_spine.proofs.Pulling.{taken_some}
 

@@ -1,9 +1,9 @@
 -- What a tree with a finger at both ends is in contracts, and what it keeps.
 use Rattle.std.specs.Prelude.{◌≡◌, ℕ, suc, true, List}
-use Rattle.fiba_arena.specs.declared.root.Root.{Root}
-use Rattle.fiba_arena.specs.Stores.{Store}
-use Rattle.fiba_arena.specs.Trees.{plain, size}
-use Rattle.fiba_arena.specs.Arena.{IsArena}
+use Rattle.fiba_changes.specs.declared.root.Root.{Root}
+use Rattle.fiba_nodes.specs.Stores.{Store}
+use Rattle.fiba_nodes.specs.Trees.{plain, size}
+use Rattle.fiba_changes.specs.Arena.{IsArena}
 use Rattle.fiba_spine.specs.Edges.{edge, left_edge}
 
 -- its pairs, for how many more there is room, its height, how many nodes it has, and how many nodes of its store are full, with three items

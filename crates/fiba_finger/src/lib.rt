@@ -2,8 +2,8 @@
 //! late tuple costs what its distance asks for: the finger B-tree of Tangwongsan, Hirzel,
 //! Schneider, "Optimal and general out-of-order sliding-window aggregation", VLDB 2019.
 //!
-//! *Stands on* `agg_laws`, on `fiba_arena`, whose nodes and functions it shares with the arena tree,
-//! and on `fiba_spine` for the ways along the edges.
+//! *Stands on* `agg_laws`, on `fiba_nodes` and `fiba_changes`, which it shares with the arena tree, and
+//! on `fiba_spine` for the ways along the edges.
 //! *Promise*: a finger tree is its list of pairs with rising keys, and an insertion touches only the
 //! levels that it climbs or splits.
 #![tactic(auto)]

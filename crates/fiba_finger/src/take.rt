@@ -1,13 +1,14 @@
 ghost use Rattle.std.specs.Prelude.{◌≡◌, ◌≤◌, ◌<◌, ◌+◌, ◌*◌, ◌^◌, true, Some, slice_get};
-ghost use Rattle.fiba_arena.specs.Arena.{pairs_in};
-ghost use Rattle.fiba_arena.specs.Stores.{full_nodes};
-ghost use Rattle.fiba_arena.specs.Trees.{pair_of};
-ghost use Rattle.fiba_arena.specs.Roots.{CanChange, IsChanged};
-ghost use Rattle.fiba_arena.specs.declared.change.Change.TheVariants.{Remove};
+ghost use Rattle.fiba_changes.specs.Arena.{pairs_in};
+ghost use Rattle.fiba_nodes.specs.Stores.{full_nodes};
+ghost use Rattle.fiba_nodes.specs.Trees.{pair_of};
+ghost use Rattle.fiba_changes.specs.Roots.{CanChange, IsChanged};
+ghost use Rattle.fiba_changes.specs.declared.change.Change.TheVariants.{Remove};
 ghost use Rattle.fiba_finger.specs.Fingers.{IsFront};
 
 use agg_laws::{Monoid, Probes, Steps};
-use fiba_arena::{Change, Changed, Item, Nodes, Open, Root, Row, change_root, plant};
+use fiba_changes::{Change, Changed, Root, change_root, plant};
+use fiba_nodes::{Item, Nodes, Open, Row};
 use fiba_spine::{pull, right_place};
 
 /// Takes the item with a key out of a tree, if there is one: along the left edge where it is the

@@ -7,7 +7,8 @@ use crate::grown::Grown;
 use crate::put::{end_of, put_near, start_of};
 use crate::take::take;
 use agg_laws::{AggTree, Monoid, Probes, Steps};
-use fiba_arena::{Bound, Change, Item, Nodes, Root, change_root, fold_span};
+use fiba_changes::{Change, Root, change_root, fold_span};
+use fiba_nodes::{Bound, Item, Nodes};
 use fiba_spine::right_place;
 use std::alloc::Global;
 use std::marker::Model;
@@ -33,8 +34,8 @@ pub struct FingerTree<M: Monoid> {
 
 impl<M: Monoid> Model for FingerTree<M> {
     ghost use Rattle.std.specs.Prelude.{◌-◌};
-    ghost use Rattle.fiba_arena.specs.Arena.{pairs_in};
-    ghost use Rattle.fiba_arena.specs.Stores.{full_nodes};
+    ghost use Rattle.fiba_changes.specs.Arena.{pairs_in};
+    ghost use Rattle.fiba_nodes.specs.Stores.{full_nodes};
     ghost use Rattle.fiba_finger.specs.Fingers.{Fingers, IsFingered, nodes_in};
 
     ghost Value = { Fingers M };

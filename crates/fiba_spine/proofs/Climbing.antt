@@ -7,16 +7,16 @@ use Rattle.std.proofs.lemmas.List.Elements.{All-head, All-tail, All-nil, All-wea
 use Rattle.std.proofs.lemmas.Bool.Decides.{nat_tests}
 use Rattle.agg_laws.specs.Pairs.{AreRising, has_key}
 use Rattle.agg_laws.proofs.RisingPairs.{rising_first, rising_second}
-use Rattle.fiba_arena.specs.declared.root.Root.{Root}
-use Rattle.fiba_arena.specs.declared.slot.Slot.{Slot}
-use Rattle.fiba_arena.specs.declared.node.Node.{Node}
-use Rattle.fiba_arena.specs.Rows.{plain_node, slots_of}
-use Rattle.fiba_arena.specs.Stores.{Store, look}
-use Rattle.fiba_arena.specs.Trees.{IsAt, pair_of, pairs_at, plain, ups}
-use Rattle.fiba_arena.specs.Places.{EndsIn}
-use Rattle.fiba_arena.specs.Roots.{IsTree}
-use Rattle.fiba_arena.specs.Arena.{pairs_in}
-use Rattle.fiba_arena.proofs.Tops.{all_behind, all_under, tall}
+use Rattle.fiba_changes.specs.declared.root.Root.{Root}
+use Rattle.fiba_nodes.specs.declared.slot.Slot.{Slot}
+use Rattle.fiba_nodes.specs.declared.node.Node.{Node}
+use Rattle.fiba_nodes.specs.Rows.{plain_node, slots_of}
+use Rattle.fiba_nodes.specs.Stores.{Store, look}
+use Rattle.fiba_nodes.specs.Trees.{IsAt, pair_of, pairs_at, plain, ups}
+use Rattle.fiba_nodes.specs.Places.{EndsIn}
+use Rattle.fiba_changes.specs.Roots.{IsTree}
+use Rattle.fiba_changes.specs.Arena.{pairs_in}
+use Rattle.fiba_changes.proofs.Tops.{all_behind, all_under, tall}
 use Rattle.fiba_spine.specs.Edges.{ahead, edge}
 use Rattle.fiba_spine.specs.Climbs.{IsClimbed, IsReached, distance}
 use Rattle.fiba_spine.proofs.Edges.{ahead_last, ahead_zero, edge_pairs, edge_sound, edge_up, left_at}

@@ -3,18 +3,18 @@ use Rattle.std.proofs.Common.{◌≡◌, ◌≤◌, ◌<◌, ◌+◌, ◌-◌, �
 use Rattle.std.specs.Prelude.{slice_get}
 use Rattle.std.specs.List.{All}
 use Rattle.std.proofs.lemmas.List.Elements.{All-head, All-tail, All-cons, All-nil}
-use Rattle.fiba_arena.specs.declared.slot.Slot.{Slot}
-use Rattle.fiba_arena.specs.declared.change.Change.{Change}
-use Rattle.fiba_arena.specs.Rows.{Plain}
-use Rattle.fiba_arena.specs.Stores.{Store}
-use Rattle.fiba_arena.specs.Trees.{HasUp, IsAt, IsLinked, KidsAt, Look, pair_of, pairs_at, plain, ups, vacancy}
-use Rattle.fiba_arena.specs.Kids.{before, behind, kid_of, left_of, right_of}
-use Rattle.fiba_arena.specs.Changes.{IsRank, stands_before}
-use Rattle.fiba_arena.proofs.Sound.{node_of, pairs_of, there}
-use Rattle.fiba_arena.proofs.Kids.{kids-around, woven-around}
-use Rattle.fiba_arena.proofs.Lists.{append_none}
-use Rattle.fiba_arena.proofs.Links.{last_at}
-use Rattle.fiba_arena.proofs.Changing.{before_item}
+use Rattle.fiba_nodes.specs.declared.slot.Slot.{Slot}
+use Rattle.fiba_changes.specs.declared.change.Change.{Change}
+use Rattle.fiba_nodes.specs.Rows.{Plain}
+use Rattle.fiba_nodes.specs.Stores.{Store}
+use Rattle.fiba_nodes.specs.Trees.{HasUp, IsAt, IsLinked, KidsAt, Look, pair_of, pairs_at, plain, ups, vacancy}
+use Rattle.fiba_nodes.specs.Kids.{before, behind, kid_of, left_of, right_of}
+use Rattle.fiba_changes.specs.Changes.{IsRank, stands_before}
+use Rattle.fiba_nodes.proofs.Sound.{node_of, pairs_of, there}
+use Rattle.fiba_nodes.proofs.Kids.{kids-around, woven-around}
+use Rattle.fiba_nodes.proofs.Lists.{append_none}
+use Rattle.fiba_nodes.proofs.Links.{last_at}
+use Rattle.fiba_changes.proofs.Changing.{before_item}
 use Rattle.fiba_spine.specs.Edges.{ahead, edge}
 
 -- whether a node so many levels below is on the left edge

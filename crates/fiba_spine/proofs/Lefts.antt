@@ -2,17 +2,17 @@
 use Rattle.std.proofs.Common.{◌≡◌, ◌≤◌, ◌+◌, ℕ, zero, suc, Bool, false, true, List, [], ◌∷◌, Option, None, Some, length, refl, sym, ap, ◌∙◌, arith}
 use Rattle.std.specs.Prelude.{slice_get}
 use Rattle.std.specs.Option.{option_map}
-use Rattle.fiba_arena.specs.declared.slot.Slot.{Slot}
-use Rattle.fiba_arena.specs.declared.node.Node.{Node}
-use Rattle.fiba_arena.specs.Rows.{Plain, plain_node, slots_of}
-use Rattle.fiba_arena.specs.Stores.{Store, look}
-use Rattle.fiba_arena.specs.Trees.{IsAt, Look, Owned, only, pair_of, pairs_at, plain, tally, times, vacancy, weigh}
-use Rattle.fiba_arena.specs.Kids.{kid_of}
-use Rattle.fiba_arena.proofs.Frames.{Keeps}
-use Rattle.fiba_arena.proofs.Linked.{root_counted}
-use Rattle.fiba_arena.proofs.Opened.{no_pairs}
-use Rattle.fiba_arena.proofs.Sound.{node_of, only_self, there}
-use Rattle.fiba_arena.proofs.Tops.{least_below, least_here, least_kid, pairs_eq}
+use Rattle.fiba_nodes.specs.declared.slot.Slot.{Slot}
+use Rattle.fiba_nodes.specs.declared.node.Node.{Node}
+use Rattle.fiba_nodes.specs.Rows.{Plain, plain_node, slots_of}
+use Rattle.fiba_nodes.specs.Stores.{Store, look}
+use Rattle.fiba_nodes.specs.Trees.{IsAt, Look, Owned, only, pair_of, pairs_at, plain, tally, times, vacancy, weigh}
+use Rattle.fiba_nodes.specs.Kids.{kid_of}
+use Rattle.fiba_nodes.proofs.Frames.{Keeps}
+use Rattle.fiba_nodes.proofs.Linked.{root_counted}
+use Rattle.fiba_nodes.proofs.Opened.{no_pairs}
+use Rattle.fiba_nodes.proofs.Sound.{node_of, only_self, there}
+use Rattle.fiba_changes.proofs.Tops.{least_below, least_here, least_kid, pairs_eq}
 use Rattle.fiba_spine.specs.Edges.{edge, left_edge}
 use Rattle.fiba_spine.proofs.Edges.{edge_suc, edge_zero, opens, some_node}
 

@@ -4,23 +4,23 @@ use Rattle.std.specs.Prelude.{IfSome, IfNone, slice_index}
 use Rattle.std.specs.Option.{option_map}
 use Rattle.agg_laws.specs.Laws.{total}
 use Rattle.agg_laws.specs.Pairs.{values_of}
-use Rattle.fiba_arena.specs.declared.slot.Slot.{Slot}
-use Rattle.fiba_arena.specs.declared.item.Item.{Item}
-use Rattle.fiba_arena.specs.declared.node.Node.{Node}
-use Rattle.fiba_arena.specs.declared.change.Change.TheVariants.{First}
-use Rattle.fiba_arena.specs.Rows.{last_of, more_slots, plain_node, slots_of}
-use Rattle.fiba_arena.specs.Stores.{Store, full_nodes, held, look}
-use Rattle.fiba_arena.specs.Trees.{HasUp, IsAt, IsLinked, IsNode, KidsAt, Moves, only, pair_of, pairs_at, plain, row_times, tally, times, vacancy, weigh, woven}
-use Rattle.fiba_arena.specs.Kids.{kid_of, left_of, right_of}
-use Rattle.fiba_arena.proofs.Fullness.{fullness_few, held_few}
-use Rattle.fiba_arena.specs.Changes.{Applies, CanApply, IsApplied, IsPassed, IsRank, incoming, leaf_pairs, pairs_of}
-use Rattle.fiba_arena.proofs.Frames.{SameRow}
-use Rattle.fiba_arena.proofs.Sound.{moves-then, node_of, only_self, tree_of, weight_of}
-use Rattle.fiba_arena.proofs.Sound as sound
-use Rattle.fiba_arena.proofs.Linked.{root_counted, tree_linked}
-use Rattle.fiba_arena.proofs.Writes.{row_beside}
-use Rattle.fiba_arena.proofs.Nesting.{few_slots}
-use Rattle.fiba_arena.proofs.Below.{applied_leaf}
+use Rattle.fiba_nodes.specs.declared.slot.Slot.{Slot}
+use Rattle.fiba_nodes.specs.declared.item.Item.{Item}
+use Rattle.fiba_nodes.specs.declared.node.Node.{Node}
+use Rattle.fiba_changes.specs.declared.change.Change.TheVariants.{First}
+use Rattle.fiba_nodes.specs.Rows.{last_of, more_slots, plain_node, slots_of}
+use Rattle.fiba_nodes.specs.Stores.{Store, full_nodes, held, look}
+use Rattle.fiba_nodes.specs.Trees.{HasUp, IsAt, IsLinked, IsNode, KidsAt, Moves, only, pair_of, pairs_at, plain, row_times, tally, times, vacancy, weigh, woven}
+use Rattle.fiba_nodes.specs.Kids.{kid_of, left_of, right_of}
+use Rattle.fiba_nodes.proofs.Fullness.{fullness_few, held_few}
+use Rattle.fiba_changes.specs.Changes.{Applies, CanApply, IsApplied, IsPassed, IsRank, incoming, leaf_pairs, pairs_of}
+use Rattle.fiba_nodes.proofs.Frames.{SameRow}
+use Rattle.fiba_nodes.proofs.Sound.{moves-then, node_of, only_self, tree_of, weight_of}
+use Rattle.fiba_nodes.proofs.Sound as sound
+use Rattle.fiba_nodes.proofs.Linked.{root_counted, tree_linked}
+use Rattle.fiba_nodes.proofs.Writes.{row_beside}
+use Rattle.fiba_nodes.proofs.Nesting.{few_slots}
+use Rattle.fiba_changes.proofs.Below.{applied_leaf}
 use Rattle.std.proofs.lemmas.List.Elements.{All-tail}
 use Rattle.fiba_spine.specs.Pulls.{IsBare, IsDrained, IsKept, IsPulled}
 use Rattle.fiba_spine.proofs.Regrown.{up_stays}

@@ -5,26 +5,26 @@ use Rattle.std.specs.Option.{option_map}
 use Rattle.std.proofs.lemmas.Bool.{cases_eq}
 use Rattle.std.proofs.lemmas.Bool.Decides.{nat_tests}
 use Rattle.std.proofs.lemmas.List.Elements.{All-append, All-nil}
-use Rattle.fiba_arena.specs.declared.root.Root.{Root}
-use Rattle.fiba_arena.specs.declared.slot.Slot.{Slot}
-use Rattle.fiba_arena.specs.declared.node.Node.{Node}
-use Rattle.fiba_arena.specs.declared.item.Item.{Item}
-use Rattle.fiba_arena.specs.declared.change.Change.{Change}
-use Rattle.fiba_arena.specs.Rows.{Plain, last_of, plain_node, slots_of}
-use Rattle.fiba_arena.specs.Stores.{Store, full_nodes, fullness, held, look}
-use Rattle.fiba_arena.specs.Trees.{IsAt, IsOpened, IsWritten, Look, Moves, Owned, only, pairs_at, plain, row_times, size, times, ups, woven}
-use Rattle.fiba_arena.specs.Kids.{before, kid_of, left_of, right_of}
-use Rattle.fiba_arena.specs.Nested.{IsNested, IsSettled}
-use Rattle.fiba_arena.specs.Changes.{Applies, CanApply, IsApplied, IsPaid, stands_before}
-use Rattle.fiba_arena.specs.Roots.{CanChange, IsChanged, IsPlanted}
-use Rattle.fiba_arena.proofs.Sound.{moves-then, only_self, weight_of}
-use Rattle.fiba_arena.proofs.Fullness.{held_few, held_is, held_some}
-use Rattle.fiba_arena.proofs.Opened.{is_there}
-use Rattle.fiba_arena.proofs.Paying.{paid_below}
-use Rattle.fiba_arena.proofs.Nesting.{few_slots}
-use Rattle.fiba_arena.proofs.Kids.{tally-around}
-use Rattle.fiba_arena.proofs.Below.{descended, kid_nested, kid_room}
-use Rattle.fiba_arena.proofs.Planting.{applied_room}
+use Rattle.fiba_changes.specs.declared.root.Root.{Root}
+use Rattle.fiba_nodes.specs.declared.slot.Slot.{Slot}
+use Rattle.fiba_nodes.specs.declared.node.Node.{Node}
+use Rattle.fiba_nodes.specs.declared.item.Item.{Item}
+use Rattle.fiba_changes.specs.declared.change.Change.{Change}
+use Rattle.fiba_nodes.specs.Rows.{Plain, last_of, plain_node, slots_of}
+use Rattle.fiba_nodes.specs.Stores.{Store, full_nodes, fullness, held, look}
+use Rattle.fiba_nodes.specs.Trees.{IsAt, IsOpened, IsWritten, Look, Moves, Owned, only, pairs_at, plain, row_times, size, times, ups, woven}
+use Rattle.fiba_nodes.specs.Kids.{before, kid_of, left_of, right_of}
+use Rattle.fiba_nodes.specs.Nested.{IsNested, IsSettled}
+use Rattle.fiba_changes.specs.Changes.{Applies, CanApply, IsApplied, IsPaid, stands_before}
+use Rattle.fiba_changes.specs.Roots.{CanChange, IsChanged, IsPlanted}
+use Rattle.fiba_nodes.proofs.Sound.{moves-then, only_self, weight_of}
+use Rattle.fiba_nodes.proofs.Fullness.{held_few, held_is, held_some}
+use Rattle.fiba_nodes.proofs.Opened.{is_there}
+use Rattle.fiba_changes.proofs.Paying.{paid_below}
+use Rattle.fiba_nodes.proofs.Nesting.{few_slots}
+use Rattle.fiba_nodes.proofs.Kids.{tally-around}
+use Rattle.fiba_changes.proofs.Below.{descended, kid_nested, kid_room}
+use Rattle.fiba_changes.proofs.Planting.{applied_room}
 use Rattle.fiba_spine.specs.Edges.{ahead, edge, left_edge}
 use Rattle.fiba_spine.specs.Climbs.{CanRaise, IsRaised}
 use Rattle.fiba_spine.proofs.Edges.{Opens, ahead_suc, ahead_zero, all_first, all_second, edge_more, edge_suc, edge_up, edge_zero, kid_of_end, left_at, left_of_end, opens, past_end, rank_end, right_of_end}

@@ -4,22 +4,22 @@ use Rattle.std.specs.List.{All}
 use Rattle.std.specs.Option.{option_map}
 use Rattle.agg_laws.specs.Laws.{total}
 use Rattle.agg_laws.specs.Pairs.{values_of}
-use Rattle.fiba_arena.specs.declared.slot.Slot.{Slot}
-use Rattle.fiba_arena.specs.declared.item.Item.{Item}
-use Rattle.fiba_arena.specs.declared.change.Change.{Change}
-use Rattle.fiba_arena.specs.Rows.{Plain, plain_node}
-use Rattle.fiba_arena.specs.Stores.{Store, look}
-use Rattle.fiba_arena.specs.Trees.{HasUp, IsAt, IsLinked, IsNode, KidsAt, Look, Moves, only, pair_of, pairs_at, plain, shown, size, times, ups, vacancy, weigh}
-use Rattle.fiba_arena.specs.Kids.{OthersAt, before, left_of, others, right_of}
-use Rattle.fiba_arena.specs.Changes.{Applies, CanApply, incoming, pairs_of, stands_before}
-use Rattle.fiba_arena.proofs.Frames.{Keeps, same_tree}
-use Rattle.fiba_arena.proofs.Sound.{node_of, only_self, tree_of, weight_of}
-use Rattle.fiba_arena.proofs.Kids.{kids-around, tally-around}
-use Rattle.fiba_arena.proofs.Links.{last_at}
-use Rattle.fiba_arena.proofs.Linked.{root_counted, tree_linked}
-use Rattle.fiba_arena.proofs.Nesting.{others_beside}
-use Rattle.fiba_arena.proofs.Changing.{ends-append, ends_before, goes_deeper}
-use Rattle.fiba_arena.proofs.Below.{kid_can}
+use Rattle.fiba_nodes.specs.declared.slot.Slot.{Slot}
+use Rattle.fiba_nodes.specs.declared.item.Item.{Item}
+use Rattle.fiba_changes.specs.declared.change.Change.{Change}
+use Rattle.fiba_nodes.specs.Rows.{Plain, plain_node}
+use Rattle.fiba_nodes.specs.Stores.{Store, look}
+use Rattle.fiba_nodes.specs.Trees.{HasUp, IsAt, IsLinked, IsNode, KidsAt, Look, Moves, only, pair_of, pairs_at, plain, shown, size, times, ups, vacancy, weigh}
+use Rattle.fiba_nodes.specs.Kids.{OthersAt, before, left_of, others, right_of}
+use Rattle.fiba_changes.specs.Changes.{Applies, CanApply, incoming, pairs_of, stands_before}
+use Rattle.fiba_nodes.proofs.Frames.{Keeps, same_tree}
+use Rattle.fiba_nodes.proofs.Sound.{node_of, only_self, tree_of, weight_of}
+use Rattle.fiba_nodes.proofs.Kids.{kids-around, tally-around}
+use Rattle.fiba_nodes.proofs.Links.{last_at}
+use Rattle.fiba_nodes.proofs.Linked.{root_counted, tree_linked}
+use Rattle.fiba_nodes.proofs.Nesting.{others_beside}
+use Rattle.fiba_changes.proofs.Changing.{ends-append, ends_before, goes_deeper}
+use Rattle.fiba_changes.proofs.Below.{kid_can}
 use Rattle.fiba_spine.specs.Edges.{ahead, edge}
 use Rattle.fiba_spine.proofs.Edges.{Opens, ahead_suc, edge_suc, edge_zero, kid_of_end, left_at, all_first, all_second, left_of_end, left_same, opens, rank_end, right_of_end}
 

@@ -1,14 +1,14 @@
 -- Climbing along the right edge of a tree, and what is done there.
 use Rattle.std.specs.Prelude.{◌≡◌, ◌≤◌, ◌<◌, ◌+◌, ◌-◌, ◌^◌, ℕ, true, List, Option, All, filter, length, nat_lt}
-use Rattle.fiba_arena.specs.declared.item.Item.{Item}
-use Rattle.fiba_arena.specs.declared.root.Root.{Root}
-use Rattle.fiba_arena.specs.declared.change.Change.{Change}
-use Rattle.fiba_arena.specs.declared.change.Change.TheVariants.{Insert}
-use Rattle.fiba_arena.specs.Stores.{Store}
-use Rattle.fiba_arena.specs.Trees.{plain}
-use Rattle.fiba_arena.specs.Changes.{stands_before}
-use Rattle.fiba_arena.specs.Roots.{CanChange, IsChanged}
-use Rattle.fiba_arena.specs.Arena.{pairs_in}
+use Rattle.fiba_nodes.specs.declared.item.Item.{Item}
+use Rattle.fiba_changes.specs.declared.root.Root.{Root}
+use Rattle.fiba_changes.specs.declared.change.Change.{Change}
+use Rattle.fiba_changes.specs.declared.change.Change.TheVariants.{Insert}
+use Rattle.fiba_nodes.specs.Stores.{Store}
+use Rattle.fiba_nodes.specs.Trees.{plain}
+use Rattle.fiba_changes.specs.Changes.{stands_before}
+use Rattle.fiba_changes.specs.Roots.{CanChange, IsChanged}
+use Rattle.fiba_changes.specs.Arena.{pairs_in}
 use Rattle.fiba_spine.specs.Edges.{ahead, edge, left_edge}
 
 -- how many pairs have a greater key

@@ -1,8 +1,8 @@
 -- The edges of a tree, from its root down.
 use Rattle.std.specs.Prelude.{◌++◌, ℕ, zero, suc, List, [], length}
 use Rattle.std.specs.Option.{option_map_or}
-use Rattle.fiba_arena.specs.Trees.{Look, pairs_at}
-use Rattle.fiba_arena.specs.Kids.{before, kid_of}
+use Rattle.fiba_nodes.specs.Trees.{Look, pairs_at}
+use Rattle.fiba_nodes.specs.Kids.{before, kid_of}
 
 -- the node so many levels below a node, always by the last child
 unfoldable pub edge : {M : Type 0} → Look M → ℕ → ℕ → ℕ

@@ -1,14 +1,14 @@
 -- The first item of a tree goes, at its left edge.
 use Rattle.std.specs.Prelude.{◌≡◌, ◌≤◌, ◌+◌, ◌-◌, ℕ, suc, Bool, true, false, List, [], Option, Some, length}
-use Rattle.fiba_arena.specs.declared.item.Item.{Item}
-use Rattle.fiba_arena.specs.declared.slot.Slot.{Slot}
-use Rattle.fiba_arena.specs.declared.change.Change.TheVariants.{First}
-use Rattle.fiba_arena.specs.Stores.{Store, full_nodes, fullness, held, look}
-use Rattle.fiba_arena.specs.Trees.{IsAt, IsLinked, IsWritten, Moves, only, pairs_at, plain, row_times, size, times, ups}
-use Rattle.fiba_arena.specs.Changes.{Applies, CanApply, IsApplied}
-use Rattle.fiba_arena.specs.declared.node.Node.{Node}
-use Rattle.fiba_arena.specs.Rows.{last_of, slots_of}
-use Rattle.fiba_arena.specs.Kids.{kid_of}
+use Rattle.fiba_nodes.specs.declared.item.Item.{Item}
+use Rattle.fiba_nodes.specs.declared.slot.Slot.{Slot}
+use Rattle.fiba_changes.specs.declared.change.Change.TheVariants.{First}
+use Rattle.fiba_nodes.specs.Stores.{Store, full_nodes, fullness, held, look}
+use Rattle.fiba_nodes.specs.Trees.{IsAt, IsLinked, IsWritten, Moves, only, pairs_at, plain, row_times, size, times, ups}
+use Rattle.fiba_changes.specs.Changes.{Applies, CanApply, IsApplied}
+use Rattle.fiba_nodes.specs.declared.node.Node.{Node}
+use Rattle.fiba_nodes.specs.Rows.{last_of, slots_of}
+use Rattle.fiba_nodes.specs.Kids.{kid_of}
 
 -- the first item of a tree on the left edge went, and the tree keeps its number and height
 pub record IsPulled {M : Type 0} (IsValue : M → Type 0) (empty : M) (op : M → M → M) (old new : Store M) (at b : ℕ) (right : Bool) : Type 0 where

@@ -1,12 +1,13 @@
 ghost use Rattle.std.specs.Prelude.{◌≡◌, ◌≤◌, ◌+◌, ◌*◌, false, true};
 ghost use Rattle.agg_laws.specs.Pairs.{AreRising, has_key};
-ghost use Rattle.fiba_arena.specs.Arena.{pairs_in};
-ghost use Rattle.fiba_arena.specs.Roots.{IsTree};
+ghost use Rattle.fiba_changes.specs.Arena.{pairs_in};
+ghost use Rattle.fiba_changes.specs.Roots.{IsTree};
 ghost use Rattle.fiba_spine.specs.Climbs.{IsClimbed, IsReached};
 
 use crate::climbed::Climbed;
 use agg_laws::{Monoid, Probes};
-use fiba_arena::{Nodes, Root};
+use fiba_changes::Root;
+use fiba_nodes::Nodes;
 
 /// From a node on the right edge up to the first one whose tree has the place of a key. At each
 /// level that is climbed the key has an item of the parent behind it, and so the whole tree that is

@@ -1,13 +1,14 @@
 ghost use Rattle.std.specs.Prelude.{◌≡◌, ◌≤◌, ◌+◌, ◌*◌, true, IfSome, IfNone, IsSome, length};
-ghost use Rattle.fiba_arena.specs.Rows.{listed};
-ghost use Rattle.fiba_arena.specs.Stores.{Store, full_nodes, look};
-ghost use Rattle.fiba_arena.specs.Trees.{IsOpened};
-ghost use Rattle.fiba_arena.specs.Changes.{CanApply};
-ghost use Rattle.fiba_arena.specs.declared.change.Change.TheVariants.{First};
+ghost use Rattle.fiba_nodes.specs.Rows.{listed};
+ghost use Rattle.fiba_nodes.specs.Stores.{Store, full_nodes, look};
+ghost use Rattle.fiba_nodes.specs.Trees.{IsOpened};
+ghost use Rattle.fiba_changes.specs.Changes.{CanApply};
+ghost use Rattle.fiba_changes.specs.declared.change.Change.TheVariants.{First};
 ghost use Rattle.fiba_spine.specs.Pulls.{IsBare, IsDrained, IsHung, IsKept, IsPulled};
 
 use agg_laws::{Monoid, Probes, Steps};
-use fiba_arena::{Nest, Nodes, Open, Place, Row, settle, write};
+use fiba_changes::settle;
+use fiba_nodes::{Nest, Nodes, Open, Place, Row, write};
 
 /// Takes the first item out of a tree on the left edge. Only the nodes that lose an item or a child
 /// are written: on that edge nothing above counts what lies below. Answers nothing where the tree is

@@ -1,9 +1,9 @@
 ghost use Rattle.std.specs.Prelude.{◌≡◌, ◌≤◌, ◌+◌, suc, true};
-ghost use Rattle.fiba_arena.specs.Trees.{IsAt, plain};
+ghost use Rattle.fiba_nodes.specs.Trees.{IsAt, plain};
 ghost use Rattle.fiba_spine.specs.Edges.{edge, left_edge};
 
 use agg_laws::{Monoid, Probes};
-use fiba_arena::{Nodes, Place};
+use fiba_nodes::{Nodes, Place};
 
 /// The place of a node on the right edge, which may be the root.
 pub fn right_place(is_root: bool) -> Place

@@ -1,13 +1,14 @@
 ghost use Rattle.std.specs.Prelude.{◌≡◌, ◌≤◌, ◌<◌, ◌+◌, ◌*◌, ◌-◌, ◌^◌};
-ghost use Rattle.fiba_arena.specs.Stores.{full_nodes};
-ghost use Rattle.fiba_arena.specs.Changes.{growth};
+ghost use Rattle.fiba_nodes.specs.Stores.{full_nodes};
+ghost use Rattle.fiba_changes.specs.Changes.{growth};
 ghost use Rattle.fiba_spine.specs.Climbs.{CanRaise, IsRaised};
 
 use crate::climbed::Climbed;
 use crate::edge::right_place;
 use crate::raised::Raised;
 use agg_laws::{Monoid, Probes, Steps};
-use fiba_arena::{Change, Nest, Nodes, Open, Root, apply_low, plant, settle, write};
+use fiba_changes::{Change, Root, apply_low, plant, settle};
+use fiba_nodes::{Nest, Nodes, Open, write};
 
 /// Lets an item into the tree of a node on the right edge, and closes that node again: it is
 /// written where it isn't split, else its parent is opened. At most eight steps a level below the

@@ -2,10 +2,10 @@
 //! B-tree of Tangwongsan, Hirzel, Schneider, "Optimal and general out-of-order sliding-window
 //! aggregation", VLDB 2019, to the place of an insertion and to the first item, and back.
 //!
-//! *Stands on* `agg_laws` and `fiba_arena`, whose nodes and functions it uses. *Promise*: a climb from
-//! a node on the right edge ends at a tree that has the place of a key, no higher than the distance
-//! asks. An item let in there leaves a sound tree again. The first item is taken out along the left
-//! edge, and leaves a sound tree too, or of its root only one child.
+//! *Stands on* `agg_laws`, `fiba_nodes` and `fiba_changes`. *Promise*: a climb from a node on the right
+//! edge ends at a tree that has the place of a key, no higher than the distance asks. An item let in
+//! there leaves a sound tree again. The first item is taken out along the left edge, and leaves a sound
+//! tree too, or of its root only one child.
 //!
 //! Aggregates go by place. A node off both edges keeps that of its whole tree; one on an edge leaves
 //! out the child on that edge. So what lies above a node on the right edge counts nothing of it, and

@@ -1,5 +1,5 @@
 use crate::climbed::Climbed;
-use fiba_arena::Root;
+use fiba_changes::Root;
 
 /// A tree after an insertion: its root, the highest node that was written, and how many nodes were
 /// split.

@@ -1,8 +1,8 @@
 -- The parent's last item tells whether the key lies in the tree of the node.
 use Rattle.std.proofs.Common.{◌≡◌, ◌<◌, ◌-◌, ◌+◌, ◌∙◌, suc, true, IsSome, length, subst, sym, arith, refl}
-use Rattle.fiba_arena.specs.Rows.{slots_of}
-use Rattle.fiba_arena.specs.Stores.{look}
-use Rattle.fiba_arena.proofs.Opened.{is_there}
+use Rattle.fiba_nodes.specs.Rows.{slots_of}
+use Rattle.fiba_nodes.specs.Stores.{look}
+use Rattle.fiba_nodes.proofs.Opened.{is_there}
 use Rattle.fiba_spine.proofs.Edges.{left_at}
 use Rattle.fiba_spine.proofs.Climbing.{climbed_below, climbed_root, here, parent_here, parent_of, reached_parent, up_of}
 use Rattle.fiba_spine.proofs.ascending.+climb.Goals as goal

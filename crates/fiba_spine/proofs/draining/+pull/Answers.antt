@@ -1,14 +1,14 @@
 -- Only the first child's tree changes; where that child has no item left, it settles.
 use Rattle.std.proofs.Common.{◌≡◌, ◌-◌, true, false, suc, refl, arith, sym, ap, subst}
 use Rattle.std.specs.Option.{option_map}
-use Rattle.fiba_arena.specs.declared.change.Change.TheVariants.{First}
-use Rattle.fiba_arena.specs.declared.slot.Slot.{Slot}
-use Rattle.fiba_arena.specs.Rows.{last_of, more_slots, plain_node, slots_of}
+use Rattle.fiba_changes.specs.declared.change.Change.TheVariants.{First}
+use Rattle.fiba_nodes.specs.declared.slot.Slot.{Slot}
+use Rattle.fiba_nodes.specs.Rows.{last_of, more_slots, plain_node, slots_of}
 use Rattle.std.specs.Prelude.{IfNone, IfSome, slice_index}
-use Rattle.fiba_arena.specs.Changes.{CanApply}
-use Rattle.fiba_arena.proofs.Opened.{is_there}
-use Rattle.fiba_arena.proofs.Nesting.{few_slots}
-use Rattle.fiba_arena.proofs.Below.{kid_can_at, node_is}
+use Rattle.fiba_changes.specs.Changes.{CanApply}
+use Rattle.fiba_nodes.proofs.Opened.{is_there}
+use Rattle.fiba_nodes.proofs.Nesting.{few_slots}
+use Rattle.fiba_changes.proofs.Below.{kid_can_at, node_is}
 use Rattle.fiba_spine.specs.Pulls.{IsDrained, IsHung, IsPulled}
 use Rattle.fiba_spine.proofs.Pulling.{pulled_up}
 use Rattle.fiba_spine.proofs.draining.+pull.Goals as goal

@@ -1,13 +1,13 @@
 -- The first child settles, and then the node is as after a change of its first child.
 use Rattle.std.proofs.Common.{◌≡◌, ◌+◌, ◌-◌, true, suc, [], Some, IsSome, length, refl, arith, sym, ap, subst, ◌∙◌}
-use Rattle.fiba_arena.specs.declared.change.Change.TheVariants.{First}
-use Rattle.fiba_arena.specs.Rows.{last_of, listed, slots_of}
-use Rattle.fiba_arena.specs.Stores.{held, look}
-use Rattle.fiba_arena.specs.Trees.{Moves, only, plain, row_times, times}
-use Rattle.fiba_arena.specs.Kids.{kid_of}
-use Rattle.fiba_arena.proofs.Opened.{is_there}
-use Rattle.fiba_arena.proofs.Fullness.{held_is}
-use Rattle.fiba_arena.proofs.Below.{descended_at, kid_nested_at, node_is}
+use Rattle.fiba_changes.specs.declared.change.Change.TheVariants.{First}
+use Rattle.fiba_nodes.specs.Rows.{last_of, listed, slots_of}
+use Rattle.fiba_nodes.specs.Stores.{held, look}
+use Rattle.fiba_nodes.specs.Trees.{Moves, only, plain, row_times, times}
+use Rattle.fiba_nodes.specs.Kids.{kid_of}
+use Rattle.fiba_nodes.proofs.Opened.{is_there}
+use Rattle.fiba_nodes.proofs.Fullness.{held_is}
+use Rattle.fiba_changes.proofs.Below.{descended_at, kid_nested_at, node_is}
 use Rattle.fiba_spine.specs.Pulls.{IsBare, IsDrained}
 use Rattle.fiba_spine.proofs.Pulling.{above_stays, closed, drained, first_done, full_less, none_map, passed_first, rank_first, some_map}
 use Rattle.fiba_spine.proofs.draining.mend.Goals as goal

@@ -1,8 +1,8 @@
 -- The leaf is written without its first item, if it has another one.
 use Rattle.std.proofs.Common.{◌≡◌, drop, suc, Some, length, true, ap, ◌∙◌, arith}
-use Rattle.fiba_arena.specs.Rows.{listed, more_slots}
-use Rattle.fiba_arena.specs.Stores.{held, look}
-use Rattle.fiba_arena.proofs.Opened.{is_there}
+use Rattle.fiba_nodes.specs.Rows.{listed, more_slots}
+use Rattle.fiba_nodes.specs.Stores.{held, look}
+use Rattle.fiba_nodes.proofs.Opened.{is_there}
 use Rattle.fiba_spine.specs.Pulls.{IsBare, IsDrained}
 use Rattle.fiba_spine.proofs.Pulling.{closed, drained, full_less, leaf_first, none_map, some_map}
 use Rattle.fiba_spine.proofs.draining.pull_leaf.Goals as goal

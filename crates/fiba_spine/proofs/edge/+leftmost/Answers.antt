@@ -1,10 +1,10 @@
 -- The first child is sound, and the edge goes on there.
 use Rattle.std.proofs.Common.{◌≡◌, ◌-◌, false, suc, sym, ap, subst, ◌∙◌, arith}
 use Rattle.std.specs.Option.{option_map}
-use Rattle.fiba_arena.specs.Rows.{plain_node}
-use Rattle.fiba_arena.specs.Trees.{IsAt, plain}
-use Rattle.fiba_arena.proofs.Opened.{is_there}
-use Rattle.fiba_arena.proofs.Sound.{node_of}
+use Rattle.fiba_nodes.specs.Rows.{plain_node}
+use Rattle.fiba_nodes.specs.Trees.{IsAt, plain}
+use Rattle.fiba_nodes.proofs.Opened.{is_there}
+use Rattle.fiba_nodes.proofs.Sound.{node_of}
 use Rattle.fiba_spine.specs.Edges.{left_edge}
 use Rattle.fiba_spine.proofs.Lefts.{left_last, left_suc}
 use Rattle.fiba_spine.proofs.edge.+leftmost.Goals as goal

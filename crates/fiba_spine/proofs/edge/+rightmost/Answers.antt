@@ -1,9 +1,9 @@
 -- The last child is sound, and the edge goes on there.
 use Rattle.std.proofs.Common.{◌≡◌, ◌-◌, true, false, suc, sym, ap, subst, ◌∙◌, arith}
 use Rattle.std.specs.Option.{option_map}
-use Rattle.fiba_arena.specs.Rows.{plain_node}
-use Rattle.fiba_arena.specs.Trees.{IsAt, plain}
-use Rattle.fiba_arena.proofs.Opened.{is_there}
+use Rattle.fiba_nodes.specs.Rows.{plain_node}
+use Rattle.fiba_nodes.specs.Trees.{IsAt, plain}
+use Rattle.fiba_nodes.proofs.Opened.{is_there}
 use Rattle.fiba_spine.specs.Edges.{edge}
 use Rattle.fiba_spine.proofs.Edges.{edge_last, edge_suc, kid_sound}
 use Rattle.fiba_spine.proofs.edge.+rightmost.Goals as goal

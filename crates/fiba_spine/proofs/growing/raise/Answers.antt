@@ -1,12 +1,12 @@
 -- Each node that is opened stands on the edge, under the one that is opened next.
 use Rattle.std.proofs.Common.{◌≡◌, ◌<◌, ◌+◌, ◌-◌, suc, true, IsSome, length, arith, refl, sym, subst, ◌∙◌}
-use Rattle.fiba_arena.specs.Rows.{listed}
-use Rattle.fiba_arena.specs.Stores.{full_nodes, held, look}
-use Rattle.fiba_arena.proofs.Opened.{is_there}
+use Rattle.fiba_nodes.specs.Rows.{listed}
+use Rattle.fiba_nodes.specs.Stores.{full_nodes, held, look}
+use Rattle.fiba_nodes.proofs.Opened.{is_there}
 use Rattle.fiba_spine.proofs.Edges.{left_at}
-use Rattle.fiba_arena.specs.Changes.{IsPaid}
-use Rattle.fiba_arena.proofs.Fullness.{held_few}
-use Rattle.fiba_arena.proofs.Paying.{paid_splits}
+use Rattle.fiba_changes.specs.Changes.{IsPaid}
+use Rattle.fiba_nodes.proofs.Fullness.{held_few}
+use Rattle.fiba_changes.proofs.Paying.{paid_splits}
 use Rattle.fiba_spine.proofs.Raising.{above, above_stays, begins, can_above, can_here, ends, goes_on, left_is, nested, parent_is, pays, planted, room, room_top}
 use Rattle.fiba_spine.proofs.growing.raise.Goals as goal
 

@@ -1,8 +1,8 @@
 -- The node is opened after the change, and all above it is as it was.
 use Rattle.std.proofs.Common.{◌≡◌, ◌≤◌, ◌+◌, ◌-◌, ◌*◌, length}
-use Rattle.fiba_arena.specs.Rows.{listed}
-use Rattle.fiba_arena.specs.Stores.{full_nodes, held, look}
-use Rattle.fiba_arena.specs.Changes.{IsPaid}
+use Rattle.fiba_nodes.specs.Rows.{listed}
+use Rattle.fiba_nodes.specs.Stores.{full_nodes, held, look}
+use Rattle.fiba_changes.specs.Changes.{IsPaid}
 use Rattle.fiba_spine.proofs.Raising.{IsRaising}
 use Rattle.fiba_spine.proofs.growing.raise.Given as goal
 

@@ -1,7 +1,7 @@
 -- A tree of height 0 is empty; another one has a first pair.
 use Rattle.std.proofs.Common.{◌≡◌, [], refl, sym, ap, ◌∙◌}
-use Rattle.fiba_arena.specs.Trees.{plain}
-use Rattle.fiba_arena.proofs.Opened.{no_pairs}
+use Rattle.fiba_nodes.specs.Trees.{plain}
+use Rattle.fiba_nodes.proofs.Opened.{no_pairs}
 use Rattle.fiba_arena.proofs.tree.ArenaTreeAggTree.first_key.Goals as goal
 
 pub returns-then-self-eq0-clause-least : goal.returns-then-self-eq0-clause-least

@@ -1,9 +1,9 @@
 -- A tree of height 0 is empty; another one has a first pair.
 use Rattle.std.proofs.Common.{◌≡◌, ◌-◌, [], Some, true, suc, refl, sym, ap, subst, ◌∙◌, arith}
 use Rattle.std.specs.Prelude.{slice_get}
-use Rattle.fiba_arena.specs.Trees.{IsAt, pair_of, pairs_at, plain, vacancy}
-use Rattle.fiba_arena.proofs.Tops.{key_of_first}
-use Rattle.fiba_arena.proofs.Opened.{is_some, no_pairs}
+use Rattle.fiba_nodes.specs.Trees.{IsAt, pair_of, pairs_at, plain, vacancy}
+use Rattle.fiba_changes.proofs.Tops.{key_of_first}
+use Rattle.fiba_nodes.proofs.Opened.{is_some, no_pairs}
 use Rattle.fiba_spine.proofs.Lefts.{IsLeast, least_of, left_least}
 use Rattle.fiba_finger.proofs.tree.FingerTreeAggTree.first_key.Goals as goal
 

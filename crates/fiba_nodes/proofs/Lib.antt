@@ -1,0 +1,10 @@
+pub mod Lists
+pub mod Frames
+pub mod Sound
+pub mod Opened
+pub mod Linked
+pub mod Links
+pub mod Kids
+pub mod Nesting
+pub mod Writes
+pub mod Fullness
