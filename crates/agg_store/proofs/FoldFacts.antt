@@ -16,9 +16,9 @@ use Rattle.aggregates.proofs.Bundles.{bundle_is_value, bundle_of-append}
 use Rattle.agg_laws.proofs.Totals.{total-cons}
 use Rattle.window_laws.specs.Runs.{IsAligned, runs_within}
 use Rattle.window_laws.proofs.Order.{All-map_of, All-split}
-use Rattle.slice_runs.specs.Slices.{AreSlices, joined, values_of}
+use Rattle.slice_lists.specs.Slices.{AreSlices, joined, values_of}
 use Rattle.agg_store.specs.Stored.{partial_of}
-use Rattle.slice_runs.proofs.WithinFacts.{within_aligned, all_joined}
+use Rattle.slice_lists.proofs.WithinFacts.{within_aligned, all_joined}
 
 -- ---- the partials of the slices in it
 pub partials_within : (low high : ℕ) (runs : List (List Kept)) → pairs.within low high (map partial_of runs) ≡ map partial_of (runs_within low high runs)

@@ -4,8 +4,8 @@ use Rattle.stream_base.specs.declared.def.Def.{Def}
 use Rattle.stream_base.specs.declared.kept.Kept.{Kept}
 use Rattle.stream_base.specs.Model.Cuts.{has_cut}
 use Rattle.stream_base.specs.Model.Journal.{put_in_order}
-use Rattle.slice_runs.specs.Slices.{joined}
-use Rattle.slice_runs.specs.Touched.{is_near}
+use Rattle.slice_lists.specs.Slices.{joined}
+use Rattle.slice_lists.specs.Touched.{is_near}
 use Rattle.agg_store.specs.Stored.{Stored}
 
 -- the slices that a tuple at a time enters: those that it is near to

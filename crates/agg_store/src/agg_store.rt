@@ -4,12 +4,12 @@ ghost use Rattle.stream_base.specs.declared.limits.TheConstants.{TIME_MAX};
 ghost use Rattle.stream_base.specs.Model.Windows.{first_time, last_time, within};
 ghost use Rattle.aggregates.specs.Bundled.{bundle_of};
 ghost use Rattle.window_laws.specs.Runs.{IsAligned, runs_within};
-ghost use Rattle.slice_runs.specs.Slices.{slice_of, values_of};
+ghost use Rattle.slice_lists.specs.Slices.{slice_of, values_of};
 ghost use Rattle.agg_store.specs.Stored.{IsStore, Stored, tuples_of};
 
 use agg_laws::Steps;
 use aggregates::Bundle;
-use slice_runs::Slice;
+use slice_lists::Slice;
 
 /// The slices of one key, with a partial aggregate for each, which all of its windows share.
 ///

@@ -20,7 +20,7 @@ use Rattle.window_laws.specs.After.{complete_at, emissions_between, retractions_
 use Rattle.window_laws.specs.Sessions.{AreChangesOfNear, IsPutInSessions, joined_session}
 use Rattle.window_laws.proofs.PartFacts.{session_changes}
 use Rattle.agg_store.specs.Stored.{Stored, tuples_of}
-use Rattle.slice_runs.proofs.SliceEdits.{put_length}
+use Rattle.slice_lists.proofs.SliceEdits.{put_length}
 use Rattle.window_spans.specs.declared.span.Span.{Span}
 use Rattle.window_spans.specs.declared.standing.Standing.{Standing}
 use Rattle.window_spans.specs.Held.{AreHeld, IsHeld}

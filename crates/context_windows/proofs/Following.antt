@@ -23,10 +23,10 @@ use Rattle.window_laws.proofs.InstanceFacts.{gap_cut, session_far, session_near,
 use Rattle.stream_base.proofs.Filters.{filter_all}
 use Rattle.window_laws.proofs.Order.{All-map_of, All-split, IsApart, IsNear, run_spans, runs_are_runs}
 use Rattle.window_laws.proofs.RunEdits.{parted}
-use Rattle.slice_runs.specs.declared.slice.Slice.{Slice}
-use Rattle.slice_runs.specs.Slices.{joined}
-use Rattle.slice_runs.proofs.SliceEdits.{entered_shown}
-use Rattle.slice_runs.proofs.SliceOrder.{first_below_last}
+use Rattle.slice_lists.specs.declared.slice.Slice.{Slice}
+use Rattle.slice_lists.specs.Slices.{joined}
+use Rattle.slice_lists.proofs.SliceEdits.{entered_shown}
+use Rattle.slice_lists.proofs.SliceOrder.{first_below_last}
 use Rattle.window_spans.specs.declared.span.Span.{Span}
 use Rattle.window_spans.specs.Spans.{asked_of, due_of, is_due, is_near, joined_span, near_of, span_of, spans_with, stands}
 use Rattle.window_spans.proofs.Parts.{filter_alike, filter_twice, fewer_pass, take_few}

@@ -11,7 +11,7 @@ use Rattle.stream_base.specs.declared.limits.TheConstants.{FINAL, TIME_MAX}
 use Rattle.stream_base.proofs.Members.{filter_members}
 use Rattle.stream_base.proofs.Rising.{Contains-head, Contains-insert_key, Contains-insert_key_cases, Contains-insert_key_self, Contains-tail}
 use Rattle.stream_base.proofs.Distinct.{All_from_members}
-use Rattle.slice_runs.proofs.MarkFacts.{rising_more}
+use Rattle.slice_lists.proofs.MarkFacts.{rising_more}
 use Rattle.window_spans.specs.declared.span.Span.{Span}
 use Rattle.window_spans.specs.Parted.{back_of, first_or, front_of, head_before, holder_of, part_if}
 use Rattle.window_spans.specs.Spans.{AreApart, is_near, near_of}

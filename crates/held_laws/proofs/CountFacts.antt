@@ -14,11 +14,11 @@ use Rattle.window_laws.specs.After.{at_water}
 use Rattle.window_laws.specs.Runs.{IsAligned}
 use Rattle.window_laws.specs.Settled.{without_first}
 use Rattle.stream_base.proofs.Filters.{filter_none}
-use Rattle.slice_runs.specs.Touched.{slices_from}
-use Rattle.slice_runs.specs.Places.{IsPlaceOf}
-use Rattle.slice_runs.specs.Slices.{joined}
+use Rattle.slice_lists.specs.Touched.{slices_from}
+use Rattle.slice_lists.specs.Places.{IsPlaceOf}
+use Rattle.slice_lists.specs.Slices.{joined}
 use Rattle.agg_store.specs.Stored.{IsStore, Stored}
-use Rattle.slice_runs.proofs.LeaveFacts.{from_place, left_sliced, tuples_left}
+use Rattle.slice_lists.proofs.LeaveFacts.{from_place, left_sliced, tuples_left}
 use Rattle.key_parts.specs.Held.{IsHeld}
 use Rattle.key_parts.specs.Moves.{all_count_events}
 use Rattle.held_laws.specs.Settling.{IsSettledUpTo}

@@ -24,9 +24,9 @@ use Rattle.window_laws.proofs.KeptFacts.{put_is_kept}
 use Rattle.window_laws.proofs.LeaveChanges.{may_leave_after_mark, may_leave_after_move, may_leave_after_tuple, tuple_enters_the_rest}
 use Rattle.window_laws.proofs.Order.{nd_nil}
 use Rattle.window_laws.proofs.SettledFacts.{all_from, all_member, not_all}
-use Rattle.slice_runs.specs.Slices.{joined}
+use Rattle.slice_lists.specs.Slices.{joined}
 use Rattle.agg_store.specs.Stored.{IsSliced, Stored, tuples_of}
-use Rattle.slice_runs.proofs.SliceEdits.{put_length}
+use Rattle.slice_lists.proofs.SliceEdits.{put_length}
 use Rattle.key_windows.specs.Calls.{moment}
 use Rattle.key_parts.specs.Held.{AreSameBehind, IsHeld}
 use Rattle.key_parts.specs.Moves.{Comes, Enters, IsMarkStep, IsPutStep, IsStored, Leaves, all_count_events}

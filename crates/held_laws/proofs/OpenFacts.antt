@@ -22,11 +22,11 @@ use Rattle.stream_base.proofs.Filters.{filter_all}
 use Rattle.window_laws.proofs.Order.{runs_are_runs}
 use Rattle.window_laws.proofs.SettledFacts.{not_all}
 use Rattle.window_laws.proofs.SettledMoves.{mark_settles_none, move_keeps_settled, new_tuple_is_unsettled, tuple_settles_no_other}
-use Rattle.slice_runs.specs.Touched.{is_near, slices_from}
+use Rattle.slice_lists.specs.Touched.{is_near, slices_from}
 use Rattle.agg_store.specs.Entered.{slices_near}
-use Rattle.slice_runs.specs.Slices.{joined}
+use Rattle.slice_lists.specs.Slices.{joined}
 use Rattle.agg_store.specs.Stored.{IsStore, Stored, tuples_of}
-use Rattle.slice_runs.proofs.SliceOrder.{IsApart, IsNear, first_below_last}
+use Rattle.slice_lists.proofs.SliceOrder.{IsApart, IsNear, first_below_last}
 use Rattle.key_parts.specs.Held.{IsHeld}
 use Rattle.key_parts.specs.Moves.{Comes, Enters, IsMarkStep, IsPutStep, Leaves}
 use Rattle.held_laws.specs.Settling.{IsSettledUpTo, NoneSettled}

@@ -24,11 +24,11 @@ use Rattle.window_laws.specs.Settled.{MayLeave, without_first}
 use Rattle.window_laws.proofs.EdgeFacts.{aligned}
 use Rattle.window_laws.proofs.Order.{IsApart, IsNear, pieces_in_order, run_spans, runs_are_runs}
 use Rattle.window_laws.proofs.SettledFacts.{cut_behind_settled}
-use Rattle.slice_runs.specs.Touched.{marks_left}
-use Rattle.slice_runs.specs.Places.{IsPlaceOf}
-use Rattle.slice_runs.specs.Slices.{joined}
+use Rattle.slice_lists.specs.Touched.{marks_left}
+use Rattle.slice_lists.specs.Places.{IsPlaceOf}
+use Rattle.slice_lists.specs.Slices.{joined}
 use Rattle.agg_store.specs.Stored.{IsSliced, IsStore, Stored, tuples_of}
-use Rattle.slice_runs.proofs.LeaveFacts.{from_place}
+use Rattle.slice_lists.proofs.LeaveFacts.{from_place}
 use Rattle.key_parts.specs.Held.{AreSameBehind, IsHeld}
 use Rattle.key_parts.specs.Moves.{AreLists, IsPurge}
 use Rattle.held_laws.specs.Dropped.{IsDropped}

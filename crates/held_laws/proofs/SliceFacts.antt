@@ -13,11 +13,11 @@ use Rattle.stream_base.specs.Model.Windows.{first_time, last_time}
 use Rattle.stream_base.proofs.ChangeFacts.{any_from_member}
 use Rattle.window_laws.specs.Runs.{AreInOrder}
 use Rattle.window_laws.proofs.Order.{All-split, runs_behind}
-use Rattle.slice_runs.specs.Places.{IsPlaceOf}
-use Rattle.slice_runs.specs.Slices.{joined}
+use Rattle.slice_lists.specs.Places.{IsPlaceOf}
+use Rattle.slice_lists.specs.Slices.{joined}
 use Rattle.agg_store.specs.Stored.{IsStore, Stored, tuples_of}
-use Rattle.slice_runs.proofs.LeaveFacts.{left_sliced}
-use Rattle.slice_runs.proofs.SliceOrder.{IsApart, IsNear, first_below_last}
+use Rattle.slice_lists.proofs.LeaveFacts.{left_sliced}
+use Rattle.slice_lists.proofs.SliceOrder.{IsApart, IsNear, first_below_last}
 use Rattle.key_parts.specs.Held.{IsHeld}
 use Rattle.held_laws.proofs.AlikeFacts.{same_truth}
 

@@ -6,7 +6,7 @@ ghost use Rattle.stream_base.specs.Model.Cuts.{has_cut};
 ghost use Rattle.stream_base.specs.Model.Slices.{runs_of, unsettled};
 ghost use Rattle.window_laws.specs.After.{at_water};
 ghost use Rattle.window_laws.specs.Settled.{without_first};
-ghost use Rattle.slice_runs.specs.Touched.{is_near, slices_from};
+ghost use Rattle.slice_lists.specs.Touched.{is_near, slices_from};
 ghost use Rattle.agg_store.specs.Entered.{slices_near};
 ghost use Rattle.agg_store.specs.Stored.{IsStore, Stored, tuples_of};
 ghost use Rattle.key_parts.specs.Held.{IsHeld};

@@ -8,7 +8,7 @@ ghost use Rattle.stream_base.specs.Model.Changes.{Moment};
 ghost use Rattle.stream_base.specs.Model.Slices.{is_events, is_settled, is_settled_in, unsettled};
 ghost use Rattle.window_laws.specs.After.{at_water, with_mark, with_tuple};
 ghost use Rattle.window_laws.specs.Settled.{MayLeave, without_first};
-ghost use Rattle.slice_runs.specs.Touched.{slices_from};
+ghost use Rattle.slice_lists.specs.Touched.{slices_from};
 ghost use Rattle.agg_store.specs.Stored.{IsStore, Stored};
 ghost use Rattle.key_parts.specs.Held.{IsHeld};
 ghost use Rattle.key_parts.specs.Moves.{IsMarkStep, IsPutStep};

@@ -9,7 +9,7 @@ use Rattle.stream_base.specs.declared.shown.Shown.{Shown}
 use Rattle.stream_base.specs.declared.shown.Shown.TheVariants.{Whole, Ratio}
 use Rattle.stream_base.specs.Model.Functions.{averaging, count_sum, fold_of}
 use Rattle.stream_base.specs.Model.Windows.{is_within, within}
-use Rattle.slice_runs.specs.Slices.{values_of}
+use Rattle.slice_lists.specs.Slices.{values_of}
 
 -- the count beside a mean
 abbrev pub count_in : Shown → ℕ

@@ -10,7 +10,7 @@ use Rattle.agg_laws.specs.Laws.{total}
 use Rattle.agg_laws.specs.Pairs as pairs
 use Rattle.window_laws.specs.Runs.{AreInOrder, IsAligned, runs_within}
 use Rattle.stream_base.specs.Model.Windows.{within}
-use Rattle.slice_runs.specs.Slices.{AreSlices, joined, values_of}
+use Rattle.slice_lists.specs.Slices.{AreSlices, joined, values_of}
 use Rattle.agg_store.specs.Stored.{partial_of}
 use Rattle.agg_store.proofs.FoldFacts.{fold_is, partials_within}
 use Rattle.interval_walks.specs.Held.{partials_of}

@@ -16,12 +16,12 @@ use Rattle.window_laws.specs.Walk.{IsFirstFrom, WalksOn, due_from, next_start}
 use Rattle.window_laws.proofs.Order.{All-split}
 use Rattle.window_laws.proofs.RunEdits.{parted}
 use Rattle.window_laws.proofs.WalkFacts.{none_due, walks_on}
-use Rattle.slice_runs.specs.declared.slice.Slice.{Slice}
-use Rattle.slice_runs.specs.Slices.{AreSlices, joined, slice_of}
+use Rattle.slice_lists.specs.declared.slice.Slice.{Slice}
+use Rattle.slice_lists.specs.Slices.{AreSlices, joined, slice_of}
 use Rattle.agg_store.specs.Stored.{IsStore, Stored, tuples_of}
-use Rattle.slice_runs.proofs.WithinFacts.{within_aligned}
-use Rattle.slice_runs.proofs.SliceFacts.{all_end}
-use Rattle.slice_runs.proofs.SliceOrder.{IsApart, IsNear, first_below_last, run_above_first, run_below_last, above_slice}
+use Rattle.slice_lists.proofs.WithinFacts.{within_aligned}
+use Rattle.slice_lists.proofs.SliceFacts.{all_end}
+use Rattle.slice_lists.proofs.SliceOrder.{IsApart, IsNear, first_below_last, run_above_first, run_below_last, above_slice}
 use Rattle.interval_walks.specs.Held.{IsEndFrom, IsNextDue, IsNextIn}
 use Rattle.interval_walks.specs.Spans.{IsSpan}
 use Rattle.interval_walks.proofs.Ranges.{above, begin_below, begins_in, before_it, below, in_it, none_from_on, none_up_to, passed, skipped}

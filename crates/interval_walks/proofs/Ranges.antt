@@ -9,7 +9,7 @@ use Rattle.stream_base.specs.declared.kept.Kept.{Kept}
 use Rattle.stream_base.specs.Model.Windows.{first_time, last_time}
 use Rattle.window_laws.specs.Runs.{AreInOrder, IsPartFrom, runs_within}
 use Rattle.stream_base.proofs.Filters.{filter_none}
-use Rattle.slice_runs.proofs.SliceOrder.{IsApart, first_below_last, reach}
+use Rattle.slice_lists.proofs.SliceOrder.{IsApart, first_below_last, reach}
 
 abbrev pub begins_in : ℕ → ℕ → List Kept → Bool
 begins_in low high run = nat_le low (first_time run) && nat_lt (first_time run) high

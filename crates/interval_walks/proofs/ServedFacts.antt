@@ -14,7 +14,7 @@ use Rattle.window_laws.specs.Late.{length_of, slide_of}
 use Rattle.window_laws.specs.Runs.{IsAligned}
 use Rattle.window_laws.proofs.EdgeFacts.{interval_ends_align, interval_starts_align}
 use Rattle.agg_store.specs.Stored.{IsSliced, IsStore, Stored, tuples_of}
-use Rattle.slice_runs.proofs.SliceOrder.{times_of_order}
+use Rattle.slice_lists.proofs.SliceOrder.{times_of_order}
 use Rattle.interval_walks.specs.Spans.{ArePartedAt, IsSpan, IsWindowAt}
 
 pub stands_among : (windows : List Def) (window : ℕ) (def : Def) → IsWindowAt windows window def → Contains windows def

@@ -9,7 +9,7 @@ use Rattle.aggregates.specs.Bundled.{Bundled, bundle_of, bundles_combined, empty
 use Rattle.agg_laws.specs.Laws.{total}
 use Rattle.window_laws.specs.Runs.{AreInOrder, IsAligned, runs_within}
 use Rattle.window_laws.specs.Walk.{next_start}
-use Rattle.slice_runs.specs.Slices.{AreSlices, joined, values_of}
+use Rattle.slice_lists.specs.Slices.{AreSlices, joined, values_of}
 use Rattle.interval_walks.specs.Held.{partials_of}
 use Rattle.interval_walks.specs.Spans.{ArePartedAt, last_end}
 use Rattle.interval_walks.proofs.HeldFacts.{fold_of_held}

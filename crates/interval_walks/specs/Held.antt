@@ -6,8 +6,8 @@ use Rattle.stream_base.specs.Model.Windows.{within}
 use Rattle.aggregates.specs.Bundled.{Bundled, bundle_of}
 use Rattle.window_laws.specs.Runs.{IsAligned, runs_within}
 use Rattle.window_laws.specs.Walk.{IsFirstFrom, due_from, next_start}
-use Rattle.slice_runs.specs.declared.slice.Slice.{Slice}
-use Rattle.slice_runs.specs.Slices.{joined, slice_of, values_of}
+use Rattle.slice_lists.specs.declared.slice.Slice.{Slice}
+use Rattle.slice_lists.specs.Slices.{joined, slice_of, values_of}
 use Rattle.agg_store.specs.Stored.{Stored, tuples_of}
 
 -- the partials of slices

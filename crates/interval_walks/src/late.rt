@@ -3,7 +3,7 @@ ghost use Rattle.std.specs.Prelude.{◌≡◌, ◌≤◌, ◌<◌, ◌+◌, ◌-
 ghost use Rattle.stream_base.specs.declared.limits.TheConstants.{FINAL, TIME_MAX};
 ghost use Rattle.stream_base.specs.Model.Windows.{within};
 ghost use Rattle.aggregates.specs.Bundled.{bundle_of};
-ghost use Rattle.slice_runs.specs.Slices.{values_of};
+ghost use Rattle.slice_lists.specs.Slices.{values_of};
 ghost use Rattle.agg_store.specs.Stored.{tuples_of};
 ghost use Rattle.interval_walks.specs.Told.{again_or_new, complete_starts, ended, former_at, starts_from, told_at, told_late};
 ghost use Rattle.interval_walks.specs.Spans.{ArePartedAt};

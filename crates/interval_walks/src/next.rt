@@ -9,7 +9,7 @@ ghost use Rattle.interval_walks.specs.Spans.{ArePartedAt};
 
 use crate::span::Span;
 use agg_store::AggStore;
-use slice_runs::Slice;
+use slice_lists::Slice;
 use stream_base::FINAL;
 
 /// The first slice that begins in an interval.

@@ -4,7 +4,7 @@ ghost use Rattle.stream_base.specs.declared.kept.Kept.{Kept};
 ghost use Rattle.stream_base.specs.Model.Changes.{row_of};
 ghost use Rattle.stream_base.specs.Model.Windows.{interval, within};
 ghost use Rattle.aggregates.specs.Bundled.{bundle_of};
-ghost use Rattle.slice_runs.specs.Slices.{values_of};
+ghost use Rattle.slice_lists.specs.Slices.{values_of};
 ghost use Rattle.interval_walks.specs.Told.{former_if};
 
 use aggregates::Bundle;

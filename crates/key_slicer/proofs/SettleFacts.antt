@@ -16,11 +16,11 @@ use Rattle.window_laws.specs.After.{at_water}
 use Rattle.window_laws.specs.Settled.{without_first}
 use Rattle.stream_base.proofs.Filters.{filter_all}
 use Rattle.window_laws.proofs.Order.{runs_behind}
-use Rattle.slice_runs.specs.declared.slice.Slice.{Slice}
-use Rattle.slice_runs.specs.Touched.{slices_from}
-use Rattle.slice_runs.specs.Slices.{AreSlices, joined, slice_of}
+use Rattle.slice_lists.specs.declared.slice.Slice.{Slice}
+use Rattle.slice_lists.specs.Touched.{slices_from}
+use Rattle.slice_lists.specs.Slices.{AreSlices, joined, slice_of}
 use Rattle.agg_store.specs.Stored.{IsStore, Stored, tuples_of}
-use Rattle.slice_runs.proofs.SliceOrder.{IsApart, IsNear, first_below_last}
+use Rattle.slice_lists.proofs.SliceOrder.{IsApart, IsNear, first_below_last}
 use Rattle.key_windows.specs.Calls.{moment}
 use Rattle.key_parts.specs.Calls.{Standing, window_at}
 use Rattle.key_parts.specs.Moves.{SettlesUpTo}

@@ -30,11 +30,11 @@ use Rattle.window_laws.specs.Runs.{IsAligned, parted_at}
 use Rattle.window_laws.specs.Settled.{without_first}
 use Rattle.window_laws.proofs.SettledFacts.{not_all}
 use Rattle.window_laws.proofs.KeptFacts.{put_is_kept}
-use Rattle.slice_runs.specs.Touched.{slices_from}
-use Rattle.slice_runs.specs.Slices.{joined}
+use Rattle.slice_lists.specs.Touched.{slices_from}
+use Rattle.slice_lists.specs.Slices.{joined}
 use Rattle.agg_store.specs.Stored.{IsAsBefore, IsSliced, IsStore, Stored, tuples_of}
-use Rattle.slice_runs.proofs.MarkFacts.{rising_more}
-use Rattle.slice_runs.proofs.SliceEdits.{put_length}
+use Rattle.slice_lists.proofs.MarkFacts.{rising_more}
+use Rattle.slice_lists.proofs.SliceEdits.{put_length}
 use Rattle.key_windows.specs.Calls.{IsWater, changes_by_move, moment}
 use Rattle.key_parts.specs.Calls.{Standing, StandsAt, window_at}
 use Rattle.key_parts.specs.Held.{IsHeld}

@@ -17,9 +17,9 @@ use Rattle.stream_base.specs.Model.Cuts.{has_cut}
 use Rattle.stream_base.specs.Model.Windows.{first_time}
 use Rattle.window_laws.specs.Runs.{parted_at}
 use Rattle.partials.specs.Apart.{IsReachOver}
-use Rattle.slice_runs.specs.Touched.{is_across, is_near, slices_from}
+use Rattle.slice_lists.specs.Touched.{is_across, is_near, slices_from}
 use Rattle.agg_store.specs.Entered.{slices_near}
-use Rattle.slice_runs.specs.Slices.{joined}
+use Rattle.slice_lists.specs.Slices.{joined}
 use Rattle.agg_store.specs.Stored.{IsStore, Stored}
 use Rattle.key_windows.specs.Calls.{slices_at}
 use Rattle.key_parts.specs.Held.{IsHeld}

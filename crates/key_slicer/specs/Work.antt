@@ -11,8 +11,8 @@ use Rattle.stream_base.specs.Model.Changes.{Moment, changes_between}
 use Rattle.stream_base.specs.Model.Cuts.{has_cut}
 use Rattle.window_laws.specs.Runs.{parted_at}
 use Rattle.partials.specs.Apart.{IsReachOver}
-use Rattle.slice_runs.specs.Touched.{is_across, is_near}
-use Rattle.slice_runs.specs.Slices.{joined}
+use Rattle.slice_lists.specs.Touched.{is_across, is_near}
+use Rattle.slice_lists.specs.Slices.{joined}
 use Rattle.agg_store.specs.Stored.{Stored}
 use Rattle.key_windows.specs.Calls.{slices_at}
 use Rattle.key_parts.specs.Work.{change_work, row_work}

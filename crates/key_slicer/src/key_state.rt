@@ -7,7 +7,7 @@ ghost use Rattle.stream_base.specs.Model.Windows.{first_time};
 ghost use Rattle.stream_base.specs.declared.limits.TheConstants.{TIME_MAX};
 ghost use Rattle.partials.specs.Apart.{IsReachOver};
 ghost use Rattle.agg_store.specs.Entered.{slices_near};
-ghost use Rattle.slice_runs.specs.Slices.{joined};
+ghost use Rattle.slice_lists.specs.Slices.{joined};
 ghost use Rattle.agg_store.specs.Stored.{IsSliced, IsStore, tuples_of};
 ghost use Rattle.key_windows.specs.Calls.{IsWater, kept_at};
 ghost use Rattle.key_parts.specs.Moves.{Comes, all_count_events};

@@ -1,7 +1,7 @@
 //! Settled slices that leave the state of a key.
 ghost use Rattle.std.specs.Prelude.{◌≡◌, ◌≤◌, ◌+◌, ◌-◌, ◌*◌, ℕ, List, length, false};
 ghost use Rattle.stream_base.specs.declared.kept.Kept.{Kept};
-ghost use Rattle.slice_runs.specs.Touched.{slices_from};
+ghost use Rattle.slice_lists.specs.Touched.{slices_from};
 ghost use Rattle.agg_store.specs.Stored.{IsStore};
 ghost use Rattle.key_windows.specs.Calls.{IsWater, moment};
 ghost use Rattle.key_slicer.specs.Parts.{EachPart, rooms};

@@ -5,8 +5,8 @@ use Rattle.stream_base.specs.declared.kept.Kept.{Kept}
 use Rattle.stream_base.specs.declared.what.What.TheVariants.{Tuple, Mark}
 use Rattle.stream_base.specs.Model.Changes.{changes_after, moment_of}
 use Rattle.stream_base.specs.Model.Cuts.{has_cut}
-use Rattle.slice_runs.specs.Touched.{is_across, is_near}
-use Rattle.slice_runs.specs.Slices.{joined}
+use Rattle.slice_lists.specs.Touched.{is_across, is_near}
+use Rattle.slice_lists.specs.Slices.{joined}
 use Rattle.key_slicer.specs.Work.{counting_work, slices_gone}
 use Rattle.shard_core.specs.Shard.{Sharded, sharded_with, slices_after}
 use Rattle.shard_core.specs.Work.{comes_late}

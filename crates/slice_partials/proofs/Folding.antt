@@ -5,7 +5,7 @@ use Rattle.std.proofs.lemmas.List.Folds.{fold-map}
 use Rattle.stream_base.specs.declared.kept.Kept.{Kept}
 use Rattle.aggregates.specs.Bundled.{Bundled, bundle_of, bundle_of_number, bundles_combined, empty_bundle}
 use Rattle.aggregates.proofs.Bundles.{total_of_bundles}
-use Rattle.slice_runs.specs.Slices.{values_of}
+use Rattle.slice_lists.specs.Slices.{values_of}
 
 abbrev pub folded_run : List Kept → Bundled
 folded_run run = fold (λ b (x : Kept). bundles_combined b (bundle_of_number x.value)) empty_bundle run

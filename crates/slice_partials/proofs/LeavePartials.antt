@@ -7,11 +7,11 @@ use Rattle.aggregates.specs.Bundled.{bundle_of}
 use Rattle.agg_laws.specs.Pairs.{without}
 use Rattle.agg_laws.proofs.RisingPairs.{without-middle}
 use Rattle.window_laws.specs.Runs.{AreInOrder}
-use Rattle.slice_runs.specs.Slices.{values_of}
+use Rattle.slice_lists.specs.Slices.{values_of}
 use Rattle.agg_store.specs.Stored.{partial_of}
 use Rattle.slice_partials.proofs.PartialFacts.{firsts_above}
-use Rattle.slice_runs.proofs.SliceOrder.{first_below_last}
-use Rattle.slice_runs.proofs.LeaveFacts.{order_from}
+use Rattle.slice_lists.proofs.SliceOrder.{first_below_last}
+use Rattle.slice_lists.proofs.LeaveFacts.{order_from}
 
 pub first_leaves : (runs : List (List Kept)) (at : ℕ) → at < length runs → AreInOrder runs → without (first_time (get_or runs at [])) (map partial_of (drop at runs)) ≡ map partial_of (drop (at + 1) runs)
 first_leaves runs at l o =

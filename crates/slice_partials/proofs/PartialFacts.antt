@@ -12,11 +12,11 @@ use Rattle.agg_laws.specs.Pairs.{has_key, inserted, replaced, value_at, without}
 use Rattle.aggregates.proofs.Bundles.{bundle_is_value}
 use Rattle.agg_laws.proofs.RisingPairs.{has_key-between, has_key-middle, inserted-parts, replaced-middle, value_at-middle, without-middle}
 use Rattle.window_laws.specs.Runs.{AreInOrder, IsPartFrom, IsRun}
-use Rattle.slice_runs.specs.Slices.{AreSlices, entered_at, values_of}
+use Rattle.slice_lists.specs.Slices.{AreSlices, entered_at, values_of}
 use Rattle.agg_store.specs.Stored.{partial_of}
-use Rattle.slice_runs.proofs.SliceOrder.{IsApart, IsNear, behind_at, first_below_last, first_of_both, part_at, reach}
-use Rattle.slice_runs.proofs.SliceParts.{in_parts}
-use Rattle.slice_runs.proofs.SliceFacts.{values_at, run_of, put_at_end, put_at_front, put_between, first_behind, entered_none, entered_one, entered_two}
+use Rattle.slice_lists.proofs.SliceOrder.{IsApart, IsNear, behind_at, first_below_last, first_of_both, part_at, reach}
+use Rattle.slice_lists.proofs.SliceParts.{in_parts}
+use Rattle.slice_lists.proofs.SliceFacts.{values_at, run_of, put_at_end, put_at_front, put_between, first_behind, entered_none, entered_one, entered_two}
 
 -- ---- slices and their keys
 -- the keys of the partials before and behind a slice

@@ -8,10 +8,10 @@ use Rattle.stream_base.specs.Model.Windows.{first_time}
 use Rattle.aggregates.specs.Bundled.{Bundled, bundle_of}
 use Rattle.agg_laws.specs.Pairs.{has_key, inserted, replaced}
 use Rattle.window_laws.specs.Runs.{AreInOrder}
-use Rattle.slice_runs.specs.Slices.{split_at, values_of}
+use Rattle.slice_lists.specs.Slices.{split_at, values_of}
 use Rattle.agg_store.specs.Stored.{partial_of}
 use Rattle.slice_partials.proofs.PartialFacts.{more_absent, more_there, partial_other}
-use Rattle.slice_runs.proofs.MarkFacts.{first_front, in_front}
+use Rattle.slice_lists.proofs.MarkFacts.{first_front, in_front}
 
 module _ (runs : List (List Kept)) (at time : ℕ) (l : at < length runs) where
   abbrev front : List Kept

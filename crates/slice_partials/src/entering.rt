@@ -1,7 +1,7 @@
 //! A tuple enters the slices that it is near to, and what becomes of their partials.
 ghost use Rattle.std.specs.Prelude.{◌≡◌, ◌≤◌, ◌<◌, ◌+◌, ◌*◌, [], length, map, slice_index_or};
 ghost use Rattle.stream_base.specs.Model.Windows.{first_time, last_time};
-ghost use Rattle.slice_runs.specs.Slices.{CanEnter, entered_at, joined, slices_between};
+ghost use Rattle.slice_lists.specs.Slices.{CanEnter, entered_at, joined, slices_between};
 ghost use Rattle.agg_store.specs.Stored.{partial_of};
 
 use crate::lifting::{folded, lifted};

@@ -1,7 +1,7 @@
 //! What tuples come to.
 ghost use Rattle.std.specs.Prelude.{◌≡◌, ◌≤◌, ◌+◌, ◌∷◌, [], length};
 ghost use Rattle.aggregates.specs.Bundled.{bundle_of, bundle_of_number, bundles_combined};
-ghost use Rattle.slice_runs.specs.Slices.{values_of};
+ghost use Rattle.slice_lists.specs.Slices.{values_of};
 
 use agg_laws::{Lift, Monoid, Steps};
 use aggregates::Bundle;

@@ -1,6 +1,6 @@
 //! A slice is split in two.
 ghost use Rattle.std.specs.Prelude.{◌≡◌, ◌≤◌, ◌+◌, ◌*◌, [], length, map, slice_index_or};
-ghost use Rattle.slice_runs.specs.Slices.{CanSplit, split_at};
+ghost use Rattle.slice_lists.specs.Slices.{CanSplit, split_at};
 ghost use Rattle.agg_store.specs.Stored.{partial_of};
 
 use crate::lifting::folded;

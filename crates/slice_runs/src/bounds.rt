@@ -1,8 +1,8 @@
 //! How slices show after an edit: their times and numbers alone.
 ghost use Rattle.std.specs.Prelude.{◌≡◌, ◌≤◌, ◌<◌, ◌+◌, ◌-◌, ◌^◌, ◌++◌, ◌∷◌, suc, take, drop, vec_len, vec_capacity};
-ghost use Rattle.slice_runs.specs.Bounds.{both_of, entered_bounds, entered_of, shown_alone, widened};
+ghost use Rattle.slice_lists.specs.Bounds.{both_of, entered_bounds, entered_of, shown_alone, widened};
 
-use crate::slice::Slice;
+use slice_lists::Slice;
 
 /// Makes the slices from one place up to another one slice with a tuple more: none, one or two.
 pub fn enter_bounds(bounds: &mut Vec<Slice>, from: usize, to: usize, time: u64)

@@ -4,7 +4,7 @@ ghost use Rattle.std.specs.List.Sorted.{IsStrictlyIncreasing};
 ghost use Rattle.stream_base.specs.declared.limits.TheConstants.{TIME_MAX};
 ghost use Rattle.stream_base.specs.Model.Cuts.{has_cut};
 ghost use Rattle.stream_base.specs.Model.Windows.{first_time};
-ghost use Rattle.slice_runs.specs.Sides.{IsApartBefore, IsApartBehind, IsFirstEntered, IsLastEntered, IsNearBefore, IsNearBehind};
+ghost use Rattle.slice_lists.specs.Sides.{IsApartBefore, IsApartBehind, IsFirstEntered, IsLastEntered, IsNearBefore, IsNearBehind};
 
 use crate::marks::has_mark;
 use crate::runs::Runs;
@@ -12,7 +12,7 @@ use stream_base::Defs;
 use window_cuts::cut_between;
 
 /// Whether there is a cut between two times, by the definitions or by a mark.
-#[tactic(auto, using(crate::proofs::CutFacts::cut_by_mark))]
+#[tactic(auto, using(slice_lists::proofs::CutFacts::cut_by_mark))]
 pub fn has_cut(defs: &Defs, marks: &[u64], low: u64, high: u64) -> bool
     requires rising { IsStrictlyIncreasing marks.now }
     requires ordered { low ≤ high }

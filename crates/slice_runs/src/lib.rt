@@ -1,8 +1,8 @@
 //! The tuples of one key in event order, parted into slices: where slices are cut, which of them a
 //! tuple enters, and the marks.
 //!
-//! *From* tuples and times *to* the slices behind them. *Stands on* `stream_base`, `window_laws` and
-//! `window_cuts` for where the cuts are. *Promise*: slices are lists of tuples, and an edit makes of
+//! *From* tuples and times *to* the slices behind them. *Stands on* `slice_lists` for what slices are,
+//! and on `window_cuts` for where the cuts are. *Promise*: slices are lists of tuples, and an edit makes of
 //! those lists what its contract says: a tuple enters up to two neighbours, which become one, a time
 //! splits a slice in two, and the first slices leave.
 #![tactic(auto)]
@@ -12,9 +12,7 @@ mod cuts;
 mod marks;
 mod places;
 mod runs;
-mod slice;
 
 pub use cuts::{first_entered, last_entered};
 pub use marks::{add_mark, keep_last};
 pub use runs::Runs;
-pub use slice::Slice;

@@ -5,7 +5,7 @@ ghost use Rattle.std.specs.List.{list_any};
 ghost use Rattle.std.specs.List.Sorted.{IsStrictlyIncreasing};
 ghost use Rattle.std.specs.Ordering.{nat_cmp};
 ghost use Rattle.stream_base.specs.declared.limits.TheConstants.{TIME_MAX};
-ghost use Rattle.slice_runs.specs.Touched.{marks_left};
+ghost use Rattle.slice_lists.specs.Touched.{marks_left};
 
 use crate::places::{marks_before, marks_up_to};
 

@@ -5,9 +5,9 @@ ghost use Rattle.std.specs.List.Sorted.{IsNonDecreasingBy, IsStrictlyIncreasing}
 ghost use Rattle.stream_base.specs.declared.limits.TheConstants.{TIME_MAX};
 ghost use Rattle.stream_base.specs.Laws.{TimesDoNotFall};
 ghost use Rattle.stream_base.specs.Model.Windows.{last_time};
-ghost use Rattle.slice_runs.specs.Places.{IsPlaceOf};
+ghost use Rattle.slice_lists.specs.Places.{IsPlaceOf};
 
-use crate::slice::Slice;
+use slice_lists::Slice;
 use stream_base::Kept;
 
 /// How many tuples lie before a time.

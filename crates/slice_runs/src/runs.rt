@@ -6,14 +6,14 @@ ghost use Rattle.stream_base.specs.declared.limits.TheConstants.{TIME_MAX};
 ghost use Rattle.stream_base.specs.Laws.{TimesDoNotFall};
 ghost use Rattle.stream_base.specs.Model.Windows.{first_time, last_time};
 ghost use Rattle.window_laws.specs.Runs.{AreInOrder, IsAligned};
-ghost use Rattle.slice_runs.specs.Touched.{is_across};
-ghost use Rattle.slice_runs.specs.Sides.{IsAcrossAt};
-ghost use Rattle.slice_runs.specs.Places.{IsPlaceOf};
-ghost use Rattle.slice_runs.specs.Slices.{AreSlices, CanEnter, CanSplit, entered_at, joined, slice_of, split_at};
+ghost use Rattle.slice_lists.specs.Touched.{is_across};
+ghost use Rattle.slice_lists.specs.Sides.{IsAcrossAt};
+ghost use Rattle.slice_lists.specs.Places.{IsPlaceOf};
+ghost use Rattle.slice_lists.specs.Slices.{AreSlices, CanEnter, CanSplit, entered_at, joined, slice_of, split_at};
 
 use crate::bounds::{enter_bounds, split_bounds};
 use crate::places::{are_by, place_of, slices_before, slices_up_to, tuples_before};
-use crate::slice::Slice;
+use slice_lists::Slice;
 use std::alloc::Global;
 use std::marker::Model;
 use stream_base::{Kept, NoMemory};
@@ -27,7 +27,7 @@ pub struct Runs {
 }
 
 impl Model for Runs {
-    ghost use Rattle.slice_runs.specs.Slices.{Sliced};
+    ghost use Rattle.slice_lists.specs.Slices.{Sliced};
 
     ghost Value = { Sliced };
 

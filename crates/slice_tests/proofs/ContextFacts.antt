@@ -21,7 +21,7 @@ use Rattle.window_laws.proofs.Order.{All-map_of}
 use Rattle.window_laws.proofs.StretchFacts.{edges_of}
 use Rattle.agg_store.specs.Stored.{IsSliced, IsStore, Stored, tuples_of}
 use Rattle.agg_store.specs.Stored.{IsAsBefore as IsStoreAsBefore}
-use Rattle.slice_runs.proofs.SliceOrder.{times_of_order}
+use Rattle.slice_lists.proofs.SliceOrder.{times_of_order}
 use Rattle.window_spans.specs.declared.span.Span.{Span}
 use Rattle.window_spans.specs.Held.{AreAlignedWith, IsAlignedWith}
 use Rattle.window_spans.specs.Parted.{back_of, first_or, front_of, head_before, holder_of}

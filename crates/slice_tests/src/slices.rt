@@ -7,7 +7,7 @@ use agg_store::AggStore;
 use aggregates::Bundle;
 use fiba_arena::ArenaTree;
 use flat_tree::FlatTree;
-use slice_runs::Slice;
+use slice_lists::Slice;
 use slice_store::{Placed, SliceStore};
 use std::process::Abort;
 use std::test::Fail;

@@ -22,11 +22,11 @@ use Rattle.window_laws.specs.Runs.{AreInOrder, IsRun, parted_at, runs_within}
 use Rattle.window_laws.specs.Walk.{next_start_of}
 use Rattle.window_laws.proofs.RunEdits.{parted}
 use Rattle.window_laws.proofs.RunFacts.{put_behind, put_first}
-use Rattle.slice_runs.specs.Touched.{is_near, slices_from}
+use Rattle.slice_lists.specs.Touched.{is_near, slices_from}
 use Rattle.agg_store.specs.Entered.{IsPut, slices_near}
-use Rattle.slice_runs.specs.Slices.{joined}
+use Rattle.slice_lists.specs.Slices.{joined}
 use Rattle.agg_store.specs.Stored.{IsSliced, IsStore, Stored}
-use Rattle.slice_runs.proofs.SliceOrder.{IsApart, IsNear, first_below_last}
+use Rattle.slice_lists.proofs.SliceOrder.{IsApart, IsNear, first_below_last}
 use Rattle.interval_walks.specs.Held.{partials_of}
 use Rattle.time_lanes.specs.Lane.{IsAsBefore, IsSameUpTo, Knows, KnowsAll, Laned}
 use Rattle.interval_walks.specs.Spans.{ArePartedAt, IsEdge, IsWindowAt, last_end, last_end_of}

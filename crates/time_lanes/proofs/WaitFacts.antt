@@ -23,7 +23,7 @@ use Rattle.window_laws.specs.Walk.{next_start_of}
 use Rattle.stream_base.proofs.Filters.{filter_none}
 use Rattle.window_laws.proofs.Order.{All-split}
 use Rattle.window_laws.proofs.WalkFacts.{from_next}
-use Rattle.slice_runs.specs.Slices.{joined}
+use Rattle.slice_lists.specs.Slices.{joined}
 use Rattle.agg_store.specs.Stored.{IsStore, Stored, tuples_of}
 use Rattle.interval_walks.specs.Held.{partials_of}
 use Rattle.time_lanes.specs.Lane.{Knows, Laned}

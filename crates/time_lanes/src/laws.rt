@@ -10,7 +10,7 @@ ghost use Rattle.stream_base.specs.Limits.{IsKindWithin};
 ghost use Rattle.stream_base.specs.Model.Changes.{Moment};
 ghost use Rattle.window_laws.specs.Runs.{parted_at};
 ghost use Rattle.window_laws.specs.Walk.{next_start_of};
-ghost use Rattle.slice_runs.specs.Touched.{slices_from};
+ghost use Rattle.slice_lists.specs.Touched.{slices_from};
 ghost use Rattle.agg_store.specs.Entered.{IsPut};
 ghost use Rattle.agg_store.specs.Stored.{IsSliced, IsStore, Stored, tuples_of};
 ghost use Rattle.time_lanes.specs.Lane.{IsAsBefore, IsSameUpTo, Knows, KnowsAll, Laned};

@@ -32,7 +32,7 @@ use Rattle.stream_base.proofs.Filters.{filter_none}
 use Rattle.window_laws.proofs.Order.{nd_head, nd_tail}
 use Rattle.window_laws.proofs.SettledFacts.{all_member}
 use Rattle.agg_store.specs.Stored.{Stored, tuples_of}
-use Rattle.slice_runs.proofs.SliceEdits.{put_length}
+use Rattle.slice_lists.proofs.SliceEdits.{put_length}
 use Rattle.interval_walks.specs.Told.{former_at}
 use Rattle.time_lanes.specs.Late.{IsLate, complete_holding, formers_of}
 use Rattle.time_lanes.specs.Moves.{moment}

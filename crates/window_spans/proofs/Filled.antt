@@ -10,9 +10,9 @@ use Rattle.stream_base.specs.Model.Windows.{first_time, is_within, last_time, wi
 use Rattle.window_laws.specs.Runs.{AreInOrder, IsAligned}
 use Rattle.stream_base.proofs.Filters.{filter_none}
 use Rattle.window_laws.proofs.Order.{nd_head}
-use Rattle.slice_runs.specs.declared.slice.Slice.{Slice}
-use Rattle.slice_runs.specs.Slices.{joined, slice_of}
-use Rattle.slice_runs.proofs.SliceOrder.{run_below_last, times_of_order}
+use Rattle.slice_lists.specs.declared.slice.Slice.{Slice}
+use Rattle.slice_lists.specs.Slices.{joined, slice_of}
+use Rattle.slice_lists.proofs.SliceOrder.{run_below_last, times_of_order}
 
 -- the first slice from the start of the span on, if it begins before its end
 abbrev pub begins_by : ℕ → Option Slice → Bool

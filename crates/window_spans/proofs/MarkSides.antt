@@ -11,8 +11,8 @@ use Rattle.stream_base.proofs.Members.{filter_has}
 use Rattle.window_laws.specs.Stretches.{last_mark, next_mark}
 use Rattle.window_laws.proofs.DueFacts.{least_below, least_of}
 use Rattle.window_laws.proofs.StretchFacts.{most_of}
-use Rattle.slice_runs.specs.Places.{IsPlaceOf}
-use Rattle.slice_runs.proofs.PlaceFacts.{marks_do_not_fall}
+use Rattle.slice_lists.specs.Places.{IsPlaceOf}
+use Rattle.slice_lists.proofs.PlaceFacts.{marks_do_not_fall}
 use Rattle.window_spans.proofs.Apart.{All_filtered}
 
 pub most_within : (start : ℕ) (xs : List ℕ) (high : ℕ) → start ≤ high → All (λ x. x ≤ high) xs → fold max start xs ≤ high

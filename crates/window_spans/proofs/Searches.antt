@@ -5,7 +5,7 @@ use Rattle.std.specs.List.{filter}
 use Rattle.std.specs.List.Sorted.{IsPartitionPoint}
 use Rattle.std.proofs.lemmas.Bool.{leb-true, leb-false, ltb-true, ltb-false, le-leb, lt-leb, le-ltb, lt-ltb, and_from, and_left, and_right, cases_lt, cases_Bool}
 use Rattle.std.proofs.lemmas.List.{length-drop}
-use Rattle.slice_runs.proofs.NearFacts.{stretch}
+use Rattle.slice_lists.proofs.NearFacts.{stretch}
 use Rattle.stream_base.proofs.Filters.{filter_none}
 use Rattle.window_spans.specs.declared.span.Span.{Span}
 use Rattle.window_spans.specs.Spans.{AreApart, AreNearAt, IsPlaceOf, due_of, head_standing, is_due, is_near, stands}

@@ -5,7 +5,7 @@ ghost use Rattle.std.specs.List.Sorted.{IsStrictlyIncreasing};
 ghost use Rattle.std.specs.Ordering.{nat_cmp};
 ghost use Rattle.stream_base.specs.declared.limits.TheConstants.{TIME_MAX};
 ghost use Rattle.window_laws.specs.Stretches.{last_mark, next_mark};
-ghost use Rattle.slice_runs.specs.Places.{IsPlaceOf};
+ghost use Rattle.slice_lists.specs.Places.{IsPlaceOf};
 ghost use Rattle.window_spans.specs.Parted.{holder_of};
 
 use crate::span::Span;

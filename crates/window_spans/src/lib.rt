@@ -2,7 +2,7 @@
 //!
 //! *From* spans that lie apart and marks that rise, *to* the spans near a time or due by a
 //! watermark, to what a tuple or a mark makes of them, and to the changes of the instances over
-//! them. *Stands on* `stream_base`, `window_laws`, `slice_runs`, `aggregates`, `agg_laws` and
+//! them. *Stands on* `stream_base`, `window_laws`, `slice_lists`, `aggregates`, `agg_laws` and
 //! `agg_store`, whose folds it tells. *Promise*: each answer is that of its definition over plain
 //! lists, and an instance is told in at most 64 (r + 2) steps over a store of reach r.
 #![tactic(auto)]

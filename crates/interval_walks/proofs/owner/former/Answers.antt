@@ -3,7 +3,7 @@ use Rattle.std.proofs.Common.{◌∙◌, Some, None, cond, length, ap, sym, arit
 use Rattle.std.proofs.lemmas.Bool.{lt-ltb, le-ltb}
 use Rattle.stream_base.specs.Model.Changes.{former_of}
 use Rattle.stream_base.specs.Model.Windows.{interval, within}
-use Rattle.slice_runs.specs.Slices.{values_of}
+use Rattle.slice_lists.specs.Slices.{values_of}
 use Rattle.interval_walks.proofs.Counts.{few_values, number_of_values}
 use Rattle.interval_walks.proofs.owner.former.Goals as goal
 

@@ -1,7 +1,7 @@
 -- A tuple that is the last of all isn't before the end of its slice.
 use Rattle.std.proofs.Common.{◌<◌, ap, arith, length}
-use Rattle.slice_runs.specs.declared.slice.Slice.{Slice}
-use Rattle.slice_runs.proofs.SliceParts.{slice_ends}
+use Rattle.slice_lists.specs.declared.slice.Slice.{Slice}
+use Rattle.slice_lists.proofs.SliceParts.{slice_ends}
 use Rattle.slice_partials.proofs.entering.enter_one.Goals as goal
 
 pub returns-else-x-slice-clause-in_order : goal.returns-else-x-slice-clause-in_order

@@ -7,10 +7,10 @@ use Rattle.stream_base.specs.Model.Windows.{first_time}
 use Rattle.aggregates.specs.Bundled.{bundle_of, bundles_combined}
 use Rattle.agg_laws.specs.Pairs.{has_key, replaced, value_at}
 use Rattle.aggregates.proofs.Bundles.{bundle_of-append}
-use Rattle.slice_runs.specs.declared.slice.Slice.{Slice}
-use Rattle.slice_runs.specs.Slices.{values_of}
+use Rattle.slice_lists.specs.declared.slice.Slice.{Slice}
+use Rattle.slice_lists.specs.Slices.{values_of}
 use Rattle.agg_store.specs.Stored.{partial_of}
-use Rattle.slice_runs.proofs.SliceFacts.{ends_in_time, values_at}
+use Rattle.slice_lists.proofs.SliceFacts.{ends_in_time, values_at}
 use Rattle.slice_partials.proofs.PartialFacts.{extended_there, partial_found, partial_is_value, partial_there}
 use Rattle.slice_partials.proofs.entering.extend.Goals as goal
 

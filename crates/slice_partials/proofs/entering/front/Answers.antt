@@ -6,11 +6,11 @@ use Rattle.std.proofs.lemmas.List.Elements.{All-cons, All-nil}
 use Rattle.stream_base.specs.Model.Windows.{first_time}
 use Rattle.aggregates.specs.Bundled.{bundle_of}
 use Rattle.agg_laws.specs.Pairs.{has_key, inserted, value_at, without}
-use Rattle.slice_runs.specs.declared.slice.Slice.{Slice}
-use Rattle.slice_runs.specs.Slices.{values_of}
+use Rattle.slice_lists.specs.declared.slice.Slice.{Slice}
+use Rattle.slice_lists.specs.Slices.{values_of}
 use Rattle.agg_store.specs.Stored.{partial_of}
 use Rattle.slice_partials.proofs.PartialFacts.{fronted_absent, fronted_there, partial_found}
-use Rattle.slice_runs.proofs.SliceFacts.{values_at}
+use Rattle.slice_lists.proofs.SliceFacts.{values_at}
 use Rattle.slice_partials.proofs.entering.front.Goals as goal
 
 pub insert-requires-clause-absent : goal.insert-requires-clause-absent

@@ -7,10 +7,10 @@ use Rattle.std.proofs.lemmas.List.Elements.{All-append, All-cons, All-nil}
 use Rattle.stream_base.specs.Model.Windows.{first_time}
 use Rattle.aggregates.specs.Bundled.{bundle_of}
 use Rattle.agg_laws.specs.Pairs.{has_key, replaced, value_at, without}
-use Rattle.slice_runs.specs.declared.slice.Slice.{Slice}
-use Rattle.slice_runs.specs.Slices.{slice_of, values_of}
+use Rattle.slice_lists.specs.declared.slice.Slice.{Slice}
+use Rattle.slice_lists.specs.Slices.{slice_of, values_of}
 use Rattle.agg_store.specs.Stored.{partial_of}
-use Rattle.slice_runs.proofs.SliceFacts.{ends_in_time, values_at}
+use Rattle.slice_lists.proofs.SliceFacts.{ends_in_time, values_at}
 use Rattle.slice_partials.proofs.PartialFacts.{merged_is, merged_there, partial_found, partial_is_value}
 use Rattle.slice_partials.proofs.entering.merge.Goals as goal
 

@@ -4,10 +4,10 @@ use Rattle.stream_base.specs.Model.Journal.{put_in_order}
 use Rattle.stream_base.specs.Model.Windows.{first_time}
 use Rattle.aggregates.specs.Bundled.{bundle_of}
 use Rattle.agg_laws.specs.Pairs.{has_key, replaced}
-use Rattle.slice_runs.specs.declared.slice.Slice.{Slice}
-use Rattle.slice_runs.specs.Slices.{values_of}
+use Rattle.slice_lists.specs.declared.slice.Slice.{Slice}
+use Rattle.slice_lists.specs.Slices.{values_of}
 use Rattle.agg_store.specs.Stored.{partial_of}
-use Rattle.slice_runs.proofs.SliceFacts.{entered_there, refolded_length}
+use Rattle.slice_lists.proofs.SliceFacts.{entered_there, refolded_length}
 use Rattle.slice_partials.proofs.PartialFacts.{partial_there, refolded_there}
 use Rattle.slice_partials.proofs.entering.refold.Goals as goal
 

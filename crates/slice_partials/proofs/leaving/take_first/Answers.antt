@@ -1,7 +1,7 @@
 -- The partial of one slice more is taken out.
 use Rattle.std.proofs.Common.{◌∙◌, ◌<◌, ap, arith, length}
 use Rattle.agg_laws.specs.Pairs.{without}
-use Rattle.slice_runs.specs.declared.slice.Slice.{Slice}
+use Rattle.slice_lists.specs.declared.slice.Slice.{Slice}
 use Rattle.slice_partials.proofs.LeavePartials.{first_leaves, one_more}
 use Rattle.slice_partials.proofs.leaving.take_first.Goals as goal
 

@@ -7,10 +7,10 @@ use Rattle.stream_base.specs.Model.Windows.{first_time}
 use Rattle.aggregates.specs.Bundled.{bundle_of}
 use Rattle.agg_laws.specs.Pairs.{has_key, inserted, replaced}
 use Rattle.window_laws.specs.Runs.{AreInOrder}
-use Rattle.slice_runs.specs.declared.slice.Slice.{Slice}
-use Rattle.slice_runs.specs.Slices.{slice_of, split_at, values_of}
+use Rattle.slice_lists.specs.declared.slice.Slice.{Slice}
+use Rattle.slice_lists.specs.Slices.{slice_of, split_at, values_of}
 use Rattle.agg_store.specs.Stored.{partial_of}
-use Rattle.slice_runs.proofs.MarkFacts.{parts_length, split_first, split_longer, split_second}
+use Rattle.slice_lists.proofs.MarkFacts.{parts_length, split_first, split_longer, split_second}
 use Rattle.slice_partials.proofs.SplitPartials.{split_absent, split_there}
 use Rattle.slice_partials.proofs.PartialFacts.{partial_there}
 use Rattle.slice_partials.proofs.splitting.split.Goals as goal

@@ -1,6 +1,6 @@
 -- One slice is wider.
 use Rattle.std.proofs.Common.{arith}
-use Rattle.slice_runs.proofs.BoundEdits.{wider}
+use Rattle.slice_lists.proofs.BoundEdits.{wider}
 use Rattle.slice_runs.proofs.bounds.enter_bounds.Goals as goal
 
 pub returns-then-to-from-2-clause-items : goal.returns-then-to-from-2-clause-items

@@ -1,7 +1,7 @@
 -- The first takes the place, and the second stands behind it.
 use Rattle.std.proofs.Common.{◌≡◌, ◌∙◌, ◌+◌, arith, rules, set}
 use Rattle.std.specs.Prelude.{insert}
-use Rattle.slice_runs.proofs.SplitFacts.{two_for_one}
+use Rattle.slice_lists.proofs.SplitFacts.{two_for_one}
 use Rattle.slice_runs.proofs.bounds.split_bounds.Goals as goal
 
 pub returns-clause-items : goal.returns-clause-items

@@ -1,7 +1,7 @@
 -- A slice begins within the limits.
 use Rattle.std.proofs.Common.{◌<◌, ap, arith, length}
-use Rattle.slice_runs.specs.declared.slice.Slice.{Slice}
-use Rattle.slice_runs.proofs.SliceFacts.{ends_in_time}
+use Rattle.slice_lists.specs.declared.slice.Slice.{Slice}
+use Rattle.slice_lists.proofs.SliceFacts.{ends_in_time}
 use Rattle.slice_runs.proofs.cuts.is_near_behind.Goals as goal
 
 pub has_cut-requires-clause-in_time : goal.has_cut-requires-clause-in_time

@@ -1,6 +1,6 @@
 -- The mark at the place is the first after the earlier time.
 use Rattle.std.proofs.Common.{sym, arith}
-use Rattle.slice_runs.proofs.PlaceFacts.{first_mark_decides, no_mark}
+use Rattle.slice_lists.proofs.PlaceFacts.{first_mark_decides, no_mark}
 use Rattle.slice_runs.proofs.marks.has_mark.Goals as goal
 
 pub returns-then-place-marks : goal.returns-then-place-marks

@@ -5,8 +5,8 @@ use Rattle.std.specs.List.{filter, list_any}
 use Rattle.std.specs.List.Sorted.{IsStrictlyIncreasing}
 use Rattle.std.proofs.lemmas.Fn.{filter_same}
 use Rattle.std.proofs.lemmas.List.Kept.{IsStrictlyIncreasing-filter}
-use Rattle.slice_runs.specs.Places.{IsPlaceOf}
-use Rattle.slice_runs.proofs.LeaveFacts.{cuts_left, last_left, last_read_is, none_to_leave}
+use Rattle.slice_lists.specs.Places.{IsPlaceOf}
+use Rattle.slice_lists.proofs.LeaveFacts.{cuts_left, last_left, last_read_is, none_to_leave}
 use Rattle.slice_runs.proofs.marks.keep_last.Goals as goal
 
 pub returns-then-count-gt0-clause-left : goal.returns-then-count-gt0-clause-left

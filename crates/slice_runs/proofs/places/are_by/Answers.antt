@@ -2,7 +2,7 @@
 use Rattle.std.proofs.Common.{◌≡◌, ◌≤◌, ◌-◌, length, get_or, ap, sym, subst, arith}
 use Rattle.std.specs.Prelude.{nat_le}
 use Rattle.std.proofs.lemmas.Bool.{leb-true}
-use Rattle.slice_runs.proofs.PlaceFacts.{last_is, place_is_end, some_tuple}
+use Rattle.slice_lists.proofs.PlaceFacts.{last_is, place_is_end, some_tuple}
 use Rattle.slice_runs.proofs.places.are_by.Goals as goal
 
 pub returns-else-is_empty-clause-end : goal.returns-else-is_empty-clause-end

@@ -1,8 +1,8 @@
 -- The last slice begins last.
 use Rattle.std.proofs.Common.{◌≤◌, ◌-◌, ◌+◌, length, get_or, arith}
 use Rattle.std.proofs.lemmas.Bool.{leb-true}
-use Rattle.slice_runs.specs.declared.slice.Slice.{Slice}
-use Rattle.slice_runs.proofs.PlaceFacts.{place_at_end}
+use Rattle.slice_lists.specs.declared.slice.Slice.{Slice}
+use Rattle.slice_lists.proofs.PlaceFacts.{place_at_end}
 use Rattle.slice_runs.proofs.places.begin_by.Goals as goal
 
 pub returns-else-is_empty : goal.returns-else-is_empty

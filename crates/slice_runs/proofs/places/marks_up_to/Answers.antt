@@ -3,7 +3,7 @@ use Rattle.std.proofs.Common.{ℕ, ◌<◌, ◌≤◌, arith, get_or, rules}
 use Rattle.std.specs.Prelude.{nat_le}
 use Rattle.std.proofs.lemmas.Bool.{leb-false, leb-true}
 use Rattle.std.proofs.lemmas.List.Sorted.{IsPartitionPoint-from_clause, IsPartitionedBy-leb}
-use Rattle.slice_runs.proofs.PlaceFacts.{marks_do_not_fall}
+use Rattle.slice_lists.proofs.PlaceFacts.{marks_do_not_fall}
 use Rattle.slice_runs.proofs.places.marks_up_to.Goals as goal
 
 pub returns : goal.returns

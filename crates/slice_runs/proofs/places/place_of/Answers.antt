@@ -1,6 +1,6 @@
 -- So many tuples lie before the next time.
 use Rattle.std.proofs.Common.{sym}
-use Rattle.slice_runs.proofs.PlaceFacts.{place_is, some_tuple}
+use Rattle.slice_lists.proofs.PlaceFacts.{place_is, some_tuple}
 use Rattle.slice_runs.proofs.places.place_of.Goals as goal
 
 pub returns-else-are_by-clause-value : goal.returns-else-are_by-clause-value

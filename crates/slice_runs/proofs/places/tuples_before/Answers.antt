@@ -3,7 +3,7 @@ use Rattle.std.proofs.Common.{rules}
 use Rattle.std.specs.Prelude.{nat_lt}
 use Rattle.std.proofs.lemmas.List.Sorted.{IsPartitionPoint-from_clause, IsPartitionedBy-ltb}
 use Rattle.stream_base.specs.declared.kept.Kept.{Kept}
-use Rattle.slice_runs.proofs.PlaceFacts.{place_from_point}
+use Rattle.slice_lists.proofs.PlaceFacts.{place_from_point}
 use Rattle.slice_runs.proofs.places.tuples_before.Goals as goal
 
 pub returns : goal.returns

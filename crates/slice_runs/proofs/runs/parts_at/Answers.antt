@@ -1,9 +1,9 @@
 -- The parts stand before the place of the time and behind it.
 use Rattle.std.proofs.Common.{◌∙◌, ◌<◌, ap, arith, sym, length, length-take, length-drop}
-use Rattle.slice_runs.specs.declared.slice.Slice.{Slice}
-use Rattle.slice_runs.specs.Slices.{slice_of}
-use Rattle.slice_runs.proofs.SliceParts.{part_to_end}
-use Rattle.slice_runs.proofs.SplitFacts.{back_is, cut_above, cut_below, front_is, some_tuples, whole_is}
+use Rattle.slice_lists.specs.declared.slice.Slice.{Slice}
+use Rattle.slice_lists.specs.Slices.{slice_of}
+use Rattle.slice_lists.proofs.SliceParts.{part_to_end}
+use Rattle.slice_lists.proofs.SplitFacts.{back_is, cut_above, cut_below, front_is, some_tuples, whole_is}
 use Rattle.slice_runs.proofs.runs.parts_at.Goals as goal
 
 pub shown-requires : goal.shown-requires

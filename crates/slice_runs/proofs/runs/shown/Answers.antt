@@ -1,5 +1,5 @@
 -- By the first tuple and the last.
-use Rattle.slice_runs.proofs.SplitFacts.{shown_is}
+use Rattle.slice_lists.proofs.SplitFacts.{shown_is}
 use Rattle.slice_runs.proofs.runs.shown.Goals as goal
 
 pub returns : goal.returns

@@ -1,7 +1,7 @@
 -- The mark is there, or is put before the first later one.
 use Rattle.std.proofs.Common.{◌≡◌, ◌∙◌, sym, rules}
 use Rattle.std.specs.Prelude.{insert}
-use Rattle.slice_runs.proofs.PlaceFacts.{marked, unmarked}
+use Rattle.slice_lists.proofs.PlaceFacts.{marked, unmarked}
 use Rattle.window_spans.proofs.edges.add_mark.Goals as goal
 
 pub returns-then-not-is_marked-clause-added : goal.returns-then-not-is_marked-clause-added

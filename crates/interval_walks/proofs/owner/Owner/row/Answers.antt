@@ -1,7 +1,7 @@
 -- The row of the interval, whose count and value are those of its tuples.
 use Rattle.std.proofs.Common.{◌∙◌}
 use Rattle.stream_base.specs.Model.Windows.{within}
-use Rattle.slice_runs.specs.Slices.{values_of}
+use Rattle.slice_lists.specs.Slices.{values_of}
 use Rattle.interval_walks.proofs.Counts.{few_values, number_of_values}
 use Rattle.interval_walks.proofs.owner.Owner.row.Goals as goal
 

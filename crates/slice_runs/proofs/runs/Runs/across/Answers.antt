@@ -1,9 +1,9 @@
 -- None has begun, or the last that has ends before the time.
 use Rattle.std.proofs.Common.{ap, arith, subst}
 use Rattle.stream_base.specs.Model.Windows.{first_time}
-use Rattle.slice_runs.specs.declared.slice.Slice.{Slice}
-use Rattle.slice_runs.specs.Places.{IsPlaceOf}
-use Rattle.slice_runs.proofs.MarkFacts.{last_ended, none_begun}
+use Rattle.slice_lists.specs.declared.slice.Slice.{Slice}
+use Rattle.slice_lists.specs.Places.{IsPlaceOf}
+use Rattle.slice_lists.proofs.MarkFacts.{last_ended, none_begun}
 use Rattle.slice_runs.proofs.runs.Runs.across.Goals as goal
 
 pub returns-then-begun-eq0-clause-none : goal.returns-then-begun-eq0-clause-none

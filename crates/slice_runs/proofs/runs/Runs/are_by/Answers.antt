@@ -3,7 +3,7 @@ use Rattle.std.proofs.Common.{◌∙◌, ap, sym, subst}
 use Rattle.std.specs.Prelude.{nat_le}
 use Rattle.stream_base.specs.Laws.{TimesDoNotFall}
 use Rattle.stream_base.specs.Model.Windows.{last_time}
-use Rattle.slice_runs.proofs.SliceOrder.{times_of_order}
+use Rattle.slice_lists.proofs.SliceOrder.{times_of_order}
 use Rattle.slice_runs.proofs.runs.Runs.are_by.Goals as goal
 
 pub are_by-requires : goal.are_by-requires

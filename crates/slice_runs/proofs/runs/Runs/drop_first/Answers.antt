@@ -4,10 +4,10 @@ use Rattle.std.specs.Prelude.{nat_le}
 use Rattle.std.specs.List.{filter}
 use Rattle.std.proofs.lemmas.Fn.{filter_same}
 use Rattle.stream_base.specs.declared.kept.Kept.{Kept}
-use Rattle.slice_runs.specs.declared.slice.Slice.{Slice}
-use Rattle.slice_runs.specs.Inside.{parted_by}
-use Rattle.slice_runs.proofs.LeaveFacts.{bounds_left, left_hold, tuples_left}
-use Rattle.slice_runs.proofs.SliceEdits.{kept_again, parted_again}
+use Rattle.slice_lists.specs.declared.slice.Slice.{Slice}
+use Rattle.slice_lists.specs.Parted.{parted_by}
+use Rattle.slice_lists.proofs.LeaveFacts.{bounds_left, left_hold, tuples_left}
+use Rattle.slice_lists.proofs.SliceEdits.{kept_again, parted_again}
 use Rattle.slice_runs.proofs.runs.Runs.drop_first.Goals as goal
 
 pub invariant_of-self : goal.invariant_of-self

@@ -4,12 +4,12 @@ use Rattle.std.specs.Prelude.{nat_lt, nat_le}
 use Rattle.std.specs.List.{filter}
 use Rattle.stream_base.specs.declared.kept.Kept.{Kept}
 use Rattle.stream_base.specs.Laws.{TimesDoNotFall}
-use Rattle.slice_runs.specs.declared.slice.Slice.{Slice}
-use Rattle.slice_runs.specs.Inside.{parted_by}
-use Rattle.slice_runs.specs.Slices.{joined, slice_of, split_at}
-use Rattle.slice_runs.proofs.SliceFacts.{run_of}
-use Rattle.slice_runs.proofs.SliceEdits.{kept_again, parted_again}
-use Rattle.slice_runs.proofs.SplitFacts.{run_in_order, split_hold, split_shown, split_tuples}
+use Rattle.slice_lists.specs.declared.slice.Slice.{Slice}
+use Rattle.slice_lists.specs.Parted.{parted_by}
+use Rattle.slice_lists.specs.Slices.{joined, slice_of, split_at}
+use Rattle.slice_lists.proofs.SliceFacts.{run_of}
+use Rattle.slice_lists.proofs.SliceEdits.{kept_again, parted_again}
+use Rattle.slice_lists.proofs.SplitFacts.{run_in_order, split_hold, split_shown, split_tuples}
 use Rattle.slice_runs.proofs.runs.Runs.split.Goals as goal
 
 pub parts_at-requires-clause-in_order : goal.parts_at-requires-clause-in_order

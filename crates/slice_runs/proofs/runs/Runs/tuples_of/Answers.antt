@@ -3,13 +3,13 @@ use Rattle.std.proofs.Common.{◌≡◌, ◌∙◌, ◌<◌, [], ap, arith, sym,
 use Rattle.stream_base.specs.declared.kept.Kept.{Kept}
 use Rattle.stream_base.specs.Laws.{TimesDoNotFall}
 use Rattle.stream_base.specs.Model.Windows.{first_time}
-use Rattle.slice_runs.specs.declared.slice.Slice.{Slice}
-use Rattle.slice_runs.specs.Inside.{parted_by}
-use Rattle.slice_runs.specs.Places.{IsPlaceOf}
-use Rattle.slice_runs.specs.Slices.{slice_of}
-use Rattle.slice_runs.proofs.SliceEdits.{shown_at}
-use Rattle.slice_runs.proofs.SliceOrder.{times_of_order}
-use Rattle.slice_runs.proofs.SliceParts.{part_is, part_within}
+use Rattle.slice_lists.specs.declared.slice.Slice.{Slice}
+use Rattle.slice_lists.specs.Parted.{parted_by}
+use Rattle.slice_lists.specs.Places.{IsPlaceOf}
+use Rattle.slice_lists.specs.Slices.{slice_of}
+use Rattle.slice_lists.proofs.SliceEdits.{shown_at}
+use Rattle.slice_lists.proofs.SliceOrder.{times_of_order}
+use Rattle.slice_lists.proofs.SliceParts.{part_is, part_within}
 use Rattle.slice_runs.proofs.runs.Runs.tuples_of.Goals as goal
 
 pub tuples_before-start-requires : goal.tuples_before-start-requires

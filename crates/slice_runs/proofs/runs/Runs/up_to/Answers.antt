@@ -1,11 +1,11 @@
 -- The slices show in order.
 use Rattle.std.proofs.Common.{◌∙◌, ◌+◌, sym, subst}
 use Rattle.std.specs.List.Sorted.{IsNonDecreasingBy}
-use Rattle.slice_runs.specs.declared.slice.Slice.{Slice}
-use Rattle.slice_runs.specs.Inside.{parted_by}
-use Rattle.slice_runs.specs.Slices.{slice_of}
-use Rattle.slice_runs.proofs.PlaceFacts.{place_of_map}
-use Rattle.slice_runs.proofs.SliceEdits.{lows_rise}
+use Rattle.slice_lists.specs.declared.slice.Slice.{Slice}
+use Rattle.slice_lists.specs.Parted.{parted_by}
+use Rattle.slice_lists.specs.Slices.{slice_of}
+use Rattle.slice_lists.proofs.PlaceFacts.{place_of_map}
+use Rattle.slice_lists.proofs.SliceEdits.{lows_rise}
 use Rattle.slice_runs.proofs.runs.Runs.up_to.Goals as goal
 
 pub slices_up_to-requires-clause-in_order : goal.slices_up_to-requires-clause-in_order

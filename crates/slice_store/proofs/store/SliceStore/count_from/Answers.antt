@@ -1,7 +1,7 @@
 -- Those from the time on stand behind those before it.
 use Rattle.std.proofs.Common.{ap, arith, length}
 use Rattle.std.proofs.lemmas.List.{length-drop}
-use Rattle.slice_runs.proofs.LeaveFacts.{from_place}
+use Rattle.slice_lists.proofs.LeaveFacts.{from_place}
 use Rattle.slice_store.proofs.store.SliceStore.count_from.Goals as goal
 
 pub returns : goal.returns

@@ -1,8 +1,8 @@
 -- The slices and marks from the time on are left.
 use Rattle.std.proofs.Common.{◌∙◌, ap, sym}
 use Rattle.stream_base.specs.Model.Slices.{runs_of}
-use Rattle.slice_runs.specs.Slices.{joined}
-use Rattle.slice_runs.proofs.LeaveFacts.{from_place, left_sliced, many_before}
+use Rattle.slice_lists.specs.Slices.{joined}
+use Rattle.slice_lists.proofs.LeaveFacts.{from_place, left_sliced, many_before}
 use Rattle.slice_store.proofs.store.SliceStore.drop_settled.Goals as goal
 
 pub returns-clause-slices : goal.returns-clause-slices

@@ -2,8 +2,8 @@
 use Rattle.std.proofs.Common.{◌∙◌, ap, arith, length, sym, subst}
 use Rattle.std.specs.List.Sorted.{IsStrictlyIncreasing}
 use Rattle.stream_base.specs.Model.Slices.{runs_of}
-use Rattle.slice_runs.specs.Slices.{joined}
-use Rattle.slice_runs.proofs.MarkFacts.{across_alone, marked_sliced, none_any, none_split, one_any, one_split, rising_more, same_tuples}
+use Rattle.slice_lists.specs.Slices.{joined}
+use Rattle.slice_lists.proofs.MarkFacts.{across_alone, marked_sliced, none_any, none_split, one_any, one_split, rising_more, same_tuples}
 use Rattle.slice_store.proofs.store.SliceStore.mark.Goals as goal
 
 pub invariant_of-self : goal.invariant_of-self

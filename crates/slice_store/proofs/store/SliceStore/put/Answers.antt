@@ -4,9 +4,9 @@ use Rattle.std.specs.Int.{w64}
 use Rattle.std.proofs.lemmas.Int.{to_z-of_z}
 use Rattle.stream_base.specs.declared.kept.Kept.{Kept}
 use Rattle.slice_store.specs.Placing.{placed_in}
-use Rattle.slice_runs.specs.Slices.{kept_at}
-use Rattle.slice_runs.proofs.NearFacts.{IsEdit}
-use Rattle.slice_runs.proofs.PutFacts.{can_enter, edit_at, is_then, near_joined, near_length, sliced_again, tuples_with, was_before}
+use Rattle.slice_lists.specs.Slices.{kept_at}
+use Rattle.slice_lists.proofs.NearFacts.{IsEdit}
+use Rattle.slice_lists.proofs.PutFacts.{can_enter, edit_at, is_then, near_joined, near_length, sliced_again, tuples_with, was_before}
 use Rattle.slice_store.proofs.store.SliceStore.put.Goals as goal
 
 pub enter-requires-clause-can : goal.enter-requires-clause-can

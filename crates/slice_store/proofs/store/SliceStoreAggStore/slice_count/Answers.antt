@@ -1,5 +1,5 @@
 -- No tuple is above the greatest time.
-use Rattle.slice_runs.proofs.SliceFacts.{all_end}
+use Rattle.slice_lists.proofs.SliceFacts.{all_end}
 use Rattle.slice_store.proofs.store.SliceStoreAggStore.slice_count.Goals as goal
 
 pub returns-clause-ends : goal.returns-clause-ends

@@ -1,8 +1,8 @@
 -- The slice at the place is the first from the time on.
 use Rattle.std.proofs.Common.{◌∙◌, ap, Some, sym, arith}
 use Rattle.std.specs.Option.{option_map}
-use Rattle.slice_runs.specs.Slices.{slice_of}
-use Rattle.slice_runs.proofs.WithinFacts.{first_from, none_from}
+use Rattle.slice_lists.specs.Slices.{slice_of}
+use Rattle.slice_lists.proofs.WithinFacts.{first_from, none_from}
 use Rattle.slice_store.proofs.store.SliceStoreAggStore.slice_from.Goals as goal
 
 pub returns-then-at-len-clause-first : goal.returns-then-at-len-clause-first

@@ -6,7 +6,7 @@ use Rattle.std.specs.List.{All}
 use Rattle.std.proofs.lemmas.List.Elements.{All-cons, All-filter, All-nil}
 use Rattle.stream_base.specs.declared.kept.Kept.{Kept}
 use Rattle.stream_base.specs.Model.Journal.{put_in_order}
-use Rattle.slice_runs.specs.Slices.{kept_at}
+use Rattle.slice_lists.specs.Slices.{kept_at}
 use Rattle.agg_store.specs.Stored.{tuples_of}
 use Rattle.window_spans.specs.Spans.{is_near, near_of, stands}
 use Rattle.context_windows.specs.Marked.{FollowsMarks, holder_in}

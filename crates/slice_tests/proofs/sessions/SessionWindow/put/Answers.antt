@@ -4,7 +4,7 @@ use Rattle.std.specs.Int.{w64}
 use Rattle.std.proofs.lemmas.Int.{to_z-of_z}
 use Rattle.stream_base.specs.declared.kept.Kept.{Kept}
 use Rattle.stream_base.specs.Model.Journal.{put_in_order}
-use Rattle.slice_runs.specs.Slices.{kept_at}
+use Rattle.slice_lists.specs.Slices.{kept_at}
 use Rattle.agg_store.specs.Stored.{tuples_of}
 use Rattle.context_windows.specs.Aligned.{IsOfSessions}
 use Rattle.context_windows.specs.Spanned.{Follows, gap_at, window_at}

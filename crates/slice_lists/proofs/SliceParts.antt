@@ -9,11 +9,11 @@ use Rattle.std.proofs.Math.Seq.{split_at, take-length}
 use Rattle.stream_base.specs.declared.kept.Kept.{Kept}
 use Rattle.stream_base.specs.Model.Windows.{first_time, last_time}
 use Rattle.window_laws.specs.Runs.{AreInOrder, IsRun}
-use Rattle.slice_runs.specs.Places.{IsPlaceOf}
-use Rattle.slice_runs.specs.Slices.{joined}
-use Rattle.slice_runs.proofs.PlaceFacts.{some_tuple}
-use Rattle.slice_runs.proofs.SliceEdits.{drop_own, take_own}
-use Rattle.slice_runs.proofs.SliceOrder.{IsNear, above_slice, behind_at, below_slice, first_below_last, part_at, run_above_first}
+use Rattle.slice_lists.specs.Places.{IsPlaceOf}
+use Rattle.slice_lists.specs.Slices.{joined}
+use Rattle.slice_lists.proofs.PlaceFacts.{some_tuple}
+use Rattle.slice_lists.proofs.SliceEdits.{drop_own, take_own}
+use Rattle.slice_lists.proofs.SliceOrder.{IsNear, above_slice, behind_at, below_slice, first_below_last, part_at, run_above_first}
 
 -- all from a place to the end
 pub part_to_end : {X : Type 0} (xs : List X) (n : ℕ) → take (length xs - n) (drop n xs) ≡ drop n xs

@@ -1,8 +1,8 @@
 -- The bounds of slices after an edit.
 use Rattle.std.proofs.Common.{◌≡◌, ◌∙◌, ℕ, suc, ◌+◌, ◌-◌, ◌<◌, List, [], ◌∷◌, ◌++◌, length, get_or, set, take, drop, ap, sym, refl, arith, drop-cons}
 use Rattle.std.proofs.lemmas.List.{set_split}
-use Rattle.slice_runs.specs.declared.slice.Slice.{Slice}
-use Rattle.slice_runs.specs.Bounds.{entered_bounds, entered_of, widened}
+use Rattle.slice_lists.specs.declared.slice.Slice.{Slice}
+use Rattle.slice_lists.specs.Bounds.{entered_bounds, entered_of, widened}
 
 take_one : (s : Slice) (ss : List Slice) → take 1 (s ∷ ss) ≡ s ∷ []
 take_one s [] = refl

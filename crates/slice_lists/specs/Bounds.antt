@@ -1,6 +1,6 @@
 -- How slices show after an edit.
 use Rattle.std.specs.Prelude.{◌+◌, ◌-◌, ◌++◌, ℕ, List, [], ◌∷◌, min, max, take, drop}
-use Rattle.slice_runs.specs.declared.slice.Slice.{Slice}
+use Rattle.slice_lists.specs.declared.slice.Slice.{Slice}
 
 -- as a slice of one tuple shows
 abbrev pub shown_alone : ℕ → Slice

@@ -14,10 +14,10 @@ use Rattle.stream_base.specs.Model.Windows.{first_time, last_time}
 use Rattle.window_laws.specs.Runs.{AreInOrder, IsRun}
 use Rattle.window_laws.proofs.Order.{All-map_of, All-split}
 use Rattle.window_laws.proofs.RunFacts.{put_behind, put_first}
-use Rattle.slice_runs.specs.Slices.{AreSlices, entered_at, joined, slices_between, values_of}
-use Rattle.slice_runs.proofs.SliceOrder.{IsNear, first_below_last, part_at, put_far, run_below_last}
-use Rattle.slice_runs.proofs.SliceEdits.{put_length}
-use Rattle.slice_runs.proofs.SliceParts.{in_parts, joined_parts}
+use Rattle.slice_lists.specs.Slices.{AreSlices, entered_at, joined, slices_between, values_of}
+use Rattle.slice_lists.proofs.SliceOrder.{IsNear, first_below_last, part_at, put_far, run_below_last}
+use Rattle.slice_lists.proofs.SliceEdits.{put_length}
+use Rattle.slice_lists.proofs.SliceParts.{in_parts, joined_parts}
 
 pub values_at : (runs : List (List Kept)) (at : ℕ) → at < length runs → AreSlices runs → All (FitsSigned w64) (values_of (get_or runs at []))
 values_at runs at l h =

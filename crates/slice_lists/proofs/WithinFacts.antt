@@ -8,9 +8,9 @@ use Rattle.stream_base.specs.declared.kept.Kept.{Kept}
 use Rattle.stream_base.specs.Model.Windows.{first_time, is_within, last_time, within}
 use Rattle.window_laws.specs.Runs.{AreInOrder, IsAligned, runs_within}
 use Rattle.stream_base.proofs.Filters.{filter_all, filter_none}
-use Rattle.slice_runs.specs.Places.{IsPlaceOf}
-use Rattle.slice_runs.specs.Slices.{joined}
-use Rattle.slice_runs.proofs.SliceOrder.{first_below_last, run_above_first, run_below_last}
+use Rattle.slice_lists.specs.Places.{IsPlaceOf}
+use Rattle.slice_lists.specs.Slices.{joined}
+use Rattle.slice_lists.proofs.SliceOrder.{first_below_last, run_above_first, run_below_last}
 
 -- ---- an interval with no slice on both sides of either end
 module _ (low high : ℕ) where

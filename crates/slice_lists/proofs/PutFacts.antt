@@ -12,12 +12,12 @@ use Rattle.stream_base.specs.Model.Slices.{runs_of}
 use Rattle.stream_base.specs.Model.Windows.{first_time}
 use Rattle.window_laws.specs.Runs.{AreRuns}
 use Rattle.window_laws.proofs.RunEdits.{pieces_are_runs, runs_are_pieces}
-use Rattle.slice_runs.specs.Touched.{is_near}
-use Rattle.slice_runs.specs.Places.{IsPlaceOf}
-use Rattle.slice_runs.specs.Sides.{IsFirstEntered, IsLastEntered}
-use Rattle.slice_runs.specs.Slices.{AreSlices, CanEnter, Sliced, entered_at, joined, slices_between}
-use Rattle.slice_runs.proofs.NearFacts.{IsEdit, edit}
-use Rattle.slice_runs.proofs.SliceEdits.{entered_tuples, in_three}
+use Rattle.slice_lists.specs.Touched.{is_near}
+use Rattle.slice_lists.specs.Places.{IsPlaceOf}
+use Rattle.slice_lists.specs.Sides.{IsFirstEntered, IsLastEntered}
+use Rattle.slice_lists.specs.Slices.{AreSlices, CanEnter, Sliced, entered_at, joined, slices_between}
+use Rattle.slice_lists.proofs.NearFacts.{IsEdit, edit}
+use Rattle.slice_lists.proofs.SliceEdits.{entered_tuples, in_three}
 
 -- what is sliced are runs
 pub are_runs : (windows : List Def) (marks : List ℕ) (slices : List (List Kept)) → slices ≡ runs_of windows marks (joined slices) → AreRuns (has_cut windows marks) slices

@@ -17,13 +17,13 @@ use Rattle.window_laws.specs.Runs.{AreInOrder, AreParted, ArePartFrom, AreRuns, 
 use Rattle.window_laws.proofs.MarkRuns.{earlier_cut, later_cut}
 use Rattle.stream_base.proofs.Filters.{filter_all, filter_none}
 use Rattle.window_laws.proofs.RunEdits.{added, entered, extended, fronted, merged}
-use Rattle.slice_runs.specs.Touched.{is_near}
-use Rattle.slice_runs.specs.Places.{IsPlaceOf}
-use Rattle.slice_runs.specs.Sides.{IsApartBefore, IsApartBehind, IsFirstEntered, IsLastEntered, IsNearBefore, IsNearBehind}
-use Rattle.slice_runs.specs.Slices.{entered_at, slices_between}
-use Rattle.slice_runs.proofs.SliceFacts.{entered_none, entered_one, entered_two, put_at_end, put_at_front, put_between, run_of}
-use Rattle.slice_runs.proofs.SliceOrder.{IsApart, IsNear, first_below_last}
-use Rattle.slice_runs.proofs.SliceParts.{in_parts}
+use Rattle.slice_lists.specs.Touched.{is_near}
+use Rattle.slice_lists.specs.Places.{IsPlaceOf}
+use Rattle.slice_lists.specs.Sides.{IsApartBefore, IsApartBehind, IsFirstEntered, IsLastEntered, IsNearBefore, IsNearBehind}
+use Rattle.slice_lists.specs.Slices.{entered_at, slices_between}
+use Rattle.slice_lists.proofs.SliceFacts.{entered_none, entered_one, entered_two, put_at_end, put_at_front, put_between, run_of}
+use Rattle.slice_lists.proofs.SliceOrder.{IsApart, IsNear, first_below_last}
+use Rattle.slice_lists.proofs.SliceParts.{in_parts}
 
 -- ---- what stands at the sides of a place
 module _ (R : ℕ → ℕ → Type 0) (x : Kept) where

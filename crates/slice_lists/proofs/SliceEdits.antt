@@ -17,11 +17,11 @@ use Rattle.window_laws.specs.Runs.{AreInOrder, IsPartFrom, IsRun}
 use Rattle.stream_base.proofs.Filters.{cases_of}
 use Rattle.window_laws.proofs.RunFacts.{put_first, put_behind}
 use Rattle.window_laws.proofs.RunEdits.{parted}
-use Rattle.slice_runs.specs.declared.slice.Slice.{Slice}
-use Rattle.slice_runs.specs.Bounds.{both_of, entered_bounds, entered_of, widened}
-use Rattle.slice_runs.specs.Inside.{AreKept, parted_by}
-use Rattle.slice_runs.specs.Slices.{AreSlices, entered_at, joined, slice_of, slices_between}
-use Rattle.slice_runs.proofs.SliceOrder.{IsApart, IsNear, first_below_last, first_of_both, last_of_both, put_in_slice, run_join}
+use Rattle.slice_lists.specs.declared.slice.Slice.{Slice}
+use Rattle.slice_lists.specs.Bounds.{both_of, entered_bounds, entered_of, widened}
+use Rattle.slice_lists.specs.Parted.{AreKept, parted_by}
+use Rattle.slice_lists.specs.Slices.{AreSlices, entered_at, joined, slice_of, slices_between}
+use Rattle.slice_lists.proofs.SliceOrder.{IsApart, IsNear, first_below_last, first_of_both, last_of_both, put_in_slice, run_join}
 
 pub take_own : (r z : List Kept) → take (length r) (r ++ z) ≡ r
 take_own [] z = take_none z

@@ -14,12 +14,12 @@ use Rattle.stream_base.specs.Model.Windows.{first_time, last_time}
 use Rattle.window_laws.specs.Runs.{AreInOrder, IsPartFrom, IsRun}
 use Rattle.stream_base.proofs.Filters.{filter_all, filter_none}
 use Rattle.window_laws.proofs.RunEdits.{parted, replaced}
-use Rattle.slice_runs.specs.declared.slice.Slice.{Slice}
-use Rattle.slice_runs.specs.Places.{IsPlaceOf}
-use Rattle.slice_runs.specs.Slices.{AreSlices, joined, slice_of, split_at}
-use Rattle.slice_runs.proofs.PlaceFacts.{last_is, some_tuple}
-use Rattle.slice_runs.proofs.SliceOrder.{IsApart, IsNear, times_of_order}
-use Rattle.slice_runs.proofs.SliceParts.{in_parts, joined_parts}
+use Rattle.slice_lists.specs.declared.slice.Slice.{Slice}
+use Rattle.slice_lists.specs.Places.{IsPlaceOf}
+use Rattle.slice_lists.specs.Slices.{AreSlices, joined, slice_of, split_at}
+use Rattle.slice_lists.proofs.PlaceFacts.{last_is, some_tuple}
+use Rattle.slice_lists.proofs.SliceOrder.{IsApart, IsNear, times_of_order}
+use Rattle.slice_lists.proofs.SliceParts.{in_parts, joined_parts}
 
 pub run_in_order : (run : List Kept) → IsRun IsNear run → TimesDoNotFall run
 run_in_order run r = subst TimesDoNotFall (append-nil run) (times_of_order (run ∷ []) (r, tt, tt))

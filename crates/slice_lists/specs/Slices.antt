@@ -7,7 +7,7 @@ use Rattle.stream_base.specs.declared.limits.TheConstants.{TIME_MAX}
 use Rattle.stream_base.specs.Model.Journal.{put_in_order}
 use Rattle.stream_base.specs.Model.Windows.{first_time, last_time}
 use Rattle.window_laws.specs.Runs.{AreInOrder}
-use Rattle.slice_runs.specs.declared.slice.Slice.{Slice}
+use Rattle.slice_lists.specs.declared.slice.Slice.{Slice}
 
 -- the tuples of slices, one slice behind another
 abbrev pub joined : List (List Kept) → List Kept

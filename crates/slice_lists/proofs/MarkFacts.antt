@@ -22,14 +22,14 @@ use Rattle.stream_base.specs.Model.Windows.{first_time, last_time}
 use Rattle.stream_base.proofs.Pieces.{pieces_joined}
 use Rattle.window_laws.specs.Runs.{AreInOrder, parted_at}
 use Rattle.window_laws.proofs.MarkRuns.{runs_after_mark}
-use Rattle.slice_runs.specs.Touched.{is_across}
-use Rattle.slice_runs.specs.Places.{IsPlaceOf}
-use Rattle.slice_runs.specs.Sides.{IsAcrossAt}
-use Rattle.slice_runs.specs.Slices.{joined, split_at}
-use Rattle.slice_runs.proofs.NearFacts.{neighbours, stretch}
-use Rattle.slice_runs.proofs.SliceFacts.{one_between}
-use Rattle.slice_runs.proofs.SliceOrder.{IsApart, IsNear, times_of_order}
-use Rattle.slice_runs.proofs.SliceParts.{in_parts}
+use Rattle.slice_lists.specs.Touched.{is_across}
+use Rattle.slice_lists.specs.Places.{IsPlaceOf}
+use Rattle.slice_lists.specs.Sides.{IsAcrossAt}
+use Rattle.slice_lists.specs.Slices.{joined, split_at}
+use Rattle.slice_lists.proofs.NearFacts.{neighbours, stretch}
+use Rattle.slice_lists.proofs.SliceFacts.{one_between}
+use Rattle.slice_lists.proofs.SliceOrder.{IsApart, IsNear, times_of_order}
+use Rattle.slice_lists.proofs.SliceParts.{in_parts}
 
 -- ---- slices under one mark more
 module _ (time : ℕ) where

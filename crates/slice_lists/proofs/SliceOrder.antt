@@ -14,7 +14,7 @@ use Rattle.window_laws.specs.Runs.{AreInOrder, IsPartFrom, IsRun}
 use Rattle.stream_base.proofs.Filters.{cases_of}
 use Rattle.window_laws.proofs.RunFacts.{put_first, put_behind}
 use Rattle.window_laws.proofs.RunEdits.{parted}
-use Rattle.slice_runs.specs.Slices.{joined}
+use Rattle.slice_lists.specs.Slices.{joined}
 
 abbrev pub IsNear : ℕ → ℕ → Type 0
 IsNear a b = a ≤ b

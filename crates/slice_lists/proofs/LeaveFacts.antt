@@ -20,17 +20,17 @@ use Rattle.window_laws.specs.Runs.{AreInOrder, AreRuns, IsAligned, IsPartFrom, I
 use Rattle.stream_base.proofs.Filters.{filter_all, filter_none}
 use Rattle.window_laws.proofs.Order.{All-split}
 use Rattle.window_laws.proofs.RunEdits.{parted}
-use Rattle.slice_runs.specs.declared.slice.Slice.{Slice}
-use Rattle.slice_runs.specs.Touched.{marks_left, slices_from}
-use Rattle.slice_runs.specs.Places.{IsPlaceOf}
-use Rattle.slice_runs.specs.Slices.{AreSlices, joined, slice_of}
-use Rattle.slice_runs.proofs.WithinFacts.{all_joined}
-use Rattle.slice_runs.proofs.NearFacts.{stretch}
-use Rattle.slice_runs.proofs.SliceFacts.{run_of}
-use Rattle.slice_runs.proofs.PlaceFacts.{marks_do_not_fall}
-use Rattle.slice_runs.proofs.PutFacts.{are_runs, are_sliced}
-use Rattle.slice_runs.proofs.SliceParts.{part_to_end}
-use Rattle.slice_runs.proofs.SliceOrder.{IsApart, IsNear, run_above_first, run_below_last}
+use Rattle.slice_lists.specs.declared.slice.Slice.{Slice}
+use Rattle.slice_lists.specs.Touched.{marks_left, slices_from}
+use Rattle.slice_lists.specs.Places.{IsPlaceOf}
+use Rattle.slice_lists.specs.Slices.{AreSlices, joined, slice_of}
+use Rattle.slice_lists.proofs.WithinFacts.{all_joined}
+use Rattle.slice_lists.proofs.NearFacts.{stretch}
+use Rattle.slice_lists.proofs.SliceFacts.{run_of}
+use Rattle.slice_lists.proofs.PlaceFacts.{marks_do_not_fall}
+use Rattle.slice_lists.proofs.PutFacts.{are_runs, are_sliced}
+use Rattle.slice_lists.proofs.SliceParts.{part_to_end}
+use Rattle.slice_lists.proofs.SliceOrder.{IsApart, IsNear, run_above_first, run_below_last}
 
 -- ---- what is left is in order
 pub order_from : (runs : List (List Kept)) (at : ℕ) → AreInOrder runs → AreInOrder (drop at runs)

@@ -1,0 +1,6 @@
+pub mod Slices
+pub mod Places
+pub mod Sides
+pub mod Touched
+pub mod Bounds
+pub mod Parted
