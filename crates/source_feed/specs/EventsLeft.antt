@@ -1,5 +1,5 @@
 -- The events of the records that a reader has left.
-use Rattle.std.specs.Prelude.{◌≡◌, ◌<◌, ◌+◌, ◌^◌, ◌==◌, ℕ, Bool, true, false, List, [], ◌∷◌, length, Option, None, Some, Result, Ok, Err, ⊤, if◌then◌else◌}
+use Rattle.std.specs.Prelude.{◌≡◌, ◌<◌, ◌+◌, ◌^◌, ◌==◌, ℕ, Bool, true, false, List, [], ◌∷◌, length, Option, None, Some, Result, Ok, Err, IfOk, ⊤, if◌then◌else◌}
 use Rattle.stream_base.specs.declared.what.What.{What}
 use Rattle.stream_base.specs.Model.What.{is_end, is_what_within}
 use Rattle.csv.specs.declared.reader.Reader.{Reader}
@@ -8,6 +8,7 @@ use Rattle.source_feed.specs.Events.{Events, events_from, events_of}
 use Rattle.source_feed.specs.Stream.{bad_record}
 use Rattle.source_feed.specs.declared.row_fault.RowFault.{RowFault}
 use Rattle.source_feed.specs.declared.row_fault.RowFault.TheVariants.{Refused, NoMemory}
+use Rattle.source_feed.specs.declared.row_why.RowWhy.{RowWhy}
 
 -- the events of records behind so many others
 abbrev pub events_after : ℕ → List (List (List ℕ)) → Events
@@ -42,6 +43,11 @@ module _ {R : Type 0} (left : R → Option (List ℕ)) where
 pub record IsInnerEvent (what : What) : Type 0 where
   pub within : is_what_within what ≡ true
   pub inner : is_end what ≡ false
+
+-- by a reading of records these fields spell the answer: an event, which is an inner one, or a fault
+pub record Spells (reading : List (List ℕ) → Result What RowWhy) (fields : List (List ℕ)) (answer : Result What RowWhy) : Type 0 where
+  pub value : answer ≡ reading fields
+  pub event : IfOk answer IsInnerEvent
 
 module _ {R : Type 0} (left : R → Option (List ℕ)) where
   -- a read took the record of this event, the next one

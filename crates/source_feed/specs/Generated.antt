@@ -1,5 +1,5 @@
 -- The generated input: tuples whose parts are drawn by a generator of numbers, dealt to sources in turn, with marks and watermarks.
-use Rattle.std.specs.Prelude.{◌==◌, ◌+◌, ◌-◌, ◌*◌, ◌/◌, ◌%◌, ◌^◌, ◌++◌, ◌-ℤ◌, ℕ, zero, suc, ℤ, pos, max, bit_xor, List, [], ◌∷◌, length, map, filter, fold, None, codes, decimal, if◌then◌else◌}
+use Rattle.std.specs.Prelude.{◌≤◌, ◌<◌, ◌==◌, ◌+◌, ◌-◌, ◌*◌, ◌/◌, ◌%◌, ◌^◌, ◌++◌, ◌-ℤ◌, ℕ, zero, suc, ℤ, pos, max, bit_xor, List, [], ◌∷◌, length, map, filter, fold, None, codes, decimal, if◌then◌else◌}
 use Rattle.std.specs.List.{range_with_len}
 use Rattle.stream_base.specs.Limits.{Definitions, definitions_of}
 use Rattle.stream_base.specs.declared.def.Def.{Def}
@@ -10,6 +10,7 @@ use Rattle.stream_base.specs.declared.what.What.{What}
 use Rattle.stream_base.specs.declared.what.What.TheVariants.{Tuple, Mark, Water, End}
 use Rattle.source_feed.specs.Events.{is_made}
 use Rattle.source_feed.specs.Stream.{Stream, entry_of}
+use Rattle.source_feed.specs.declared.made_feed.TheConstants.{MADE_ROWS_MAX}
 use Rattle.source_feed.specs.declared.made_input.TheConstants.{MADE_LATENESS, MADE_EVERY, MADE_DISORDER}
 use Rattle.source_feed.specs.declared.made_tuple.TheConstants.{MULTIPLIER, INCREMENT}
 
@@ -91,6 +92,14 @@ made_entries seed rows sources source = map (entry_of source) (made_events seed 
 -- the entries of all sources, in their order
 abbrev pub made_sources : ℕ → ℕ → ℕ → List (List Entry)
 made_sources seed rows sources = map (made_entries seed rows sources) (range_with_len 0 sources)
+
+-- an input of so many tuples is generated for so many sources, and this is the number of one of them
+pub record IsMadeSource (rows sources source : ℕ) : Type 0 where
+  pub some_row : 1 ≤ rows
+  pub few_rows : rows ≤ MADE_ROWS_MAX
+  pub some_source : 1 ≤ sources
+  pub few_sources : sources ≤ 16
+  pub own : source < sources
 
 -- the stream of a source, which no refusal ends
 abbrev pub made_stream : ℕ → ℕ → ℕ → ℕ → Stream

@@ -1,4 +1,4 @@
-//! The way from a source's bytes to its entries, and from an entry's key to its shard.
+//! The way from a source's bytes to its entries, and from an entry to its shards.
 //!
 //! *From* the bytes of a source of the outside, or from a seed, *to* the entries that the machine works
 //! on.
@@ -38,6 +38,6 @@ pub use made_input::{MADE_DISORDER, MADE_EVERY, MADE_LATENESS, made_defs};
 pub use row_fault::RowFault;
 pub use row_why::RowWhy;
 pub use rows::Rows;
-pub use shard::route;
+pub use shard::{goes_to, route};
 pub use whole::{SOURCE_MAX, read_whole};
 pub use whole_fault::WholeFault;

@@ -1,7 +1,7 @@
 ghost use Rattle.std.specs.Prelude.{◌≡◌, ◌≤◌, ◌<◌, None, Some, false, OnErr};
 ghost use Rattle.source_feed.specs.FeedFault.{refusal_of};
 ghost use Rattle.source_feed.specs.FeedState.{Closes};
-ghost use Rattle.source_feed.specs.Generated.{made_stream};
+ghost use Rattle.source_feed.specs.Generated.{IsMadeSource, made_stream};
 ghost use Rattle.source_feed.specs.Gives.{CountsReads, Gives};
 ghost use Rattle.source_feed.specs.Stream.{entry_of};
 
@@ -38,13 +38,9 @@ impl Model for MadeFeed {
 
 impl MadeFeed {
     /// The feed of the source `index` of the input of `rows` tuples that this seed generates for so
-    /// many sources.
+    /// many sources. The input has 1 to 1,000,000 tuples and 1 to 16 sources, numbered from 0.
     pub fn new(seed: u64, rows: u64, sources: u16, index: u16) -> MadeFeed
-        requires some_row { 1 ≤ rows }
-        requires few_rows { rows ≤ MADE_ROWS_MAX }
-        requires some_source { 1 ≤ sources }
-        requires few_sources { sources ≤ 16 }
-        requires own { index < sources }
+        requires { IsMadeSource rows sources index }
         ensures value { result ≡ record {
           source = index;
           ended = false;

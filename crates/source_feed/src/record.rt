@@ -1,7 +1,7 @@
 ghost use Rattle.std.specs.Prelude.{◌≡◌, true, IfOk};
 ghost use Rattle.csv.specs.Records.{fields_of};
 ghost use Rattle.stream_base.specs.Key.{is_key};
-ghost use Rattle.source_feed.specs.EventsLeft.{IsInnerEvent};
+ghost use Rattle.source_feed.specs.EventsLeft.{Spells};
 ghost use Rattle.source_feed.specs.Record.{field, idle_of, is_header, key_in, mark_of, tuple_of, water_of, what_of};
 
 use crate::numbers::{time_in, value_in};
@@ -22,8 +22,7 @@ pub fn is_header(fields: &ByteRecord) -> bool
 
 // The event of a record, or its first fault.
 pub fn what_of(fields: &ByteRecord) -> Result<What, RowWhy>
-    ensures value { result ≡ what_of (fields_of fields.now) }
-    ensures event { IfOk result IsInnerEvent }
+    ensures { Spells what_of (fields_of fields.now) result }
 {
     match field(fields, 0) {
         b"t" => tuple_of(fields),
@@ -35,8 +34,7 @@ pub fn what_of(fields: &ByteRecord) -> Result<What, RowWhy>
 }
 
 fn tuple_of(fields: &ByteRecord) -> Result<What, RowWhy>
-    ensures value { result ≡ tuple_of (fields_of fields.now) }
-    ensures event { IfOk result IsInnerEvent }
+    ensures { Spells tuple_of (fields_of fields.now) result }
 {
     if fields.len() != 4 {
         return Err(RowWhy::Fields);
@@ -48,8 +46,7 @@ fn tuple_of(fields: &ByteRecord) -> Result<What, RowWhy>
 }
 
 fn mark_of(fields: &ByteRecord) -> Result<What, RowWhy>
-    ensures value { result ≡ mark_of (fields_of fields.now) }
-    ensures event { IfOk result IsInnerEvent }
+    ensures { Spells mark_of (fields_of fields.now) result }
 {
     if fields.len() != 4 || !field(fields, 2).is_empty() {
         return Err(RowWhy::Fields);
@@ -60,8 +57,7 @@ fn mark_of(fields: &ByteRecord) -> Result<What, RowWhy>
 }
 
 fn water_of(fields: &ByteRecord) -> Result<What, RowWhy>
-    ensures value { result ≡ water_of (fields_of fields.now) }
-    ensures event { IfOk result IsInnerEvent }
+    ensures { Spells water_of (fields_of fields.now) result }
 {
     let is_short = fields.len() == 2;
     let is_padded = fields.len() == 4 && field(fields, 2).is_empty() && field(fields, 3).is_empty();
@@ -73,8 +69,7 @@ fn water_of(fields: &ByteRecord) -> Result<What, RowWhy>
 }
 
 fn idle_of(fields: &ByteRecord) -> Result<What, RowWhy>
-    ensures value { result ≡ idle_of (fields_of fields.now) }
-    ensures event { IfOk result IsInnerEvent }
+    ensures { Spells idle_of (fields_of fields.now) result }
 {
     let is_short = fields.len() == 1;
     let is_padded = fields.len() == 4

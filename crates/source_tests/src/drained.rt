@@ -1,10 +1,9 @@
 //! The clauses of a feed tell which entries it gives in all.
 
-ghost use Rattle.std.specs.Prelude.{◌≡◌, ◌≤◌, ◌<◌, Some, None, IfOk, IfErr, IfSome};
+ghost use Rattle.std.specs.Prelude.{◌≡◌, Some, None, IfOk, IfErr, IfSome};
 ghost use Rattle.source_feed.specs.FeedFault.{refusal_of};
 ghost use Rattle.source_feed.specs.FileFeedState.{source_stream};
-ghost use Rattle.source_feed.specs.Generated.{made_entries};
-ghost use Rattle.source_feed.specs.declared.made_feed.TheConstants.{MADE_ROWS_MAX};
+ghost use Rattle.source_feed.specs.Generated.{IsMadeSource, made_entries};
 
 use outside::MemSource;
 use source_feed::{Feed, FeedFault, FileFeed, MadeFeed};
@@ -55,11 +54,7 @@ pub fn made_entries_of(
     sources: u16,
     index: u16,
 ) -> Result<Vec<Entry>, FeedFault>
-    requires some_row { 1 ≤ rows }
-    requires few_rows { rows ≤ MADE_ROWS_MAX }
-    requires some_source { 1 ≤ sources }
-    requires few_sources { sources ≤ 16 }
-    requires own { index < sources }
+    requires { IsMadeSource rows sources index }
     ensures { IfOk result (λ entries. entries.items ≡ made_entries seed rows sources index) }
 {
     let mut feed = MadeFeed::new(seed, rows, sources, index);

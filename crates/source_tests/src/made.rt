@@ -1,6 +1,5 @@
 //! The feeds of the generated input, through their public calls.
-ghost use Rattle.std.specs.Prelude.{◌≤◌, ◌<◌};
-ghost use Rattle.source_feed.specs.declared.made_feed.TheConstants.{MADE_ROWS_MAX};
+ghost use Rattle.source_feed.specs.Generated.{IsMadeSource};
 
 use crate::drained;
 use crate::sources::{entry_shown, is_sent};
@@ -12,10 +11,7 @@ use stream_base::{FINAL, Func, KeyText, Kind, Row, Shown};
 
 // All entries of a generated source.
 fn shown(alloc: Global, seed: u64, rows: u64, sources: u16, index: u16) -> Result<String, Fail>
-    requires some_row { 1 ≤ rows }
-    requires few_rows { rows ≤ MADE_ROWS_MAX }
-    requires few_sources { sources ≤ 16 }
-    requires own { index < sources }
+    requires { IsMadeSource rows sources index }
 {
     let mut text = String::new(alloc);
     match drained::made_entries_of(alloc, seed, rows, sources, index) {
