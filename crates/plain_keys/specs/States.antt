@@ -1,11 +1,11 @@
 -- What a `PlainKey` keeps, and for which call it has room.
-use Rattle.std.specs.Prelude.{◌≡◌, ◌≤◌, ◌<◌, ◌+◌, ◌-◌, ◌^◌, ℕ, pos, List, length, All}
+use Rattle.std.specs.Prelude.{◌≡◌, ◌≤◌, ◌<◌, ◌+◌, ◌-◌, ◌^◌, ℕ, pos, List, Result, IfOk, OnOk, length, All}
 use Rattle.std.specs.BTreeSet.{insert_key}
 use Rattle.std.specs.Ordering.{nat_cmp}
 use Rattle.stream_base.specs.declared.change.Change.{Change}
 use Rattle.stream_base.specs.declared.def.Def.{Def}
 use Rattle.stream_base.specs.declared.kept.Kept.{Kept}
-use Rattle.stream_base.specs.declared.limits.TheConstants.{JOURNAL_MAX}
+use Rattle.stream_base.specs.declared.limits.TheConstants.{JOURNAL_MAX, TIME_MAX}
 use Rattle.stream_base.specs.Limits.{Definitions}
 use Rattle.stream_base.specs.Model.Changes.{changes_between}
 use Rattle.stream_base.specs.Model.Journal.{put_in_order}
@@ -91,6 +91,28 @@ pub record Stays (old new : State) : Type 0 where
   pub marks : new.marks ≡ old.marks
   pub next : new.next ≡ old.next
   pub due : new.due ≡ old.due
+
+-- a call to come is made ready: but for drafts, room and the promise the state stays, as many changes are promised as it answers, and it holds what the call needs
+pub record Prepares {E : Type 0} (ready : State → Type 0) (old new : State) (answer : Result ℕ E) : Type 0 where
+  pub stays : Stays old new
+  pub promised : IfOk answer (λ n. new.promise ≡ n)
+  pub done : OnOk answer (ready new)
+
+-- the kept tuples are drawn with a stand-in, and as many changes promised as that causes of any key
+pub record HasDrawnTuple (windows : List Def) (old : State) (water time : ℕ) (new : State) : Type 0 where
+  pub drawn : new.next_kept ≡ put_in_order old.kept (stand_in time)
+  pub counted : (key : List ℕ) → new.promise ≡ length (by_tuple windows key old water (stand_in time))
+
+-- and so the marks with one more
+pub record HasDrawnMark (windows : List Def) (old : State) (water time : ℕ) (new : State) : Type 0 where
+  pub drawn : new.next_marks ≡ insert_key nat_cmp old.marks time
+  pub counted : (key : List ℕ) → new.promise ≡ length (by_one_mark windows key old water time)
+
+-- a tuple is within the limits, and has the next position or a later one
+pub record MayPut (old : State) (x : Kept) : Type 0 where
+  pub time : x.time ≤ TIME_MAX
+  pub position : old.next ≤ x.position
+  pub few : x.position < JOURNAL_MAX
 
 -- one tuple more is kept
 pub record IsPut (old : State) (x : Kept) (new : State) : Type 0 where

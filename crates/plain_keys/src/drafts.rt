@@ -1,5 +1,5 @@
 //! A key's lists with one tuple or mark more.
-ghost use Rattle.std.specs.Prelude.{◌≡◌, ◌<◌, ◌≤◌, ◌==◌, ◌&&◌, OnOk, nat_lt, length, slice_index, vec_len, vec_capacity, true};
+ghost use Rattle.std.specs.Prelude.{◌≡◌, ◌<◌, ◌≤◌, ◌==◌, ◌&&◌, OnOk, nat_lt, length, slice_index, vec_len, vec_capacity};
 ghost use Rattle.std.specs.BTreeSet.{insert_key};
 ghost use Rattle.std.specs.List.{position_or_len};
 ghost use Rattle.std.specs.List.Sorted.{IsStrictlyIncreasing};
@@ -20,19 +20,13 @@ pub fn place_of(kept: &[Kept], time: u64) -> usize
     ensures within { result ≤ length kept.now }
     ensures value { result ≡ position_or_len (λ y. nat_lt time y.time) kept.now }
 {
-    if is_last(kept, time) {
-        kept.len()
-    } else {
-        tuples_before(kept, time + 1)
+    if kept.is_empty() {
+        return 0;
     }
-}
-
-// Whether no tuple is of a later time, as the last one tells.
-fn is_last(kept: &[Kept], time: u64) -> bool
-    requires { TimesDoNotFall kept.now }
-    ensures { result ≡ true → position_or_len (λ y. nat_lt time y.time) kept.now ≡ length kept.now }
-{
-    kept.is_empty() || kept[kept.len() - 1].time <= time
+    if kept[kept.len() - 1].time <= time {
+        return kept.len();
+    }
+    tuples_before(kept, time + 1)
 }
 
 /// Makes a list that of the kept tuples with one more in its place.
@@ -54,10 +48,10 @@ pub fn put_in(kept: &mut Vec<Kept>, x: Kept)
     requires room { vec_len kept.old < vec_capacity kept.old }
     ensures { kept.new.items ≡ put_in_order kept.old.items x }
 {
-    if is_last(kept, x.time) {
+    let place = place_of(kept, x.time);
+    if place == kept.len() {
         kept.push_reserved(x);
     } else {
-        let place = place_of(kept, x.time);
         kept.insert(place, x).unwrap();
     }
 }

@@ -7,10 +7,9 @@ ghost use Rattle.stream_base.specs.declared.limits.TheConstants.{JOURNAL_MAX, TI
 ghost use Rattle.stream_base.specs.Laws.{completions};
 ghost use Rattle.stream_base.specs.Model.Changes.{changes_between, rows_at};
 ghost use Rattle.stream_base.specs.Model.Journal.{put_in_order};
-ghost use Rattle.plain_windows.specs.Changing.{IsDue, room};
-ghost use Rattle.plain_windows.specs.Views.{AreWindows};
+ghost use Rattle.plain_windows.specs.Changing.{Appends, IsDue, room};
 ghost use Rattle.key_windows.specs.Calls.{kept_at, moment};
-ghost use Rattle.plain_keys.specs.States.{Fits, IsMarked, IsOfSame, IsPut, IsReady, IsState, Stays, by_one_mark, by_tuple, most_steps, stand_in};
+ghost use Rattle.plain_keys.specs.States.{Fits, HasDrawnMark, HasDrawnTuple, IsMarked, IsOfSame, IsPut, IsReady, IsState, MayPut, Prepares, by_one_mark, by_tuple, most_steps, stand_in};
 
 use crate::drafts::{add_mark, draw_mark, draw_put, fill_in, put_in};
 use agg_laws::Steps;
@@ -22,7 +21,7 @@ use plain_windows::{
 use std::alloc::Global;
 use std::marker::Model;
 use std::mem::swap;
-use stream_base::{Change, Def, Defs, JOURNAL_MAX, Kept, KeyText, NoMemory, Row};
+use stream_base::{Change, Defs, JOURNAL_MAX, Kept, KeyText, NoMemory, Row};
 
 /// The windows of one key by its plain lists. A tuple or mark strictly after the watermark changes
 /// nothing and is only put at its place; for an earlier one the list with it is drawn beside the
@@ -89,12 +88,14 @@ impl PlainKey {
             → OnOk result (out.new.items ≡ out.old.items
             ++ rows_at (defs.now).windows self.now.key (moment kept marks water)) }
     {
-        let view = View {
-            kept: &self.kept,
-            marks: &self.marks,
-            water,
-        };
-        append_rows(defs.windows(), &self.key, &view, out, steps)
+        append_rows(defs, &self.key, &self.view(water), out, steps)
+    }
+
+    // Its lists under a watermark.
+    fn view(&self, water: u64) -> View
+        ensures { result ≡ moment self.now.kept self.now.marks water }
+    {
+        View::new(&self.kept, &self.marks, water)
     }
 
     // Changes nothing, and tells a proof what every state keeps.
@@ -108,12 +109,7 @@ impl PlainKey {
     fn bound_ahead(&self, defs: &Defs, water: u64) -> u64
         ensures { IsDue (defs.now).windows self.now.kept self.now.marks water result }
     {
-        let view = View {
-            kept: &self.kept,
-            marks: &self.marks,
-            water,
-        };
-        next_bound(defs.windows(), &view)
+        next_bound(defs, &self.view(water))
     }
 
     // Waits for a watermark.
@@ -143,7 +139,7 @@ impl PlainKey {
             → IsDue (defs.now).windows kept self.old.marks water self.old.due
             → IsDue (defs.now).windows self.new.kept self.new.marks water self.new.due }
     {
-        match bound_from(defs.windows(), time) {
+        match bound_from(defs, time) {
             Some(bound) => self.wait_for(self.due.min(bound)),
             None => self.look_ahead(defs, water),
         }
@@ -151,8 +147,7 @@ impl PlainKey {
 
     // Promises no change.
     fn promise_nothing(&mut self) -> Result<u64, NoMemory>
-        ensures stays { Stays self.old self.new }
-        ensures promised { IfOk result (λ n. self.new.promise ≡ n) }
+        ensures { Prepares (λ s. s.promise ≡ 0) self.old self.new result }
     {
         self.promise = 0;
         Ok(0)
@@ -160,9 +155,7 @@ impl PlainKey {
 
     // Makes a place for one tuple more.
     fn make_place(&mut self) -> Result<u64, NoMemory>
-        ensures stays { Stays self.old self.new }
-        ensures room { OnOk result (1 ≤ self.new.kept_spare) }
-        ensures promised { IfOk result (λ n. self.new.promise ≡ n) }
+        ensures { Prepares (λ s. 1 ≤ s.kept_spare) self.old self.new result }
     {
         self.kept.reserve(1)?;
         self.promise = 0;
@@ -171,9 +164,7 @@ impl PlainKey {
 
     // Makes a place for one mark more.
     fn make_mark_place(&mut self) -> Result<u64, NoMemory>
-        ensures stays { Stays self.old self.new }
-        ensures room { OnOk result (1 ≤ self.new.marks_spare) }
-        ensures promised { IfOk result (λ n. self.new.promise ≡ n) }
+        ensures { Prepares (λ s. 1 ≤ s.marks_spare) self.old self.new result }
     {
         self.marks.reserve(1)?;
         self.promise = 0;
@@ -181,62 +172,37 @@ impl PlainKey {
     }
 
     // Draws the kept tuples with a stand-in, and counts what that changes.
-    fn draw_tuple(&mut self, windows: &[Def], time: u64, water: u64) -> Result<u64, NoMemory>
-        requires windows { AreWindows windows.now }
+    fn draw_tuple(&mut self, defs: &Defs, time: u64, water: u64) -> Result<u64, NoMemory>
         requires time { time ≤ TIME_MAX }
         requires few { self.old.next < JOURNAL_MAX }
-        ensures stays { Stays self.old self.new }
-        ensures drawn { OnOk result (self.new.next_kept
-            ≡ put_in_order self.old.kept (stand_in time)) }
-        ensures promised { IfOk result (λ n. self.new.promise ≡ n) }
-        ensures counted { OnOk result ((key : List ℕ) → self.new.promise
-            ≡ length (by_tuple windows.now key self.old water (stand_in time))) }
+        ensures { Prepares (HasDrawnTuple (defs.now).windows self.old water time)
+            self.old self.new result }
     {
         draw_put(&self.kept, stand_in(time), &mut self.next_kept)?;
-        let old = View {
-            kept: &self.kept,
-            marks: &self.marks,
-            water,
-        };
-        let new = View {
-            kept: &self.next_kept,
-            ..old
-        };
-        let count = count_changes(windows, &old, &new);
+        let old = View::new(&self.kept, &self.marks, water);
+        let new = View::new(&self.next_kept, &self.marks, water);
+        let count = count_changes(defs, &old, &new);
         self.promise = count;
         Ok(count)
     }
 
     // Draws the marks with one more, and counts what that changes.
-    fn draw_one_mark(&mut self, windows: &[Def], time: u64, water: u64) -> Result<u64, NoMemory>
-        requires windows { AreWindows windows.now }
+    fn draw_one_mark(&mut self, defs: &Defs, time: u64, water: u64) -> Result<u64, NoMemory>
         requires time { time ≤ TIME_MAX }
-        ensures stays { Stays self.old self.new }
-        ensures drawn { OnOk result (self.new.next_marks ≡ insert_key nat_cmp self.old.marks time) }
-        ensures promised { IfOk result (λ n. self.new.promise ≡ n) }
-        ensures counted { OnOk result ((key : List ℕ) → self.new.promise
-            ≡ length (by_one_mark windows.now key self.old water time)) }
+        ensures { Prepares (HasDrawnMark (defs.now).windows self.old water time)
+            self.old self.new result }
     {
         draw_mark(&self.marks, time, &mut self.next_marks)?;
-        let old = View {
-            kept: &self.kept,
-            marks: &self.marks,
-            water,
-        };
-        let new = View {
-            marks: &self.next_marks,
-            ..old
-        };
-        let count = count_changes(windows, &old, &new);
+        let old = View::new(&self.kept, &self.marks, water);
+        let new = View::new(&self.kept, &self.next_marks, water);
+        let count = count_changes(defs, &old, &new);
         self.promise = count;
         Ok(count)
     }
 
     // Puts a tuple in the place that was made for it.
     fn put_ahead(&mut self, x: Kept)
-        requires time { x.time ≤ TIME_MAX }
-        requires position { self.old.next ≤ x.position }
-        requires few { x.position < JOURNAL_MAX }
+        requires next { MayPut self.old x }
         requires room { 1 ≤ self.old.kept_spare }
         ensures { IsPut self.old x self.new }
     {
@@ -247,35 +213,24 @@ impl PlainKey {
     // Puts a tuple where its stand-in is drawn, and appends what that changes.
     fn put_late<L>(
         &mut self,
-        windows: &[Def],
+        defs: &Defs,
         x: Kept,
         water: u64,
         out: &mut Vec<Change>,
         steps: &mut Steps<L>,
     )
-        requires windows { AreWindows windows.now }
-        requires time { x.time ≤ TIME_MAX }
-        requires position { self.old.next ≤ x.position }
-        requires few { x.position < JOURNAL_MAX }
+        requires next { MayPut self.old x }
         requires drawn { self.old.next_kept ≡ put_in_order self.old.kept (stand_in x.time) }
-        requires spare { length (by_tuple windows.now self.old.key self.old water x)
+        requires spare { length (by_tuple (defs.now).windows self.old.key self.old water x)
             ≤ room out.old }
         ensures put { IsPut self.old x self.new }
-        ensures changes { out.new.items
-            ≡ out.old.items ++ by_tuple windows.now self.old.key self.old water x }
-        ensures capacity { vec_capacity out.new ≡ vec_capacity out.old }
+        ensures changes { Appends (by_tuple (defs.now).windows self.old.key self.old water x)
+            out.old out.new }
     {
         fill_in(&self.kept, x, &mut self.next_kept);
-        let old = View {
-            kept: &self.kept,
-            marks: &self.marks,
-            water,
-        };
-        let new = View {
-            kept: &self.next_kept,
-            ..old
-        };
-        append_changes(windows, &self.key, &old, &new, out, steps);
+        let old = View::new(&self.kept, &self.marks, water);
+        let new = View::new(&self.next_kept, &self.marks, water);
+        append_changes(defs, &self.key, &old, &new, out, steps);
         swap(&mut self.kept, &mut self.next_kept);
         self.next = x.position + 1;
     }
@@ -292,32 +247,23 @@ impl PlainKey {
     // Takes the marks that are drawn, and appends what that changes.
     fn mark_late<L>(
         &mut self,
-        windows: &[Def],
+        defs: &Defs,
         time: u64,
         water: u64,
         out: &mut Vec<Change>,
         steps: &mut Steps<L>,
     )
-        requires windows { AreWindows windows.now }
         requires time { time ≤ TIME_MAX }
         requires drawn { self.old.next_marks ≡ insert_key nat_cmp self.old.marks time }
-        requires spare { length (by_one_mark windows.now self.old.key self.old water time)
+        requires spare { length (by_one_mark (defs.now).windows self.old.key self.old water time)
             ≤ room out.old }
         ensures marked { IsMarked self.old time self.new }
-        ensures changes { out.new.items
-            ≡ out.old.items ++ by_one_mark windows.now self.old.key self.old water time }
-        ensures capacity { vec_capacity out.new ≡ vec_capacity out.old }
+        ensures changes { Appends (by_one_mark (defs.now).windows self.old.key self.old water time)
+            out.old out.new }
     {
-        let old = View {
-            kept: &self.kept,
-            marks: &self.marks,
-            water,
-        };
-        let new = View {
-            marks: &self.next_marks,
-            ..old
-        };
-        append_changes(windows, &self.key, &old, &new, out, steps);
+        let old = View::new(&self.kept, &self.marks, water);
+        let new = View::new(&self.kept, &self.next_marks, water);
+        append_changes(defs, &self.key, &old, &new, out, steps);
         swap(&mut self.marks, &mut self.next_marks);
     }
 }
@@ -385,7 +331,7 @@ impl KeyWindows for PlainKey {
         if water < time {
             self.make_place()
         } else if self.next < JOURNAL_MAX {
-            self.draw_tuple(defs.windows(), time, water)
+            self.draw_tuple(defs, time, water)
         } else {
             self.promise_nothing()
         }
@@ -401,7 +347,7 @@ impl KeyWindows for PlainKey {
         out: &mut Vec<Change>,
         steps: &mut Steps<L>,
     ) {
-        let windows = defs.windows();
+        let _windows = defs.windows();
         let x = kept_at(pos, time, value);
         self.vouch();
         if water < time {
@@ -409,7 +355,7 @@ impl KeyWindows for PlainKey {
             self.look_behind(defs, time, water);
             vouch_count(steps);
         } else {
-            self.put_late(windows, x, water, out, steps);
+            self.put_late(defs, x, water, out, steps);
             self.look_ahead(defs, water);
             vouch_count(steps);
         }
@@ -419,7 +365,7 @@ impl KeyWindows for PlainKey {
         if water < time {
             self.make_mark_place()
         } else {
-            self.draw_one_mark(defs.windows(), time, water)
+            self.draw_one_mark(defs, time, water)
         }
     }
 
@@ -431,29 +377,25 @@ impl KeyWindows for PlainKey {
         out: &mut Vec<Change>,
         steps: &mut Steps<L>,
     ) {
-        let windows = defs.windows();
+        let _windows = defs.windows();
         self.vouch();
         if water < time {
             self.mark_ahead(time);
             self.look_ahead(defs, water);
             vouch_count(steps);
         } else {
-            self.mark_late(windows, time, water, out, steps);
+            self.mark_late(defs, time, water, out, steps);
             self.look_ahead(defs, water);
             vouch_count(steps);
         }
     }
 
     fn reserve_water(&mut self, defs: &Defs, old: u64, new: u64) -> Result<u64, NoMemory> {
+        let _windows = defs.windows();
         if new < self.due {
             return self.promise_nothing();
         }
-        let view = View {
-            kept: &self.kept,
-            marks: &self.marks,
-            water: old,
-        };
-        let count = count_completions(defs.windows(), &view, new);
+        let count = count_completions(defs, &self.view(old), new);
         self.promise = count;
         Ok(count)
     }
@@ -471,12 +413,8 @@ impl KeyWindows for PlainKey {
         if new < self.due {
             return;
         }
-        let view = View {
-            kept: &self.kept,
-            marks: &self.marks,
-            water: old,
-        };
-        append_completions(defs.windows(), &self.key, &view, new, out, steps);
+        let view = self.view(old);
+        append_completions(defs, &self.key, &view, new, out, steps);
         self.look_ahead(defs, new);
         vouch_count(steps);
     }
@@ -489,11 +427,7 @@ impl KeyWindows for PlainKey {
     }
 
     fn slice_count(&self, defs: &Defs, water: u64) -> u64 {
-        let view = View {
-            kept: &self.kept,
-            marks: &self.marks,
-            water,
-        };
-        slice_count(defs.windows(), defs.lateness(), &view)
+        self.vouch();
+        slice_count(defs, &self.view(water))
     }
 }

@@ -3,6 +3,7 @@ pub mod Bounds
 pub mod Walks
 pub mod Appending
 pub mod Looking
+pub mod Telling
 pub mod Fates
 pub mod Ahead
 pub mod Found

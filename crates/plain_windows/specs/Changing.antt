@@ -1,5 +1,5 @@
 -- What becomes of one instance from one moment to the next, and the bounds that lie ahead.
-use Rattle.std.specs.Prelude.{◌==◌, ◌≡◌, ◌⊎◌, ◌≤◌, ◌<◌, ◌&&◌, ◌-◌, ℕ, Bool, List, Vec, map, filter, nat_lt, vec_capacity, vec_len}
+use Rattle.std.specs.Prelude.{◌==◌, ◌≡◌, ◌++◌, ◌⊎◌, ◌≤◌, ◌<◌, ◌&&◌, ◌-◌, ℕ, Bool, List, Vec, map, filter, nat_lt, vec_capacity, vec_len}
 use Rattle.std.specs.List.{Contains, enumerate_from, flat_map}
 use Rattle.std.specs.Option.{option_to_list}
 use Rattle.stream_base.specs.declared.change.Change.{Change}
@@ -18,9 +18,14 @@ use Rattle.plain_windows.specs.declared.fold.Owner.{Owner}
 abbrev pub room : {X Z : Type 0} → Vec X Z → ℕ
 room v = vec_capacity v - vec_len v
 
+-- a vector has these elements more at its end, and took no memory for them
+pub record Appends {X Z : Type 0} (more : List X) (old new : Vec X Z) : Type 0 where
+  pub items : new.items ≡ old.items ++ more
+  pub capacity : vec_capacity new ≡ vec_capacity old
+
 -- a window with its place among the definitions
 abbrev pub window_of : Owner → ℕ × Def
-window_of owner = (owner.window, owner.def.now)
+window_of owner = (owner.place, owner.window)
 
 -- an instance starts and ends as an extent does
 abbrev pub is_over : Extent → Instance → Bool

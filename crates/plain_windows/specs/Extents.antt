@@ -1,5 +1,6 @@
 -- An instance told by its extent, and what a key's plain lists keep.
-use Rattle.std.specs.Prelude.{◌≤◌, ◌+◌, ℕ, List, length, take, drop, All}
+use Rattle.std.specs.Prelude.{◌≡◌, ◌≤◌, ◌+◌, ℕ, List, Option, IfSome, length, take, drop, All}
+use Rattle.std.specs.Option.{option_map}
 use Rattle.std.specs.List.Sorted.{IsStrictlyIncreasing}
 use Rattle.stream_base.specs.declared.kept.Kept.{Kept}
 use Rattle.stream_base.specs.declared.limits.TheConstants.{TIME_MAX}
@@ -14,6 +15,11 @@ instance_in kept e = record { low = e.low; high = e.high; bound = e.bound; chose
 -- the places of its tuples are places of the list
 abbrev pub IsExtentIn : List Kept → Extent → Type 0
 IsExtentIn kept e = e.first + e.count ≤ length kept
+
+-- an extent tells an instance by places of the list, and none tells that there is none
+pub record Tells (kept : List Kept) (answer : Option Extent) (instance : Option Instance) : Type 0 where
+  pub found : option_map (instance_in kept) answer ≡ instance
+  pub inside : IfSome answer (IsExtentIn kept)
 
 -- what is kept of a key, in event order, and its marks, rising, all within the limits
 pub record AreKeyLists (kept : List Kept) (marks : List ℕ) : Type 0 where

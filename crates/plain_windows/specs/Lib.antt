@@ -1,7 +1,6 @@
 pub mod Extents
 pub mod Places
 pub mod Runs
-pub mod Views
 pub mod Rows
 pub mod Walks
 pub mod Changing

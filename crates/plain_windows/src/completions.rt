@@ -4,96 +4,86 @@ ghost use Rattle.std.specs.List.{enumerate_from, flat_map, fold};
 ghost use Rattle.stream_base.specs.declared.limits.TheConstants.{TIME_MAX};
 ghost use Rattle.stream_base.specs.declared.kept.Kept.{Kept};
 ghost use Rattle.stream_base.specs.Laws.{completions};
-ghost use Rattle.stream_base.specs.Limits.{IsKindWithin};
 ghost use Rattle.stream_base.specs.Model.Journal.{put_in_order};
-ghost use Rattle.plain_windows.specs.Changing.{BringsBound, BringsNoneBelow, IsAhead, IsDue, KeepsBounds, all_completions, bounds_ahead, room, window_of};
-ghost use Rattle.plain_windows.specs.Views.{AreWindows, IsMoment, seen};
+ghost use Rattle.plain_windows.specs.Changing.{Appends, BringsBound, BringsNoneBelow, IsAhead, IsDue, KeepsBounds, all_completions, bounds_ahead, room, window_of};
 
 use crate::find::bound_above;
 use crate::fold::{Owner, row_of};
-use crate::spans;
+use crate::spans::{Spacing, bound_holding};
 use crate::view::View;
 use crate::walk::{due_from, first_left};
+use crate::window::{Window, windows_of};
 use agg_laws::Steps;
-use stream_base::{Change, Def, KeyText, Kind};
+use stream_base::{Change, Defs, KeyText, Kind};
 
 /// Appends what a move of the watermark to `new` brings of a key: the emission of each instance that
 /// becomes complete, by window, start and end. Takes no memory.
 pub fn append_completions<L>(
-    windows: &[Def],
+    defs: &Defs,
     key: &KeyText,
     view: &View,
     new: u64,
     out: &mut Vec<Change>,
     steps: &mut Steps<L>,
 )
-    requires windows { AreWindows windows.now }
-    requires lists { IsMoment (seen view.now) }
-    requires spare { length (all_completions windows.now key.now (seen view.now) new)
+    requires spare { length (all_completions (defs.now).windows key.now view.now new)
         ≤ room out.old }
-    ensures items { out.new.items
-        ≡ out.old.items ++ all_completions windows.now key.now (seen view.now) new }
-    ensures capacity { vec_capacity out.new ≡ vec_capacity out.old }
+    ensures { Appends (all_completions (defs.now).windows key.now view.now new)
+        out.old out.new }
 {
-    for (window, def) in windows.iter().enumerate() {
+    let windows = windows_of(defs);
+    for (place, def) in windows.iter().enumerate() {
         let owner = Owner {
-            window: window as u32,
-            def,
+            place: place as u32,
+            window: Window { def },
             key,
         };
-        complete_window(owner, view, new, out, steps);
+        complete_window(&owner, view, new, out, steps);
     }
 }
 
 // Appends those of one window.
 fn complete_window<L>(
-    owner: Owner,
+    owner: &Owner,
     view: &View,
     new: u64,
     out: &mut Vec<Change>,
     steps: &mut Steps<L>,
 )
-    requires kind { IsKindWithin owner.def.now.kind }
-    requires lists { IsMoment (seen view.now) }
-    requires spare { length (completions owner.key.now (seen view.now) new (window_of owner))
+    requires spare { length (completions owner.now.key.now view.now new (window_of owner.now))
         ≤ room out.old }
-    ensures items { out.new.items
-        ≡ out.old.items
-        ++ completions owner.entry.key.now (seen view.now) new (window_of owner.entry) }
-    ensures capacity { vec_capacity out.new ≡ vec_capacity out.old }
+    ensures { Appends (completions owner.now.key.now view.now new (window_of owner.now))
+        out.old out.new }
 {
-    let kind = &owner.def.kind;
-    let mut from = due_from(kind, view.kept, view.marks, view.water);
-    while let Some(extent) = first_left(kind, view.kept, view.marks, from, new) {
-        out.push_reserved(Change::New(row_of(owner, view.kept, &extent, steps)));
+    let window = &owner.window;
+    let mut from = due_from(window, view);
+    while let Some(extent) = first_left(window, view, from, new) {
+        out.push_reserved(Change::New(row_of(owner, view, &extent, steps)));
         from = extent.low + 1;
     }
 }
 
 /// How many changes `append_completions` appends, for every key.
-pub fn count_completions(windows: &[Def], view: &View, new: u64) -> u64
-    requires windows { AreWindows windows.now }
-    requires lists { IsMoment (seen view.now) }
+pub fn count_completions(defs: &Defs, view: &View, new: u64) -> u64
     ensures { (key : List ℕ) → result
-        ≡ length (all_completions windows.now key (seen view.now) new) }
+        ≡ length (all_completions (defs.now).windows key view.now new) }
 {
+    let windows = windows_of(defs);
     let mut count = 0;
     for def in windows {
-        count += count_window(def, view, new);
+        count += count_window(&Window { def }, view, new);
     }
     count
 }
 
-fn count_window(def: &Def, view: &View, new: u64) -> u64
-    requires kind { IsKindWithin (def.now).kind }
-    requires lists { IsMoment (seen view.now) }
-    ensures value { (window : ℕ) (key : List ℕ) → result
-        ≡ length (completions key (seen view.now) new (window, def.now)) }
+fn count_window(window: &Window, view: &View, new: u64) -> u64
+    ensures value { (place : ℕ) (key : List ℕ) → result
+        ≡ length (completions key view.now new (place, window.now)) }
     ensures few { result ≤ TIME_MAX + 1 }
 {
     let mut count = 0;
-    let mut from = due_from(&def.kind, view.kept, view.marks, view.water);
-    while let Some(extent) = first_left(&def.kind, view.kept, view.marks, from, new) {
+    let mut from = due_from(window, view);
+    while let Some(extent) = first_left(window, view, from, new) {
         count += 1;
         from = extent.low + 1;
     }
@@ -102,39 +92,38 @@ fn count_window(def: &Def, view: &View, new: u64) -> u64
 
 /// The least bound above the watermark, over all windows: the first watermark at which something
 /// becomes complete. `u64::MAX` where there is none.
-pub fn next_bound(windows: &[Def], view: &View) -> u64
-    requires windows { AreWindows windows.now }
-    requires lists { IsMoment (seen view.now) }
+pub fn next_bound(defs: &Defs, view: &View) -> u64
     ensures least { result
-        ≡ fold min u64.MAX (flat_map (bounds_ahead (seen view.now)) windows.now) }
+        ≡ fold min u64.MAX (flat_map (bounds_ahead view.now) (defs.now).windows) }
 
     // No bound lies between the watermark and it.
-    ensures ahead { IsAhead windows.now (seen view.now).kept (seen view.now).marks
-        (seen view.now).water result }
+    ensures ahead { IsAhead (defs.now).windows view.now.kept view.now.marks
+        view.now.water result }
 
     // And up to the final watermark it is the bound of an instance.
-    ensures due { IsDue windows.now (seen view.now).kept (seen view.now).marks
-        (seen view.now).water result }
+    ensures due { IsDue (defs.now).windows view.now.kept view.now.marks
+        view.now.water result }
 
     // A move to below it completes nothing.
     ensures nothing { (key : List ℕ) (new : ℕ) → new < result
-        → all_completions windows.now key (seen view.now) new ≡ [] }
+        → all_completions (defs.now).windows key view.now new ≡ [] }
 {
+    let windows = windows_of(defs);
     let mut least = u64::MAX;
     for def in windows {
-        least = next_of_window(def, view, least);
+        least = next_of_window(&Window { def }, view, least);
     }
     least
 }
 
 // The least of a number and the bounds of one window above the watermark: as bounds don't fall, the
 // first of them is the least.
-fn next_of_window(def: &Def, view: &View, least: u64) -> u64
-    requires kind { IsKindWithin (def.now).kind }
-    requires lists { IsMoment (seen view.now) }
-    ensures { result ≡ fold min least (bounds_ahead (seen view.now) def.now) }
+fn next_of_window(window: &Window, view: &View, least: u64) -> u64
+    ensures { result ≡ fold min least (bounds_ahead view.now window.now) }
 {
-    match bound_above(&def.kind, view.kept, view.marks, view.water) {
+    window.vouch();
+    view.vouch();
+    match bound_above(window, view, view.water) {
         Some(bound) => least_of(least, bound),
         None => least,
     }
@@ -143,38 +132,40 @@ fn next_of_window(def: &Def, view: &View, least: u64) -> u64
 /// A number below which a tuple at this time brings no bound, whatever the lists: with it among them,
 /// no bound lies between the watermark and the less of it and a number for which that held before.
 /// None where the time alone doesn't tell, as with sessions, marks and event counts.
-pub fn bound_from(windows: &[Def], time: u64) -> Option<u64>
-    requires windows { AreWindows windows.now }
+pub fn bound_from(defs: &Defs, time: u64) -> Option<u64>
     requires time { time ≤ TIME_MAX }
     ensures ahead { IfSome result (λ bound. (kept : List Kept) (marks : List ℕ) (x : Kept)
-        (water due : ℕ) → x.time ≡ time → IsAhead windows.now kept marks water due
-        → IsAhead windows.now (put_in_order kept x) marks water (min due bound)) }
+        (water due : ℕ) → x.time ≡ time → IsAhead (defs.now).windows kept marks water due
+        → IsAhead (defs.now).windows (put_in_order kept x) marks water (min due bound)) }
 
     // And the less of the two is still the least bound, where the tuple comes after the watermark.
     ensures due { IfSome result (λ bound. (kept : List Kept) (marks : List ℕ) (x : Kept)
         (water due : ℕ) → x.time ≡ time → water < time
-        → IsDue windows.now kept marks water due
-        → IsDue windows.now (put_in_order kept x) marks water (min due bound)) }
+        → IsDue (defs.now).windows kept marks water due
+        → IsDue (defs.now).windows (put_in_order kept x) marks water (min due bound)) }
 {
+    let windows = windows_of(defs);
     let mut least = u64::MAX;
     for def in windows {
-        least = least_of(least, bound_of(&def.kind, time)?);
+        least = least_of(least, bound_of(&Window { def }, time)?);
     }
     Some(least)
 }
 
 // The same of one window.
 #[tactic(auto, unfolding(stream_base::specs::Model::Windows::instances_of))]
-fn bound_of(kind: &Kind, time: u64) -> Option<u64>
-    requires kind { IsKindWithin kind.now }
+fn bound_of(window: &Window, time: u64) -> Option<u64>
     requires time { time ≤ TIME_MAX }
-    ensures none_below { IfSome result (BringsNoneBelow kind.now time) }
-    ensures brought { IfSome result (BringsBound kind.now time) }
-    ensures stay { IfSome result (λ bound. KeepsBounds kind.now) }
+    ensures none_below { IfSome result (BringsNoneBelow window.now.kind time) }
+    ensures brought { IfSome result (BringsBound window.now.kind time) }
+    ensures stay { IfSome result (λ bound. KeepsBounds window.now.kind) }
 {
-    match *kind {
-        Kind::Tumbling { length } => Some(spans::bound_holding(length, length, time)),
-        Kind::Sliding { length, slide } => Some(spans::bound_holding(length, slide, time)),
+    match window.def.kind {
+        Kind::Tumbling { length } => {
+            let slide = length;
+            Some(bound_holding(Spacing { length, slide }, time))
+        }
+        Kind::Sliding { length, slide } => Some(bound_holding(Spacing { length, slide }, time)),
         Kind::Session { .. } | Kind::Marks | Kind::Events { .. } => None,
     }
 }

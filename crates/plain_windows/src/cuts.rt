@@ -1,45 +1,47 @@
 //! Where slices are cut.
 ghost use Rattle.std.specs.Prelude.{◌≡◌, ◌≤◌, ◌&&◌, nat_le, nat_lt};
 ghost use Rattle.std.specs.List.{list_any};
-ghost use Rattle.std.specs.List.Sorted.{IsStrictlyIncreasing};
 ghost use Rattle.stream_base.specs.declared.limits.TheConstants.{TIME_MAX};
-ghost use Rattle.stream_base.specs.Limits.{IsKindWithin};
 ghost use Rattle.stream_base.specs.Model.Cuts.{bounds_up_to, cuts_between, has_bound, has_cut};
-ghost use Rattle.plain_windows.specs.Views.{AreWindows};
 
 use crate::places::marks_before;
-use stream_base::{Def, Kind};
+use crate::view::View;
+use crate::window::{Window, windows_of};
+use stream_base::{Defs, Kind};
+
+/// The times of two tuples, one behind the other.
+#[derive(Clone, Copy)]
+pub struct Times {
+    pub low: u64,
+    pub high: u64,
+    ghost low_within: { low ≤ TIME_MAX },
+    ghost high_within: { high ≤ TIME_MAX },
+}
 
 /// Whether there is a cut between two times: of a window, or by a mark.
-pub fn has_cut(windows: &[Def], marks: &[u64], low: u64, high: u64) -> bool
-    requires windows { AreWindows windows.now }
-    requires rising { IsStrictlyIncreasing marks.now }
-    requires low { low ≤ TIME_MAX }
-    requires high { high ≤ TIME_MAX }
-    ensures { result ≡ has_cut windows.now marks.now low high }
+pub fn has_cut(defs: &Defs, view: &View, times: Times) -> bool
+    ensures { result ≡ has_cut (defs.now).windows view.now.marks times.low times.high }
 {
-    cuts_any(windows, low, high) || has_mark(marks, low, high)
+    cuts_any(defs, times) || has_mark(view, times)
 }
 
 // Whether a mark lies after the first time and at or before the second.
-fn has_mark(marks: &[u64], low: u64, high: u64) -> bool
-    requires rising { IsStrictlyIncreasing marks.now }
-    requires low { low ≤ TIME_MAX }
-    ensures { result ≡ list_any (λ m. nat_lt low m && nat_le m high) marks.now }
+fn has_mark(view: &View, times: Times) -> bool
+    ensures { result ≡ list_any (λ m. nat_lt times.low m && nat_le m times.high) view.now.marks }
 {
-    let place = marks_before(marks, low + 1);
-    place < marks.len() && marks[place] <= high
+    let marks = view.marks;
+    let place = marks_before(marks, times.low + 1);
+    place < marks.len() && marks[place] <= times.high
 }
 
 // Whether a window cuts between two times.
-fn cuts_any(windows: &[Def], low: u64, high: u64) -> bool
-    requires windows { AreWindows windows.now }
-    requires low { low ≤ TIME_MAX }
-    requires high { high ≤ TIME_MAX }
-    ensures { result ≡ list_any (λ w. cuts_between w.kind low high) windows.now }
+fn cuts_any(defs: &Defs, times: Times) -> bool
+    ensures { result
+        ≡ list_any (λ w. cuts_between w.kind times.low times.high) (defs.now).windows }
 {
+    let windows = windows_of(defs);
     for def in windows {
-        if cuts_between(&def.kind, low, high) {
+        if cuts_between(&Window { def }, times) {
             return true;
         }
     }
@@ -48,31 +50,26 @@ fn cuts_any(windows: &[Def], low: u64, high: u64) -> bool
 
 // Whether a start or an end of an interval lies after the first time and at or before the second,
 // or they are at least the gap apart.
-fn cuts_between(kind: &Kind, low: u64, high: u64) -> bool
-    requires kind { IsKindWithin kind.now }
-    requires low { low ≤ TIME_MAX }
-    requires high { high ≤ TIME_MAX }
-    ensures { result ≡ cuts_between kind.now low high }
+fn cuts_between(window: &Window, times: Times) -> bool
+    ensures { result ≡ cuts_between window.now.kind times.low times.high }
 {
-    match *kind {
-        Kind::Tumbling { length } => has_bound(0, length, low, high),
+    match window.def.kind {
+        Kind::Tumbling { length } => has_bound(0, length, times),
         Kind::Sliding { length, slide } => {
-            has_bound(0, slide, low, high) || has_bound(length, slide, low, high)
+            has_bound(0, slide, times) || has_bound(length, slide, times)
         }
-        Kind::Session { gap } => gap <= high.saturating_sub(low),
+        Kind::Session { gap } => gap <= times.high.saturating_sub(times.low),
         Kind::Marks | Kind::Events { .. } => false,
     }
 }
 
 // Whether one of the times offset, offset + slide, offset + 2 * slide and so on lies after the
 // first time and at or before the second.
-fn has_bound(offset: u64, slide: u64, low: u64, high: u64) -> bool
-    requires slide { 1 ≤ slide }
-    requires low { low ≤ TIME_MAX }
-    requires high { high ≤ TIME_MAX }
-    ensures { result ≡ has_bound offset slide low high }
+fn has_bound(offset: u64, slide: u64, times: Times) -> bool
+    requires { 1 ≤ slide }
+    ensures { result ≡ has_bound offset slide times.low times.high }
 {
-    bounds_up_to(offset, slide, low) < bounds_up_to(offset, slide, high)
+    bounds_up_to(offset, slide, times.low) < bounds_up_to(offset, slide, times.high)
 }
 
 // How many of those times are at most a time.

@@ -1,107 +1,91 @@
 //! What becomes of one instance from one moment to the next.
-ghost use Rattle.std.specs.Prelude.{◌≡◌, ◌≤◌, ◌-◌, ◌++◌, ◌==◌, ◌&&◌, ℕ, List, length, IfSome, nat_le, vec_len, vec_capacity};
+ghost use Rattle.std.specs.Prelude.{◌≡◌, ◌≤◌, ◌-◌, ◌++◌, ◌==◌, ◌&&◌, ℕ, List, length, nat_le, vec_len, vec_capacity};
 ghost use Rattle.std.specs.List.{find};
-ghost use Rattle.std.specs.Option.{option_map};
-ghost use Rattle.stream_base.specs.Limits.{IsKindWithin};
 ghost use Rattle.stream_base.specs.Model.Changes.{are_same_tuples, standing_at};
-ghost use Rattle.plain_windows.specs.Changing.{come_of, gone_of, is_over, room, window_of};
-ghost use Rattle.plain_windows.specs.Extents.{IsExtentIn, instance_in};
-ghost use Rattle.plain_windows.specs.Views.{IsMoment, seen};
+ghost use Rattle.plain_windows.specs.Changing.{Appends, come_of, gone_of, is_over, room, window_of};
+ghost use Rattle.plain_windows.specs.Extents.{IsExtentIn, Tells, instance_in};
 
 use crate::extent::Extent;
 use crate::find::first_from;
 use crate::fold::{Owner, former_of, row_of, tuples_of};
 use crate::view::View;
+use crate::window::Window;
 use agg_laws::Steps;
-use stream_base::{Change, Def, Kept};
+use stream_base::{Change, Kept};
 
 /// Appends the retraction of an instance that stood, if none stands with its start and end.
 pub fn gone<L>(
-    owner: Owner,
-    kept: &[Kept],
+    owner: &Owner,
+    old: &View,
     extent: &Extent,
     new: &View,
     out: &mut Vec<Change>,
     steps: &mut Steps<L>,
 )
-    requires kind { IsKindWithin owner.def.now.kind }
-    requires lists { IsMoment (seen new.now) }
-    requires inside { IsExtentIn kept.now extent.now }
-    requires spare { length (gone_of owner.key.now (seen new.now) (window_of owner)
-        (instance_in kept.now extent.now))
+    requires inside { IsExtentIn old.now.kept extent.now }
+    requires spare { length (gone_of owner.now.key.now new.now (window_of owner.now)
+        (instance_in old.now.kept extent.now))
         ≤ room out.old }
-    ensures items { out.new.items
-        ≡ out.old.items
-        ++ gone_of owner.entry.key.now (seen new.now) (window_of owner.entry)
-        (instance_in kept.now extent.now) }
-    ensures capacity { vec_capacity out.new ≡ vec_capacity out.old }
+    ensures { Appends (gone_of owner.now.key.now new.now (window_of owner.now)
+        (instance_in old.now.kept extent.now)) out.old out.new }
 {
-    match standing_over(owner.def, new, extent) {
+    match standing_over(&owner.window, new, extent) {
         Some(_) => {}
-        None => out.push_reserved(Change::Gone(row_of(owner, kept, extent, steps))),
+        None => out.push_reserved(Change::Gone(row_of(owner, old, extent, steps))),
     }
 }
 
 /// Appends the emission of an instance that stands, if none stood with its start and end, or its
 /// update, if that one selected other tuples.
 pub fn come<L>(
-    owner: Owner,
-    kept: &[Kept],
+    owner: &Owner,
+    new: &View,
     extent: &Extent,
     old: &View,
     out: &mut Vec<Change>,
     steps: &mut Steps<L>,
 )
-    requires kind { IsKindWithin owner.def.now.kind }
-    requires lists { IsMoment (seen old.now) }
-    requires inside { IsExtentIn kept.now extent.now }
-    requires spare { length (come_of owner.key.now (seen old.now) (window_of owner)
-        (instance_in kept.now extent.now))
+    requires inside { IsExtentIn new.now.kept extent.now }
+    requires spare { length (come_of owner.now.key.now old.now (window_of owner.now)
+        (instance_in new.now.kept extent.now))
         ≤ room out.old }
-    ensures items { out.new.items
-        ≡ out.old.items
-        ++ come_of owner.entry.key.now (seen old.now) (window_of owner.entry)
-        (instance_in kept.now extent.now) }
-    ensures capacity { vec_capacity out.new ≡ vec_capacity out.old }
+    ensures { Appends (come_of owner.now.key.now old.now (window_of owner.now)
+        (instance_in new.now.kept extent.now)) out.old out.new }
 {
-    match standing_over(owner.def, old, extent) {
+    match standing_over(&owner.window, old, extent) {
         Some(before) => {
-            if !are_same_tuples(tuples_of(old.kept, &before), tuples_of(kept, extent)) {
-                let former = former_of(owner.def.func, old.kept, &before, steps);
-                let row = row_of(owner, kept, extent, steps);
+            if !are_same_tuples(tuples_of(old, &before), tuples_of(new, extent)) {
+                let former = former_of(owner.window.func(), old, &before, steps);
+                let row = row_of(owner, new, extent, steps);
                 out.push_reserved(Change::Again { row, former });
             }
         }
-        None => out.push_reserved(Change::New(row_of(owner, kept, extent, steps))),
+        None => out.push_reserved(Change::New(row_of(owner, new, extent, steps))),
     }
 }
 
 /// How many changes `gone` appends.
-pub fn count_gone(def: &Def, kept: &[Kept], extent: &Extent, new: &View) -> u64
-    requires kind { IsKindWithin (def.now).kind }
-    requires lists { IsMoment (seen new.now) }
-    ensures value { (window : ℕ) (key : List ℕ) → result
-        ≡ length (gone_of key (seen new.now) (window, def.now) (instance_in kept.now extent.now)) }
+pub fn count_gone(window: &Window, old: &View, extent: &Extent, new: &View) -> u64
+    ensures value { (place : ℕ) (key : List ℕ) → result
+        ≡ length (gone_of key new.now (place, window.now) (instance_in old.now.kept extent.now)) }
     ensures few { result ≤ 1 }
 {
-    match standing_over(def, new, extent) {
+    match standing_over(window, new, extent) {
         Some(_) => 0,
         None => 1,
     }
 }
 
 /// How many changes `come` appends.
-pub fn count_come(def: &Def, kept: &[Kept], extent: &Extent, old: &View) -> u64
-    requires kind { IsKindWithin (def.now).kind }
-    requires lists { IsMoment (seen old.now) }
-    requires inside { IsExtentIn kept.now extent.now }
-    ensures value { (window : ℕ) (key : List ℕ) → result
-        ≡ length (come_of key (seen old.now) (window, def.now) (instance_in kept.now extent.now)) }
+pub fn count_come(window: &Window, new: &View, extent: &Extent, old: &View) -> u64
+    requires inside { IsExtentIn new.now.kept extent.now }
+    ensures value { (place : ℕ) (key : List ℕ) → result
+        ≡ length (come_of key old.now (place, window.now) (instance_in new.now.kept extent.now)) }
     ensures few { result ≤ 1 }
 {
-    match standing_over(def, old, extent) {
+    match standing_over(window, old, extent) {
         Some(before) => {
-            if are_same_tuples(tuples_of(old.kept, &before), tuples_of(kept, extent)) {
+            if are_same_tuples(tuples_of(old, &before), tuples_of(new, extent)) {
                 0
             } else {
                 1
@@ -112,14 +96,13 @@ pub fn count_come(def: &Def, kept: &[Kept], extent: &Extent, old: &View) -> u64
 }
 
 // The instance that stands and starts and ends as the extent does, if there is one.
-fn standing_over(def: &Def, view: &View, extent: &Extent) -> Option<Extent>
-    requires kind { IsKindWithin (def.now).kind }
-    requires lists { IsMoment (seen view.now) }
-    ensures found { option_map (instance_in view.now.kept.now) result
-        ≡ find (is_over extent.now) (standing_at def.now (seen view.now)) }
-    ensures inside { IfSome result (IsExtentIn view.now.kept.now) }
+fn standing_over(window: &Window, view: &View, extent: &Extent) -> Option<Extent>
+    ensures { Tells view.now.kept result
+        (find (is_over extent.now) (standing_at window.now view.now)) }
 {
-    match first_from(&def.kind, view.kept, view.marks, extent.low) {
+    window.vouch();
+    view.vouch();
+    match first_from(window, view, extent.low) {
         Some(there) => {
             if stands_over(&there, view.water, extent) {
                 Some(there)

@@ -7,51 +7,53 @@ ghost use Rattle.plain_windows.specs.Extents.{IsExtentIn, instance_in};
 ghost use Rattle.plain_windows.specs.Rows.{values_of};
 
 use crate::extent::Extent;
+use crate::view::View;
+use crate::window::Window;
 use agg_laws::{Lift, Monoid, Steps};
 use aggregates::Bundle;
-use stream_base::{Def, Former, Func, Kept, KeyText, Row, Shown};
+use stream_base::{Former, Func, Kept, KeyText, Row, Shown};
 
 /// Whose rows are made: a window with its place among the definitions, and a key.
-#[derive(Clone, Copy)]
+#[derive(Drop)]
 pub struct Owner<'a> {
-    pub window: u32,
-    pub def: &'a Def,
+    pub place: u32,
+    pub window: Window<'a>,
     pub key: &'a KeyText,
 }
 
 /// The tuples that an instance selects.
-pub fn tuples_of<'a>(kept: &'a [Kept], extent: &Extent) -> &'a [Kept]
-    requires { IsExtentIn kept.now extent.now }
-    ensures { result.now ≡ (instance_in kept.now extent.now).chosen }
+pub fn tuples_of<'a>(view: &'a View, extent: &Extent) -> &'a [Kept]
+    requires { IsExtentIn view.now.kept extent.now }
+    ensures { result.now ≡ (instance_in view.now.kept extent.now).chosen }
 {
-    &kept[extent.first..extent.first + extent.count]
+    &view.kept[extent.first..extent.first + extent.count]
 }
 
 /// The row of an instance, one step for each tuple that it selects.
-pub fn row_of<L>(owner: Owner, kept: &[Kept], extent: &Extent, steps: &mut Steps<L>) -> Row
-    requires { IsExtentIn kept.now extent.now }
+pub fn row_of<L>(owner: &Owner, view: &View, extent: &Extent, steps: &mut Steps<L>) -> Row
+    requires { IsExtentIn view.now.kept extent.now }
     ensures { result
-        ≡ row_of owner.entry.window owner.entry.key.now owner.entry.def.now.func
-        (instance_in kept.now extent.now) }
+        ≡ row_of owner.now.place owner.now.key.now owner.now.window.func
+        (instance_in view.now.kept extent.now) }
 {
     Row {
-        window: owner.window,
+        window: owner.place,
         key: *owner.key,
         low: extent.low,
         high: extent.high,
         number: extent.count as u64,
-        shown: shown_of(owner.def.func, tuples_of(kept, extent), steps),
+        shown: shown_of(owner.window.func(), tuples_of(view, extent), steps),
     }
 }
 
 /// What stood of an instance, one step for each tuple that it selected.
-pub fn former_of<L>(func: Func, kept: &[Kept], extent: &Extent, steps: &mut Steps<L>) -> Former
-    requires { IsExtentIn kept.now extent.now }
-    ensures { result ≡ former_of func (instance_in kept.now extent.now) }
+pub fn former_of<L>(func: Func, view: &View, extent: &Extent, steps: &mut Steps<L>) -> Former
+    requires { IsExtentIn view.now.kept extent.now }
+    ensures { result ≡ former_of func (instance_in view.now.kept extent.now) }
 {
     Former {
         number: extent.count as u64,
-        shown: shown_of(func, tuples_of(kept, extent), steps),
+        shown: shown_of(func, tuples_of(view, extent), steps),
     }
 }
 

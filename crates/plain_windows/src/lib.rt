@@ -25,6 +25,7 @@ mod spans;
 mod stretches;
 mod view;
 mod walk;
+mod window;
 
 pub use changes::{append_changes, count_changes};
 pub use completions::{append_completions, bound_from, count_completions, next_bound};

@@ -5,20 +5,20 @@ ghost use Rattle.std.specs.Option.{option_map};
 ghost use Rattle.stream_base.specs.declared.kind.Kind.TheVariants.{Events};
 ghost use Rattle.stream_base.specs.Limits.{IsKindWithin};
 ghost use Rattle.stream_base.specs.Model.Windows.{counted, ranks};
-ghost use Rattle.plain_windows.specs.Extents.{AreKeyLists, IsExtentIn, instance_in};
+ghost use Rattle.plain_windows.specs.Extents.{IsExtentIn, Tells, instance_in};
 
 use crate::extent::Extent;
 use crate::places::tuples_before;
+use crate::view::View;
 use stream_base::{Kept, TIME_MAX};
 
 /// The first run of so many tuples that starts at or after a rank, if it is all there.
-pub fn first_from(count: u64, kept: &[Kept], from: u64) -> Option<Extent>
+pub fn first_from(count: u64, view: &View, from: u64) -> Option<Extent>
     requires kind { IsKindWithin (Events count) }
-    requires lists { AreKeyLists kept.now [] }
-    ensures found { option_map (instance_in kept.now) result
-        ≡ find (λ i. nat_le from i.low) (counted count kept.now) }
-    ensures inside { IfSome result (IsExtentIn kept.now) }
+    ensures { Tells view.now.kept result
+        (find (λ i. nat_le from i.low) (counted count view.now.kept)) }
 {
+    let kept = view.kept;
     if from > kept.len() as u64 {
         return None;
     }
@@ -32,13 +32,12 @@ pub fn first_from(count: u64, kept: &[Kept], from: u64) -> Option<Extent>
 
 /// The first run of so many tuples whose last lies after a watermark, if it is all there: runs of
 /// tuples up to the watermark are complete.
-pub fn first_above(count: u64, kept: &[Kept], water: u64) -> Option<Extent>
+pub fn first_above(count: u64, view: &View, water: u64) -> Option<Extent>
     requires kind { IsKindWithin (Events count) }
-    requires lists { AreKeyLists kept.now [] }
-    ensures found { option_map (instance_in kept.now) result
-        ≡ find (λ i. nat_lt water i.bound) (counted count kept.now) }
-    ensures inside { IfSome result (IsExtentIn kept.now) }
+    ensures { Tells view.now.kept result
+        (find (λ i. nat_lt water i.bound) (counted count view.now.kept)) }
 {
+    let kept = view.kept;
     if water >= TIME_MAX {
         return None;
     }

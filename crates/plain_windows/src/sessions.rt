@@ -6,57 +6,56 @@ ghost use Rattle.std.specs.Option.{option_map};
 ghost use Rattle.stream_base.specs.declared.kind.Kind.TheVariants.{Session};
 ghost use Rattle.stream_base.specs.Limits.{IsKindWithin};
 ghost use Rattle.stream_base.specs.Model.Windows.{session, sessions};
-ghost use Rattle.plain_windows.specs.Extents.{AreKeyLists, IsExtentIn, instance_in};
+ghost use Rattle.plain_windows.specs.Extents.{IsExtentIn, Tells, instance_in};
 ghost use Rattle.plain_windows.specs.Places.{IsPlaceOf};
 ghost use Rattle.plain_windows.specs.Runs.{is_apart, runs_of};
 
 use crate::extent::Extent;
 use crate::places::tuples_before;
+use crate::view::View;
 use stream_base::Kept;
 
 /// The first session that starts at or after a time, if there is one: behind the session of the
 /// last tuple before that time.
-pub fn first_from(gap: u64, kept: &[Kept], from: u64) -> Option<Extent>
+pub fn first_from(gap: u64, view: &View, from: u64) -> Option<Extent>
     requires kind { IsKindWithin (Session gap) }
-    requires lists { AreKeyLists kept.now [] }
-    ensures found { option_map (instance_in kept.now) result
-        ≡ find (λ i. nat_le from i.low) (sessions gap kept.now) }
-    ensures inside { IfSome result (IsExtentIn kept.now) }
+    ensures { Tells view.now.kept result
+        (find (λ i. nat_le from i.low) (sessions gap view.now.kept)) }
 {
+    let kept = view.kept;
     let first = start_behind(gap, kept, tuples_before(kept, from));
     if first == kept.len() {
         return None;
     }
-    Some(session_over(gap, kept, first, end_of(gap, kept, first)))
+    Some(session_over(gap, view, first, end_of(gap, kept, first)))
 }
 
 /// The first session that ends after a watermark, if there is one: the session of the first tuple
 /// that lies less than the gap before the watermark, or after it.
-pub fn first_above(gap: u64, kept: &[Kept], water: u64) -> Option<Extent>
+pub fn first_above(gap: u64, view: &View, water: u64) -> Option<Extent>
     requires kind { IsKindWithin (Session gap) }
-    requires lists { AreKeyLists kept.now [] }
-    ensures found { option_map (instance_in kept.now) result
-        ≡ find (λ i. nat_lt water i.bound) (sessions gap kept.now) }
-    ensures inside { IfSome result (IsExtentIn kept.now) }
+    ensures { Tells view.now.kept result
+        (find (λ i. nat_lt water i.bound) (sessions gap view.now.kept)) }
 {
+    let kept = view.kept;
     let place = tuples_before(kept, water.saturating_sub(gap - 1));
     if place == kept.len() {
         return None;
     }
     let end = end_of(gap, kept, place);
-    Some(session_over(gap, kept, start_of(gap, kept, place, end), end))
+    Some(session_over(gap, view, start_of(gap, kept, place, end), end))
 }
 
 // The session of the tuples from one place up to another.
-fn session_over(gap: u64, kept: &[Kept], first: usize, end: usize) -> Extent
+fn session_over(gap: u64, view: &View, first: usize, end: usize) -> Extent
     requires kind { IsKindWithin (Session gap) }
-    requires lists { AreKeyLists kept.now [] }
     requires some { first < end }
-    requires there { end ≤ length kept.now }
-    ensures is { instance_in kept.now result
-        ≡ session gap (take (end - first) (drop first kept.now)) }
-    ensures inside { IsExtentIn kept.now result }
+    requires there { end ≤ length view.now.kept }
+    ensures is { instance_in view.now.kept result
+        ≡ session gap (take (end - first) (drop first view.now.kept)) }
+    ensures inside { IsExtentIn view.now.kept result }
 {
+    let kept = view.kept;
     let low = kept[first].time;
     let high = kept[end - 1].time + gap;
     Extent {

@@ -1,91 +1,88 @@
 //! How many slices the unsettled tuples of a key have.
-ghost use Rattle.std.specs.Prelude.{All, ◌≡◌, ◌≤◌, length};
+ghost use Rattle.std.specs.Prelude.{◌≡◌, ◌≤◌, drop, length};
 ghost use Rattle.std.specs.List.{list_all};
-ghost use Rattle.std.specs.List.Sorted.{IsStrictlyIncreasing};
-ghost use Rattle.stream_base.specs.declared.limits.TheConstants.{TIME_MAX};
-ghost use Rattle.stream_base.specs.Limits.{Definitions, IsKindWithin};
 ghost use Rattle.stream_base.specs.Model.Slices.{is_events, is_settled_in, runs_of, unsettled};
 ghost use Rattle.window_laws.specs.Positions.{HaveDistinctPositions};
 ghost use Rattle.plain_windows.specs.Turns.{IsTurnOf};
-ghost use Rattle.plain_windows.specs.Views.{AreWindows, IsMoment, seen};
 
-use crate::cuts::has_cut;
+use crate::cuts::{Times, has_cut};
 use crate::find::first_above;
 use crate::view::View;
-use stream_base::{Def, Kept, Kind};
+use crate::window::{Window, windows_of};
+use stream_base::{Defs, Kind};
 
-/// How many slices the tuples have that aren't settled, under these windows and this lateness: the
-/// maximal stretches of them with no cut between neighbours. Settled tuples come first, so it looks
-/// for the first that isn't, and counts the cuts from there on. Takes no memory.
-pub fn slice_count(windows: &[Def], lateness: u64, view: &View) -> u64
-    requires windows { AreWindows windows.now }
-    requires lists { IsMoment (seen view.now) }
-    requires distinct { HaveDistinctPositions (seen view.now).kept }
-    ensures { (d : Definitions) → d.windows ≡ windows.now → d.lateness ≡ lateness → result
-        ≡ length (runs_of d.windows (seen view.now).marks (unsettled d (seen view.now))) }
+/// How many slices the tuples have that aren't settled, under these definitions: the maximal
+/// stretches of them with no cut between neighbours. Settled tuples come first, so it looks for the
+/// first that isn't, and counts the cuts from there on. Takes no memory.
+pub fn slice_count(defs: &Defs, view: &View) -> u64
+    requires distinct { HaveDistinctPositions view.now.kept }
+    ensures { result
+        ≡ length (runs_of (defs.now).windows view.now.marks (unsettled defs.now view.now)) }
 {
-    let first = first_unsettled(windows, lateness, view);
-    count_slices(windows, view.marks, &view.kept[first..])
+    count_slices(defs, view, first_unsettled(defs, view))
 }
 
 // The place of the first tuple that isn't settled, and the number of tuples where all are.
-fn first_unsettled(windows: &[Def], lateness: u64, view: &View) -> usize
-    requires windows { AreWindows windows.now }
-    requires lists { IsMoment (seen view.now) }
-    requires distinct { HaveDistinctPositions (seen view.now).kept }
-    ensures { IsTurnOf (λ x. list_all (is_settled_in lateness (seen view.now) x) windows.now)
-        (seen view.now).kept result }
+fn first_unsettled(defs: &Defs, view: &View) -> usize
+    requires distinct { HaveDistinctPositions view.now.kept }
+    ensures { IsTurnOf (λ x. list_all (is_settled_in (defs.now).lateness view.now x)
+        (defs.now).windows) view.now.kept result }
 {
-    let mut first = view.kept.len();
+    let windows = windows_of(defs);
+    let lateness = defs.lateness();
+    let mut first = view.len();
     for def in windows {
-        first = first.min(first_unsettled_in(def, lateness, view));
+        first = first.min(first_unsettled_in(&Window { def }, lateness, view));
     }
     first
 }
 
 // The same of one window: instances come by their starts and their ends, so it is the first tuple
 // of the first instance that ends after the watermark minus the lateness.
-fn first_unsettled_in(def: &Def, lateness: u64, view: &View) -> usize
-    requires kind { IsKindWithin (def.now).kind }
-    requires lists { IsMoment (seen view.now) }
-    requires distinct { HaveDistinctPositions (seen view.now).kept }
-    ensures { IsTurnOf (λ x. is_settled_in lateness (seen view.now) x def.now)
-        (seen view.now).kept result }
+fn first_unsettled_in(window: &Window, lateness: u64, view: &View) -> usize
+    requires distinct { HaveDistinctPositions view.now.kept }
+    ensures { IsTurnOf (λ x. is_settled_in lateness view.now x window.now) view.now.kept result }
 {
-    if counts_events(&def.kind) {
-        return view.kept.len();
+    window.vouch();
+    view.vouch();
+    if counts_events(window) {
+        return view.len();
     }
     let water = view.water.saturating_sub(lateness);
-    match first_above(&def.kind, view.kept, view.marks, water) {
+    match first_above(window, view, water) {
         Some(extent) => extent.first,
-        None => view.kept.len(),
+        None => view.len(),
     }
 }
 
 // Whether a window is one of event counts.
-fn counts_events(kind: &Kind) -> bool
-    ensures { result ≡ is_events kind.now }
+fn counts_events(window: &Window) -> bool
+    ensures { result ≡ is_events window.now.kind }
 {
-    match *kind {
+    match window.def.kind {
         Kind::Events { .. } => true,
         _ => false,
     }
 }
 
-// How many slices tuples have: one more than there are cuts between neighbours.
-fn count_slices(windows: &[Def], marks: &[u64], kept: &[Kept]) -> u64
-    requires windows { AreWindows windows.now }
-    requires rising { IsStrictlyIncreasing marks.now }
-    requires times { All (λ x. x.time ≤ TIME_MAX) kept.now }
-    requires few { length kept.now ≤ TIME_MAX }
-    ensures { result ≡ length (runs_of windows.now marks.now kept.now) }
+// How many slices the tuples from a place on have: one more than there are cuts between neighbours.
+fn count_slices(defs: &Defs, view: &View, first: usize) -> u64
+    requires { first ≤ length view.now.kept }
+    ensures { result
+        ≡ length (runs_of (defs.now).windows view.now.marks (drop first view.now.kept)) }
 {
+    view.vouch();
+    let kept = view.kept_from(first);
     if kept.is_empty() {
         return 0;
     }
     let mut count = 1;
     for place in 1..kept.len() {
-        if has_cut(windows, marks, kept[place - 1].time, kept[place].time) {
+        let times = Times {
+            low: kept[place - 1].time,
+            high: kept[place].time,
+        };
+        if has_cut(defs, view, times) {
             count += 1;
         }
     }

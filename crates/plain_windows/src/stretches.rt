@@ -5,59 +5,58 @@ ghost use Rattle.std.specs.List.Sorted.{IsStrictlyIncreasing};
 ghost use Rattle.std.specs.Option.{option_map};
 ghost use Rattle.stream_base.specs.declared.limits.TheConstants.{TIME_MAX};
 ghost use Rattle.stream_base.specs.Model.Windows.{stretches};
-ghost use Rattle.plain_windows.specs.Extents.{AreKeyLists, IsExtentIn, instance_in};
+ghost use Rattle.plain_windows.specs.Extents.{Tells};
 ghost use Rattle.plain_windows.specs.Runs.{edges_of};
 
 use crate::extent::Extent;
 use crate::intervals::interval_over;
 use crate::places::{marks_before, tuples_before};
-use stream_base::{FINAL, Kept};
+use crate::view::View;
+use stream_base::FINAL;
 
 /// The first interval between successive marks that starts at or after a time and has a tuple, if
 /// there is one. Only its tuple is looked for, so the empty ones before it cost nothing.
-pub fn first_from(kept: &[Kept], marks: &[u64], from: u64) -> Option<Extent>
-    requires lists { AreKeyLists kept.now marks.now }
-    ensures found { option_map (instance_in kept.now) result
-        ≡ find (λ i. nat_le from i.low) (stretches marks.now kept.now) }
-    ensures inside { IfSome result (IsExtentIn kept.now) }
+pub fn first_from(view: &View, from: u64) -> Option<Extent>
+    ensures { Tells view.now.kept result
+        (find (λ i. nat_le from i.low) (stretches view.now.marks view.now.kept)) }
 {
+    let marks = view.marks;
     if from == 0 {
-        return first_behind(kept, marks, 0);
+        return first_behind(view, 0);
     }
     if from > FINAL {
         return None;
     }
-    first_behind(kept, marks, edge_after(marks, from - 1))
+    first_behind(view, edge_after(marks, from - 1))
 }
 
 /// The first interval between successive marks that ends after a watermark and has a tuple, if
 /// there is one.
-pub fn first_above(kept: &[Kept], marks: &[u64], water: u64) -> Option<Extent>
-    requires lists { AreKeyLists kept.now marks.now }
-    ensures found { option_map (instance_in kept.now) result
-        ≡ find (λ i. nat_lt water i.bound) (stretches marks.now kept.now) }
-    ensures inside { IfSome result (IsExtentIn kept.now) }
+pub fn first_above(view: &View, water: u64) -> Option<Extent>
+    ensures { Tells view.now.kept result
+        (find (λ i. nat_lt water i.bound) (stretches view.now.marks view.now.kept)) }
 {
+    let marks = view.marks;
     if water >= FINAL {
         return None;
     }
-    first_behind(kept, marks, edge_up_to(marks, water))
+    first_behind(view, edge_up_to(marks, water))
 }
 
 // The first interval with a tuple that starts at an edge or behind it, if there is one.
-fn first_behind(kept: &[Kept], marks: &[u64], edge: u64) -> Option<Extent>
-    requires lists { AreKeyLists kept.now marks.now }
-    requires edge { Contains (edges_of marks.now) edge }
-    ensures found { option_map (instance_in kept.now) result
-        ≡ find (λ i. nat_le edge i.low) (stretches marks.now kept.now) }
-    ensures inside { IfSome result (IsExtentIn kept.now) }
+fn first_behind(view: &View, edge: u64) -> Option<Extent>
+    requires { Contains (edges_of view.now.marks) edge }
+    ensures { Tells view.now.kept result
+        (find (λ i. nat_le edge i.low) (stretches view.now.marks view.now.kept)) }
 {
+    let kept = view.kept;
     let place = tuples_before(kept, edge);
     if place == kept.len() {
         return None;
     }
     let time = kept[place].time;
-    Some(interval_over(kept, edge_up_to(marks, time), edge_after(marks, time)))
+    let low = edge_up_to(view.marks, time);
+    Some(interval_over(view, low, edge_after(view.marks, time)))
 }
 
 // The last edge at or before a time.

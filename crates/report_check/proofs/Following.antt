@@ -21,8 +21,8 @@ use Rattle.stream_base.specs.declared.what.What.{What}
 use Rattle.stream_base.specs.declared.what.What.TheVariants.{Tuple, Mark, Water, Idle, End}
 use Rattle.std.specs.Str.{bytes_eq}
 use Rattle.stream_base.specs.Laws.{accepted_tuple}
-use Rattle.stream_base.specs.Limits.{AreWithinLimits, Definitions, is_value}
-use Rattle.stream_base.specs.Model.Changes.{changes_between, moment_of}
+use Rattle.stream_base.specs.Limits.{Definitions, is_value}
+use Rattle.stream_base.specs.Model.Changes.{Moment, changes_between, moment_of}
 use Rattle.stream_base.specs.Model.Journals.{is_entry_within}
 use Rattle.stream_base.specs.Model.Journal.{keys_of, kept_of, marks_of, on_time, put_in_order}
 use Rattle.stream_base.specs.Model.Watermark.{least_water, water_of}
@@ -42,17 +42,14 @@ use Rattle.window_laws.specs.After.{at_water, with_mark, with_tuple}
 use Rattle.window_laws.proofs.AfterFacts.{mark_is_keyed, tuple_after_changes_nothing}
 use Rattle.window_laws.proofs.MomentFacts.{moment_of_late, moment_of_mark, moment_of_other, moment_of_progress, moment_of_tuple}
 use Rattle.plain_windows.specs.Changing.{all_completions}
-use Rattle.plain_windows.specs.Views.{AreWindows, IsMoment}
+use Rattle.plain_windows.specs.Extents.{AreKeyLists}
 use Rattle.report_check.specs.Held.{Held}
 use Rattle.report_check.specs.Readable.{IsReadable}
-use Rattle.report_check.specs.Ledgers.{IsFollowed, IsLedger, IsReadyFor, IsStep, StandsAfter, StandsBefore, StandsBehind, behind, by_key, changes_in, held_with_mark, held_with_tuple, keys_in, moment_in, nothing_of}
+use Rattle.report_check.specs.Ledgers.{IsFollowed, IsLedger, IsReadyFor, StandsAfter, StandsBefore, StandsBehind, by_key, changes_in, held_with_mark, held_with_tuple, keys_in, moment_in, nothing_of}
 use Rattle.report_check.specs.declared.ledger.Ledger.{Ledger}
-use Rattle.report_check.specs.declared.step.Step.{Step}
+use Rattle.report_check.specs.Steps.{IsStep, Passage, behind}
 
 -- ---- limits
-pub are_windows : (d : Definitions) → AreWithinLimits d → AreWindows d.windows
-are_windows d h = record { kinds = h.kinds; few = h.few_windows }
-
 pub readable_front : (past : List Entry) (e : Entry) → IsReadable (past ++ e ∷ []) → IsReadable past
 readable_front past e h = record {
   within = subst AreEntriesWithin (take_at past (e ∷ []) (length past) refl) (All-take (λ x. is_entry_within x ≡ true) (length past) (past ++ e ∷ []) h.within);
@@ -82,34 +79,37 @@ marks_increase : (lateness sources : ℕ) (key : List ℕ) (journal : List Entry
 unfolding marks_of
 marks_increase lateness sources key journal = nat_rising_increases (filter_map (λ (p : ℕ × Entry). mark_in key (p.1).what) (on_time lateness sources journal))
 
-pub is_moment : (d : Definitions) (sources : ℕ) (key : List ℕ) (journal : List Entry) → IsReadable journal → IsMoment (moment_of d sources key journal)
-is_moment d sources key journal h = record {
-  in_order = kept_in_event_order d.lateness sources key journal;
-  times = kept_times_within d.lateness sources key journal h.within;
-  few = omega (arith, h.few, kept_few d.lateness sources key journal);
-  rising = marks_increase d.lateness sources key journal;
-  mark_times = marks_within d.lateness sources key journal h.within;
-}
+-- the lists of a key after a journal that is read are a key's
+pub are_key_lists : (d : Definitions) (sources : ℕ) (journal : List Entry) (h : Held) → IsReadable journal → StandsAfter d sources journal h → AreKeyLists h.kept h.marks
+are_key_lists d sources journal h readable stands =
+    subst (λ (m : Moment). AreKeyLists m.kept m.marks) (sym stands)
+    (record {
+      in_order = kept_in_event_order d.lateness sources h.key journal;
+      times = kept_times_within d.lateness sources h.key journal readable.within;
+      few = omega (arith, readable.few, kept_few d.lateness sources h.key journal);
+      rising = marks_increase d.lateness sources h.key journal;
+      mark_times = marks_within d.lateness sources h.key journal readable.within;
+    })
 
 -- ---- one entry more
-pub after_tuple : (s : Step) (h : Held) (x : Kept) → IsStep s → StandsBefore s h → tuple_in h.key (length s.past.now) (s.entry.now).what ≡ Some x → StandsBehind s (held_with_tuple h x)
+pub after_tuple : (s : Passage) (h : Held) (x : Kept) → IsStep s → StandsBefore s h → tuple_in h.key (length s.past) s.entry.what ≡ Some x → StandsBehind s (held_with_tuple h x)
 after_tuple s h x step stands it =
-    let law = moment_of_tuple s.defs.now s.sources h.key s.past.now s.entry.now x step.on_time it in
+    let law = moment_of_tuple s.defs s.sources h.key s.past s.entry x step.on_time it in
     (λ i. moment_in (held_with_tuple h x) (law i).water) ∙ ap (λ m. with_tuple m x) stands ∙ sym law
 
-pub after_mark : (s : Step) (h : Held) (time : ℕ) → IsStep s → StandsBefore s h → mark_in h.key (s.entry.now).what ≡ Some time → StandsBehind s (held_with_mark h time)
+pub after_mark : (s : Passage) (h : Held) (time : ℕ) → IsStep s → StandsBefore s h → mark_in h.key s.entry.what ≡ Some time → StandsBehind s (held_with_mark h time)
 after_mark s h time step stands it =
-    let law = moment_of_mark s.defs.now s.sources h.key s.past.now s.entry.now time step.on_time it in
+    let law = moment_of_mark s.defs s.sources h.key s.past s.entry time step.on_time it in
     (λ i. moment_in (held_with_mark h time) (law i).water) ∙ ap (λ m. with_mark m time) stands ∙ sym law
 
-pub after_progress : (s : Step) (h : Held) → StandsBefore s h → is_progress (s.entry.now).what ≡ true → StandsBehind s h
+pub after_progress : (s : Passage) (h : Held) → StandsBefore s h → is_progress s.entry.what ≡ true → StandsBehind s h
 after_progress s h stands it =
     ap (λ m. at_water m (water_of s.sources (behind s))) stands
-    ∙ sym (moment_of_progress s.defs.now s.sources h.key s.past.now s.entry.now it)
+    ∙ sym (moment_of_progress s.defs s.sources h.key s.past s.entry it)
 
-pub after_other : (s : Step) (h : Held) → StandsBefore s h → is_progress (s.entry.now).what ≡ false → tuple_in h.key (length s.past.now) (s.entry.now).what ≡ None → mark_in h.key (s.entry.now).what ≡ None → StandsBehind s h
+pub after_other : (s : Passage) (h : Held) → StandsBefore s h → is_progress s.entry.what ≡ false → tuple_in h.key (length s.past) s.entry.what ≡ None → mark_in h.key s.entry.what ≡ None → StandsBehind s h
 after_other s h stands keyed tuple mark =
-    let law = moment_of_other s.defs.now s.sources h.key s.past.now s.entry.now keyed tuple mark in
+    let law = moment_of_other s.defs s.sources h.key s.past s.entry keyed tuple mark in
     (λ i. moment_in h (law i).water) ∙ stands ∙ sym law
 
 pub after_late : (d : Definitions) (sources : ℕ) (past : List Entry) (e : Entry) (h : Held) → is_late d.lateness (water_of sources past) e.what ≡ true → StandsAfter d sources past h → StandsAfter d sources (past ++ e ∷ []) h
@@ -131,22 +131,22 @@ pub all_after_late : (d : Definitions) (sources : ℕ) (past : List Entry) (e : 
 all_after_late d sources past e hs late all = All-weaker (StandsAfter d sources past) (StandsAfter d sources (past ++ e ∷ [])) (λ h stands. after_late d sources past e h late stands) hs all
 
 -- ---- its changes
-pub changes_of_moments : (s : Step) (key : List ℕ) (old new : _) → old ≡ moment_of s.defs.now s.sources key s.past.now → new ≡ moment_of s.defs.now s.sources key (behind s) → changes_between (s.defs.now).windows key old new ≡ changes_in s key
-changes_of_moments s key old new o n = λ i. changes_between (s.defs.now).windows key (o i) (n i)
+pub changes_of_moments : (s : Passage) (key : List ℕ) (old new : _) → old ≡ moment_of s.defs s.sources key s.past → new ≡ moment_of s.defs s.sources key (behind s) → changes_between s.defs.windows key old new ≡ changes_in s key
+changes_of_moments s key old new o n = λ i. changes_between s.defs.windows key (o i) (n i)
 
-pub changes_of_other : (s : Step) (key : List ℕ) → IsStep s → is_progress (s.entry.now).what ≡ false → tuple_in key (length s.past.now) (s.entry.now).what ≡ None → mark_in key (s.entry.now).what ≡ None → changes_in s key ≡ []
+pub changes_of_other : (s : Passage) (key : List ℕ) → IsStep s → is_progress s.entry.what ≡ false → tuple_in key (length s.past) s.entry.what ≡ None → mark_in key s.entry.what ≡ None → changes_in s key ≡ []
 changes_of_other s key step keyed tuple mark =
-    ap (changes_between (s.defs.now).windows key (moment_of s.defs.now s.sources key s.past.now)) (moment_of_other s.defs.now s.sources key s.past.now s.entry.now keyed tuple mark)
-    ∙ no_changes_at_rest (s.defs.now).windows key (moment_of s.defs.now s.sources key s.past.now) step.limits.kinds (kept_times_do_not_fall (s.defs.now).lateness s.sources key s.past.now)
+    ap (changes_between s.defs.windows key (moment_of s.defs s.sources key s.past)) (moment_of_other s.defs s.sources key s.past s.entry keyed tuple mark)
+    ∙ no_changes_at_rest s.defs.windows key (moment_of s.defs s.sources key s.past) step.limits.kinds (kept_times_do_not_fall s.defs.lateness s.sources key s.past)
 
-pub changes_by_progress : (s : Step) (key : List ℕ) → IsStep s → is_progress (s.entry.now).what ≡ true
-    → all_completions (s.defs.now).windows key (moment_of s.defs.now s.sources key s.past.now) s.new ≡ changes_in s key
+pub changes_by_progress : (s : Passage) (key : List ℕ) → IsStep s → is_progress s.entry.what ≡ true
+    → all_completions s.defs.windows key (moment_of s.defs s.sources key s.past) s.new ≡ changes_in s key
 changes_by_progress s key step it =
-    ap (all_completions (s.defs.now).windows key (moment_of s.defs.now s.sources key s.past.now)) step.new_is
+    ap (all_completions s.defs.windows key (moment_of s.defs s.sources key s.past)) step.new_is
     ∙ sym
-    (ap (changes_between (s.defs.now).windows key (moment_of s.defs.now s.sources key s.past.now)) (moment_of_progress s.defs.now s.sources key s.past.now s.entry.now it)
-    ∙ changes_at_water (s.defs.now).windows key (kept_of (s.defs.now).lateness s.sources key s.past.now) (marks_of (s.defs.now).lateness s.sources key s.past.now)
-    (water_of s.sources s.past.now) (water_of s.sources (behind s)) step.limits.kinds (kept_times_do_not_fall (s.defs.now).lateness s.sources key s.past.now) (water_rises s.sources s.past.now s.entry.now))
+    (ap (changes_between s.defs.windows key (moment_of s.defs s.sources key s.past)) (moment_of_progress s.defs s.sources key s.past s.entry it)
+    ∙ changes_at_water s.defs.windows key (kept_of s.defs.lateness s.sources key s.past) (marks_of s.defs.lateness s.sources key s.past)
+    (water_of s.sources s.past) (water_of s.sources (behind s)) step.limits.kinds (kept_times_do_not_fall s.defs.lateness s.sources key s.past) (water_rises s.sources s.past s.entry))
 
 -- ---- a key more
 pub keys_put : (hs : List Held) (key : List ℕ) → keys_in (insert_key by_key hs (nothing_of key)) ≡ insert_key (slice_cmp nat_cmp) (keys_in hs) key
@@ -202,7 +202,7 @@ put_stands d sources journal hs key are all =
     omega (arith, same, longer)))
 
 -- ---- a key goes on by a step
-pub stays : (s : Step) (h : Held) (out : List Change) → IsStep s → StandsBefore s h → is_progress (s.entry.now).what ≡ false → tuple_in h.key (length s.past.now) (s.entry.now).what ≡ None → mark_in h.key (s.entry.now).what ≡ None → IsFollowed s h h out out
+pub stays : (s : Passage) (h : Held) (out : List Change) → IsStep s → StandsBefore s h → is_progress s.entry.what ≡ false → tuple_in h.key (length s.past) s.entry.what ≡ None → mark_in h.key s.entry.what ≡ None → IsFollowed s h h out out
 stays s h out step stands keyed tuple mark = record {
   same_key = refl;
   stands = after_other s h stands keyed tuple mark;
@@ -215,13 +215,13 @@ other_tuple key of position time value e = ap (λ b. cond b (Some (record { posi
 other_mark : (key of : List ℕ) (time : ℕ) → bytes_eq of key ≡ false → mark_in key (Mark of time) ≡ None
 other_mark key of time e = ap (λ b. cond b (Some time) None) e
 
-pub stays_by_tuple : (s : Step) (h : Held) (out : List Change) (of : List ℕ) (time : ℕ) (value : ℤ) → IsStep s → StandsBefore s h → (s.entry.now).what ≡ Tuple of time value → bytes_eq of h.key ≡ false → IsFollowed s h h out out
+pub stays_by_tuple : (s : Passage) (h : Held) (out : List Change) (of : List ℕ) (time : ℕ) (value : ℤ) → IsStep s → StandsBefore s h → s.entry.what ≡ Tuple of time value → bytes_eq of h.key ≡ false → IsFollowed s h h out out
 stays_by_tuple s h out of time value step stands is other =
-    stays s h out step stands (ap is_progress is) (ap (tuple_in h.key (length s.past.now)) is ∙ other_tuple h.key of (length s.past.now) time value other) (ap (mark_in h.key) is)
+    stays s h out step stands (ap is_progress is) (ap (tuple_in h.key (length s.past)) is ∙ other_tuple h.key of (length s.past) time value other) (ap (mark_in h.key) is)
 
-pub stays_by_mark : (s : Step) (h : Held) (out : List Change) (of : List ℕ) (time : ℕ) → IsStep s → StandsBefore s h → (s.entry.now).what ≡ Mark of time → bytes_eq of h.key ≡ false → IsFollowed s h h out out
+pub stays_by_mark : (s : Passage) (h : Held) (out : List Change) (of : List ℕ) (time : ℕ) → IsStep s → StandsBefore s h → s.entry.what ≡ Mark of time → bytes_eq of h.key ≡ false → IsFollowed s h h out out
 stays_by_mark s h out of time step stands is other =
-    stays s h out step stands (ap is_progress is) (ap (tuple_in h.key (length s.past.now)) is) (ap (mark_in h.key) is ∙ other_mark h.key of time other)
+    stays s h out step stands (ap is_progress is) (ap (tuple_in h.key (length s.past)) is) (ap (mark_in h.key) is ∙ other_mark h.key of time other)
 
 own_tuple : (key : List ℕ) (position time : ℕ) (value : ℤ) → tuple_in key position (Tuple key time value) ≡ Some (record { position = position; time = time; value = value })
 own_tuple key position time value = ap (λ b. cond b (Some (record { position = position; time = time; value = value })) None) ((bytes_eq-Decides key key).1 refl)
@@ -229,33 +229,40 @@ own_tuple key position time value = ap (λ b. cond b (Some (record { position = 
 own_mark : (key : List ℕ) (time : ℕ) → mark_in key (Mark key time) ≡ Some time
 own_mark key time = ap (λ b. cond b (Some time) None) ((bytes_eq-Decides key key).1 refl)
 
-pub behind_tuple : (s : Step) (h : Held) (time : ℕ) (value : ℤ) → IsStep s → StandsBefore s h → (s.entry.now).what ≡ Tuple h.key time value → StandsBehind s (held_with_tuple h (record { position = length s.past.now; time = time; value = value }))
+pub behind_tuple : (s : Passage) (h : Held) (time : ℕ) (value : ℤ) → IsStep s → StandsBefore s h → s.entry.what ≡ Tuple h.key time value → StandsBehind s (held_with_tuple h (record { position = length s.past; time = time; value = value }))
 behind_tuple s h time value step stands is =
-    after_tuple s h (record { position = length s.past.now; time = time; value = value }) step stands (ap (tuple_in h.key (length s.past.now)) is ∙ own_tuple h.key (length s.past.now) time value)
+    after_tuple s h (record { position = length s.past; time = time; value = value }) step stands (ap (tuple_in h.key (length s.past)) is ∙ own_tuple h.key (length s.past) time value)
 
-pub behind_mark : (s : Step) (h : Held) (time : ℕ) → IsStep s → StandsBefore s h → (s.entry.now).what ≡ Mark h.key time → StandsBehind s (held_with_mark h time)
+pub behind_mark : (s : Passage) (h : Held) (time : ℕ) → IsStep s → StandsBefore s h → s.entry.what ≡ Mark h.key time → StandsBehind s (held_with_mark h time)
 behind_mark s h time step stands is = after_mark s h time step stands (ap (mark_in h.key) is ∙ own_mark h.key time)
+
+-- a key that stands before a step, at the watermark before it, is at the moment before it, and so behind it
+pub moment_before : (s : Passage) (h : Held) → IsStep s → StandsBefore s h → moment_in h s.old ≡ moment_of s.defs s.sources h.key s.past
+moment_before s h step stands = ap (moment_in h) step.old_is ∙ stands
+
+pub moment_behind : (s : Passage) (h : Held) → IsStep s → StandsBehind s h → moment_in h s.new ≡ moment_of s.defs s.sources h.key (behind s)
+moment_behind s h step stands = ap (moment_in h) step.new_is ∙ stands
 
 -- ---- a tuple strictly after the watermark
 last_within : (past : List Entry) (e : Entry) → IsReadable (past ++ e ∷ []) → is_entry_within e ≡ true
 last_within past e h = subst (λ x. is_entry_within x ≡ true) (get_or_push past e e (length past) refl) (h.within (length past) e (omega (arith, length_push past e)))
 
-early_enough : (s : Step) (key : List ℕ) (time : ℕ) (value : ℤ) → IsStep s → (s.entry.now).what ≡ Tuple key time value → time < FINAL
+early_enough : (s : Passage) (key : List ℕ) (time : ℕ) (value : ℤ) → IsStep s → s.entry.what ≡ Tuple key time value → time < FINAL
 early_enough s key time value step is =
-    let what : is_what_within (s.entry.now).what ≡ true = (and_parts (nat_lt (s.entry.now).source (2 ^ 16)) (is_what_within (s.entry.now).what) (last_within s.past.now s.entry.now step.readable)).1 in
+    let what : is_what_within s.entry.what ≡ true = (and_parts (nat_lt s.entry.source (2 ^ 16)) (is_what_within s.entry.what) (last_within s.past s.entry step.readable)).1 in
     let tuple : is_what_within (Tuple key time value) ≡ true = sym (ap is_what_within is) ∙ what in
     let le : time ≤ TIME_MAX = leb-true time TIME_MAX (and_parts (nat_le time TIME_MAX) (is_value value && is_key key) tuple).0 in
     omega (arith, le)
 
 -- it changes nothing
-pub followed_ahead : (s : Step) (h new : Held) (out : List Change) (time : ℕ) (value : ℤ) → IsStep s → StandsBefore s h → (s.entry.now).what ≡ Tuple h.key time value → s.old < time
-    → new ≡ held_with_tuple h (record { position = length s.past.now; time = time; value = value }) → IsFollowed s h new out out
+pub followed_ahead : (s : Passage) (h new : Held) (out : List Change) (time : ℕ) (value : ℤ) → IsStep s → StandsBefore s h → s.entry.what ≡ Tuple h.key time value → s.old < time
+    → new ≡ held_with_tuple h (record { position = length s.past; time = time; value = value }) → IsFollowed s h new out out
 followed_ahead s h new out time value step stands is ahead e =
-    let d = s.defs.now in
+    let d = s.defs in
     let none : changes_in s h.key ≡ [] =
-    sym (changes_of_keyed d s.sources s.past.now s.entry.now h.key step.limits (ap key_in is) step.on_time)
-    ∙ tuple_after_changes_nothing d s.sources s.past.now s.entry.now h.key (record { position = length s.past.now; time = time; value = value }) step.limits
-    (ap (tuple_in h.key (length s.past.now)) is ∙ own_tuple h.key (length s.past.now) time value) (early_enough s h.key time value step is) (subst (λ w. w < time) step.old_is ahead) step.on_time in
+    sym (changes_of_keyed d s.sources s.past s.entry h.key step.limits (ap key_in is) step.on_time)
+    ∙ tuple_after_changes_nothing d s.sources s.past s.entry h.key (record { position = length s.past; time = time; value = value }) step.limits
+    (ap (tuple_in h.key (length s.past)) is ∙ own_tuple h.key (length s.past) time value) (early_enough s h.key time value step is) (subst (λ w. w < time) step.old_is ahead) step.on_time in
     record {
       same_key = ap (λ (x : Held). x.key) e;
       stands = subst (StandsBehind s) (sym e) (behind_tuple s h time value step stands is);
@@ -303,18 +310,18 @@ ledger_by_late d sources past upto e l h late is =
 pub water_by_keyed : (sources : ℕ) (before upto : List Entry) (e : Entry) (water : ℕ) → upto ≡ before ++ e ∷ [] → is_progress e.what ≡ false → water ≡ water_of sources before → water ≡ water_of sources upto
 water_by_keyed sources before upto e water is keyed w = w ∙ sym (water_of_same sources before e keyed) ∙ ap (water_of sources) (sym is)
 
-pub followed_by_progress : (s : Step) (h : Held) (before out : List Change) → StandsBefore s h → is_progress (s.entry.now).what ≡ true → out ≡ before ++ changes_in s h.key → IsFollowed s h h before out
+pub followed_by_progress : (s : Passage) (h : Held) (before out : List Change) → StandsBefore s h → is_progress s.entry.what ≡ true → out ≡ before ++ changes_in s h.key → IsFollowed s h h before out
 followed_by_progress s h before out stands it told = record { same_key = refl; stands = after_progress s h stands it; told = told }
 
 -- ---- all keys go on, one after another
 -- the keys so far stand behind the step, and those that are left before it
-pub record AreFollowed (s : Step) (old keys : List Held) (before out : List Change) (place : ℕ) : Type 0 where
+pub record AreFollowed (s : Passage) (old keys : List Held) (before out : List Change) (place : ℕ) : Type 0 where
   pub same : keys_in keys ≡ keys_in old
   pub done : AllWithin (StandsBehind s) keys 0 place
   pub left : AllWithin (StandsBefore s) keys place (length keys)
   pub told : out ++ flat_map (changes_in s) (drop place (keys_in old)) ≡ before ++ flat_map (changes_in s) (keys_in old)
 
-pub follow_more : (s : Step) (old keys : List Held) (before out next : List Change) (place : ℕ) (h new : Held) → place < length keys → h ≡ get_or keys place h → IsFollowed s h new out next
+pub follow_more : (s : Passage) (old keys : List Held) (before out next : List Change) (place : ℕ) (h new : Held) → place < length keys → h ≡ get_or keys place h → IsFollowed s h new out next
     → AreFollowed s old keys before out place → AreFollowed s old (set keys place new) before next (place + 1)
 follow_more s old keys before out next place h new l is f inv = record {
   same =

@@ -1,5 +1,5 @@
 -- What is found of a report.
-use Rattle.std.specs.Prelude.{◌≡◌, ◌≢◌, ◌<◌, ◌⊎◌, ℕ, List, [], Vec, All, Option, None, Some, codes, length, map, if◌then◌else◌, slice_index_or}
+use Rattle.std.specs.Prelude.{◌≡◌, ◌≢◌, ◌<◌, ◌≤◌, ◌⊎◌, ℕ, List, [], Vec, All, Option, None, Some, codes, length, map, if◌then◌else◌, slice_index_or}
 use Rattle.std.specs.Str.{bytes_eq}
 use Rattle.stream_base.specs.declared.entry.Entry.{Entry}
 use Rattle.stream_base.specs.Limits.{Definitions}
@@ -74,3 +74,8 @@ IsFinding d shards sources text Lawful =
 -- the lists of vectors
 abbrev pub lists_of : {X Z : Type 0} → List (Vec X Z) → List (List X)
 lists_of vectors = map (λ v. v.items) vectors
+
+-- no more shards and sources than there may be
+pub record AreFew {X : Type 0} (shards : ℕ) (sources : List X) : Type 0 where
+  pub few_shards : shards ≤ 16
+  pub few_sources : length sources ≤ 16

@@ -1,5 +1,5 @@
 -- What is known of the keys of a journal, kept as plain lists, and one entry more.
-use Rattle.std.specs.Prelude.{◌≡◌, ◌++◌, ℕ, false, List, [], ◌∷◌, map, All}
+use Rattle.std.specs.Prelude.{◌≡◌, ◌++◌, ℕ, List, [], ◌∷◌, map, All}
 use Rattle.std.specs.BTreeSet.{insert_key}
 use Rattle.std.specs.Cmp.Lexicographic.{slice_cmp}
 use Rattle.std.specs.Ordering.{nat_cmp}
@@ -7,15 +7,13 @@ use Rattle.std.specs.declared.cmp.Ordering.{Ordering}
 use Rattle.stream_base.specs.declared.change.Change.{Change}
 use Rattle.stream_base.specs.declared.entry.Entry.{Entry}
 use Rattle.stream_base.specs.declared.kept.Kept.{Kept}
-use Rattle.stream_base.specs.Limits.{AreWithinLimits, Definitions}
+use Rattle.stream_base.specs.Limits.{Definitions}
 use Rattle.stream_base.specs.Model.Changes.{Moment, changes_of_key, moment_of}
 use Rattle.stream_base.specs.Model.Journal.{keys_of, put_in_order}
 use Rattle.stream_base.specs.Model.Watermark.{water_of}
-use Rattle.stream_base.specs.Model.What.{is_late}
 use Rattle.report_check.specs.Held.{Held}
-use Rattle.report_check.specs.Readable.{IsReadable}
 use Rattle.report_check.specs.declared.ledger.Ledger.{Ledger}
-use Rattle.report_check.specs.declared.step.Step.{Step}
+use Rattle.report_check.specs.Steps.{Passage, behind}
 
 -- the moment at which a key has these lists
 abbrev pub moment_in : Held → ℕ → Moment
@@ -57,31 +55,19 @@ pub record IsReadyFor (d : Definitions) (sources : ℕ) (journal : List Entry) (
   pub keys_are : keys_in l.keys.items ≡ keys_of (journal ++ e ∷ [])
   pub stand : All (StandsAfter d sources journal) l.keys.items
 
--- the journal behind a step
-abbrev pub behind : Step → List Entry
-behind s = s.past.now ++ s.entry.now ∷ []
-
--- a step is from a journal to one with an entry more that isn't late, and has the watermarks of both
-pub record IsStep (s : Step) : Type 0 where
-  pub limits : AreWithinLimits s.defs.now
-  pub on_time : is_late (s.defs.now).lateness (water_of s.sources s.past.now) (s.entry.now).what ≡ false
-  pub old_is : s.old ≡ water_of s.sources s.past.now
-  pub new_is : s.new ≡ water_of s.sources (behind s)
-  pub readable : IsReadable (behind s)
-
 -- a key's lists are those before a step, or behind it
-abbrev pub StandsBefore : Step → Held → Type 0
-StandsBefore s h = StandsAfter s.defs.now s.sources s.past.now h
+abbrev pub StandsBefore : Passage → Held → Type 0
+StandsBefore s h = StandsAfter s.defs s.sources s.past h
 
-abbrev pub StandsBehind : Step → Held → Type 0
-StandsBehind s h = StandsAfter s.defs.now s.sources (behind s) h
+abbrev pub StandsBehind : Passage → Held → Type 0
+StandsBehind s h = StandsAfter s.defs s.sources (behind s) h
 
 -- the changes of a key by a step
-abbrev pub changes_in : Step → List ℕ → List Change
-changes_in s key = changes_of_key s.defs.now s.sources s.past.now s.entry.now key
+abbrev pub changes_in : Passage → List ℕ → List Change
+changes_in s key = changes_of_key s.defs s.sources s.past s.entry key
 
 -- a key's lists went on by a step, and its changes were appended
-pub record IsFollowed (s : Step) (old new : Held) (before out : List Change) : Type 0 where
+pub record IsFollowed (s : Passage) (old new : Held) (before out : List Change) : Type 0 where
   pub same_key : new.key ≡ old.key
   pub stands : StandsBehind s new
   pub told : out ≡ before ++ changes_in s old.key

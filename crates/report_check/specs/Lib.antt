@@ -5,4 +5,5 @@ pub mod Told
 pub mod Waters
 pub mod Readable
 pub mod Held
+pub mod Steps
 pub mod Ledgers

@@ -2,7 +2,7 @@
 ghost use Rattle.std.specs.Prelude.{◌≡◌, ◌≤◌, length, IfOk};
 ghost use Rattle.stream_base.specs.Limits.{Definitions};
 ghost use Rattle.stream_base.specs.Model.Journals.{journals_of};
-ghost use Rattle.report_check.specs.Findings.{IsFinding, lists_of, report_in};
+ghost use Rattle.report_check.specs.Findings.{AreFew, IsFinding, lists_of, report_in};
 
 use crate::apart::line_apart;
 use crate::finding::Finding;
@@ -20,8 +20,7 @@ pub fn judge(
     told: &[u8],
     journals: &[Journal],
 ) -> Result<Finding, NoMemory>
-    requires few_shards { shards ≤ 16 }
-    requires few_sources { length sources.now ≤ 16 }
+    requires few { AreFew shards sources.now }
     requires journals { journals.now ≡ journals_of text.now }
     ensures { (d : Definitions) → told.now
         ≡ report_in d (length (lists_of sources.now)) text.now

@@ -1,9 +1,9 @@
 ghost use Rattle.std.specs.Prelude.{◌≡◌, IfOk, OnOk, true};
 ghost use Rattle.std.specs.Str.{bytes_eq};
-ghost use Rattle.stream_base.specs.declared.what.What.TheVariants.{Tuple, Mark};
+ghost use Rattle.stream_base.specs.declared.what.What.TheVariants.{Tuple};
 ghost use Rattle.stream_base.specs.Model.What.{is_progress};
-ghost use Rattle.plain_windows.specs.Views.{seen};
-ghost use Rattle.report_check.specs.Ledgers.{IsFollowed, IsStep, StandsBefore, StandsBehind, held_with_mark, held_with_tuple, moment_in, nothing_of};
+ghost use Rattle.plain_windows.specs.Extents.{AreKeyLists};
+ghost use Rattle.report_check.specs.Ledgers.{IsFollowed, StandsBefore, StandsBehind, held_with_mark, held_with_tuple, moment_in, nothing_of};
 
 use crate::inserting::{with_mark, with_tuple};
 use crate::moves::{append_completed, append_moved};
@@ -51,13 +51,10 @@ impl KeyLists {
 
     // The key at a watermark.
     fn view(&self, water: u64) -> View
-        ensures { seen result ≡ moment_in self.now water }
+        requires { AreKeyLists self.now.kept self.now.marks }
+        ensures { result ≡ moment_in self.now water }
     {
-        View {
-            kept: &self.kept,
-            marks: &self.marks,
-            water,
-        }
+        View::new(&self.kept, &self.marks, water)
     }
 
     /// Goes on by an entry that isn't late, and appends what that changes of the key.
@@ -68,7 +65,6 @@ impl KeyLists {
         out: &mut Vec<Change>,
         steps: &mut Steps<L>,
     ) -> Result<(), NoMemory>
-        requires step { IsStep step.now }
         requires before { StandsBefore step.now self.old }
         ensures { OnOk result
             (IsFollowed step.now self.old self.new out.old.items out.new.items) }
@@ -83,7 +79,8 @@ impl KeyLists {
             }
             What::Mark { key, time } => {
                 if is_same_key(&key, &self.key) {
-                    self.mark(alloc, step, time, out, steps)
+                    let next = self.next_by_mark(alloc, time)?;
+                    self.move_to(next, step, out, steps)
                 } else {
                     Ok(())
                 }
@@ -102,9 +99,8 @@ impl KeyLists {
         out: &mut Vec<Change>,
         steps: &mut Steps<L>,
     ) -> Result<(), NoMemory>
-        requires step { IsStep step.now }
         requires before { StandsBefore step.now self.old }
-        requires says { (step.now.entry.now).what ≡ Tuple self.old.key time value }
+        requires says { step.now.entry.what ≡ Tuple self.old.key time value }
         ensures { OnOk result
             (IsFollowed step.now self.old self.new out.old.items out.new.items) }
     {
@@ -116,25 +112,6 @@ impl KeyLists {
             *self = next;
             return Ok(());
         }
-        self.move_to(next, step, out, steps)
-    }
-
-    // Goes on by a mark of the key.
-    fn mark<L>(
-        &mut self,
-        alloc: Global,
-        step: &Step,
-        time: u64,
-        out: &mut Vec<Change>,
-        steps: &mut Steps<L>,
-    ) -> Result<(), NoMemory>
-        requires step { IsStep step.now }
-        requires before { StandsBefore step.now self.old }
-        requires says { (step.now.entry.now).what ≡ Mark self.old.key time }
-        ensures { OnOk result
-            (IsFollowed step.now self.old self.new out.old.items out.new.items) }
-    {
-        let next = self.next_by_mark(alloc, time)?;
         self.move_to(next, step, out, steps)
     }
 
@@ -168,7 +145,6 @@ impl KeyLists {
         out: &mut Vec<Change>,
         steps: &mut Steps<L>,
     ) -> Result<(), NoMemory>
-        requires step { IsStep step.now }
         requires before { StandsBefore step.now self.old }
         requires behind { StandsBehind step.now next }
         requires key { next.key ≡ self.old.key }
@@ -189,8 +165,7 @@ impl KeyLists {
         out: &mut Vec<Change>,
         steps: &mut Steps<L>,
     ) -> Result<(), NoMemory>
-        requires step { IsStep step.now }
-        requires progress { is_progress (step.now.entry.now).what ≡ true }
+        requires progress { is_progress step.now.entry.what ≡ true }
         requires before { StandsBefore step.now self.now }
         ensures { OnOk result
             (IsFollowed step.now self.now self.now out.old.items out.new.items) }

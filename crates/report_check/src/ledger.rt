@@ -8,7 +8,7 @@ ghost use Rattle.stream_base.specs.Model.Changes.{changes_after};
 ghost use Rattle.stream_base.specs.Model.Watermark.{water_of};
 ghost use Rattle.stream_base.specs.Model.What.{is_late, is_what_within};
 ghost use Rattle.report_check.specs.Readable.{IsReadable};
-ghost use Rattle.report_check.specs.Ledgers.{IsLedger, IsReadyFor, IsStep, StandsBefore, StandsBehind, by_key, changes_in, keys_in, nothing_of};
+ghost use Rattle.report_check.specs.Ledgers.{IsLedger, IsReadyFor, StandsBefore, StandsBehind, by_key, changes_in, keys_in, nothing_of};
 
 use crate::key_lists::KeyLists;
 use crate::step::Step;
@@ -122,8 +122,7 @@ fn follow<L>(
     out: &mut Vec<Change>,
     steps: &mut Steps<L>,
 ) -> Result<(), NoMemory>
-    requires step { IsStep step.now }
-    requires before { All (StandsBefore step.now) keys.old.items }
+    requires { All (StandsBefore step.now) keys.old.items }
     ensures keys { OnOk result (keys_in keys.new.items ≡ keys_in keys.old.items) }
     ensures behind { OnOk result (All (StandsBehind step.now) keys.new.items) }
     ensures changes { OnOk result (out.new.items

@@ -2,8 +2,8 @@
 ghost use Rattle.std.specs.Prelude.{◌≡◌, ◌++◌, OnOk, true};
 ghost use Rattle.stream_base.specs.Model.Changes.{moment_of};
 ghost use Rattle.stream_base.specs.Model.What.{is_progress};
-ghost use Rattle.plain_windows.specs.Views.{seen};
-ghost use Rattle.report_check.specs.Ledgers.{IsStep, behind, changes_in};
+ghost use Rattle.report_check.specs.Ledgers.{changes_in};
+ghost use Rattle.report_check.specs.Steps.{behind};
 
 use crate::step::Step;
 use agg_laws::Steps;
@@ -19,17 +19,15 @@ pub fn append_moved<L>(
     out: &mut Vec<Change>,
     steps: &mut Steps<L>,
 ) -> Result<(), NoMemory>
-    requires step { IsStep step.now }
-    requires old { seen old.now
-        ≡ moment_of step.now.defs.now step.now.sources key.now step.now.past.now }
-    requires new { seen new.now
-        ≡ moment_of step.now.defs.now step.now.sources key.now (behind step.now) }
+    requires old { old.now
+        ≡ moment_of step.now.defs step.now.sources key.now step.now.past }
+    requires new { new.now
+        ≡ moment_of step.now.defs step.now.sources key.now (behind step.now) }
     ensures { OnOk result (out.new.items ≡ out.old.items ++ changes_in step.now key.now) }
 {
-    let windows = step.defs.windows();
-    let count = count_changes(windows, old, new);
+    let count = count_changes(step.defs, old, new);
     out.reserve(count as usize)?;
-    append_changes(windows, key, old, new, out, steps);
+    append_changes(step.defs, key, old, new, out, steps);
     Ok(())
 }
 
@@ -41,15 +39,13 @@ pub fn append_completed<L>(
     out: &mut Vec<Change>,
     steps: &mut Steps<L>,
 ) -> Result<(), NoMemory>
-    requires step { IsStep step.now }
-    requires progress { is_progress (step.now.entry.now).what ≡ true }
-    requires old { seen old.now
-        ≡ moment_of step.now.defs.now step.now.sources key.now step.now.past.now }
+    requires progress { is_progress step.now.entry.what ≡ true }
+    requires old { old.now
+        ≡ moment_of step.now.defs step.now.sources key.now step.now.past }
     ensures { OnOk result (out.new.items ≡ out.old.items ++ changes_in step.now key.now) }
 {
-    let windows = step.defs.windows();
-    let count = count_completions(windows, old, step.new);
+    let count = count_completions(step.defs, old, step.new);
     out.reserve(count as usize)?;
-    append_completions(windows, key, old, step.new, out, steps);
+    append_completions(step.defs, key, old, step.new, out, steps);
     Ok(())
 }

@@ -1,13 +1,21 @@
 //! Which journals hold what goes to their shards.
 ghost use Rattle.std.specs.Prelude.{◌≡◌, ◌≤◌, ◌<◌, ◌↔◌, ◌==◌, ℕ, List, true, false, length, filter, IfOk, IfSome, IfNone, All};
-ghost use Rattle.stream_base.specs.Model.Routes.{entries_from, goes_to, routed};
-ghost use Rattle.report_check.specs.Findings.{AreJudged, IsJudged, lists_of};
+ghost use Rattle.stream_base.specs.Model.Routes.{entries_from, routed};
+ghost use Rattle.report_check.specs.Findings.{AreFew, AreJudged, IsJudged, lists_of};
 
 use crate::journal::Journal;
 use crate::same::are_same;
-use source_feed::route;
+use source_feed::goes_to;
 use std::alloc::Global;
-use stream_base::{Entry, NoMemory, What};
+use stream_base::{Entry, NoMemory};
+
+// One of so many shards, by its number.
+#[derive(Clone, Copy)]
+struct Shard {
+    number: u16,
+    of: u16,
+    ghost some: { 1 ≤ of },
+}
 
 /// The first shard whose journal isn't right, and the first source in which it is wrong.
 pub fn first_wrong(
@@ -15,16 +23,19 @@ pub fn first_wrong(
     sources: &[Vec<Entry>],
     journals: &[Journal],
 ) -> Result<Option<(u16, u16)>, NoMemory>
-    requires few_journals { length journals.now ≤ 16 }
-    requires few_sources { length sources.now ≤ 16 }
+    requires { AreFew (length journals.now) sources.now }
     ensures { IfOk result (λ found.
         AreJudged (length journals.now) (lists_of sources.now) journals.now found) }
 {
     let shards = journals.len() as u16;
-    for shard in 0..journals.len() {
-        let journal = journals[shard].entries();
-        match wrong_source(alloc, sources, journal, shards, shard as u16)? {
-            Some(source) => return Ok(Some((shard as u16, source))),
+    for place in 0..journals.len() {
+        let journal = journals[place].entries();
+        let shard = Shard {
+            number: place as u16,
+            of: shards,
+        };
+        match wrong_source(alloc, sources, journal, shard)? {
+            Some(source) => return Ok(Some((place as u16, source))),
             None => {}
         }
     }
@@ -36,17 +47,15 @@ fn wrong_source(
     alloc: Global,
     sources: &[Vec<Entry>],
     journal: &[Entry],
-    shards: u16,
-    shard: u16,
+    shard: Shard,
 ) -> Result<Option<u16>, NoMemory>
-    requires some { 1 ≤ shards }
-    requires few { length sources.now ≤ 16 }
+    requires { length sources.now ≤ 16 }
     ensures { IfOk result (λ found.
-        IsJudged shards (lists_of sources.now) shard journal.now found) }
+        IsJudged shard.of (lists_of sources.now) shard.number journal.now found) }
 {
     for source in 0..sources.len() {
         let entries = &sources[source];
-        if !holds_routed(alloc, journal, source as u16, entries, shards, shard)? {
+        if !holds_routed(alloc, journal, source as u16, entries, shard)? {
             return Ok(Some(source as u16));
         }
     }
@@ -63,15 +72,13 @@ fn holds_routed(
     journal: &[Entry],
     source: u16,
     entries: &[Entry],
-    shards: u16,
-    shard: u16,
+    shard: Shard,
 ) -> Result<bool, NoMemory>
-    requires { 1 ≤ shards }
     ensures { IfOk result (λ holds. (holds ≡ true)
-        ↔ (entries_from source journal.now ≡ routed shards shard entries.now)) }
+        ↔ (entries_from source journal.now ≡ routed shard.of shard.number entries.now)) }
 {
     let told = entries_from(alloc, journal, source)?;
-    let own = routed(alloc, entries, shards, shard)?;
+    let own = routed(alloc, entries, shard)?;
     Ok(are_all_same(&told, &own))
 }
 
@@ -88,28 +95,17 @@ fn entries_from(alloc: Global, journal: &[Entry], source: u16) -> Result<Vec<Ent
     Ok(out)
 }
 
-fn routed(alloc: Global, entries: &[Entry], shards: u16, shard: u16) -> Result<Vec<Entry>, NoMemory>
-    requires { 1 ≤ shards }
-    ensures { IfOk result (λ out. out.items ≡ routed shards shard entries.now) }
+fn routed(alloc: Global, entries: &[Entry], shard: Shard) -> Result<Vec<Entry>, NoMemory>
+    ensures { IfOk result (λ out. out.items ≡ routed shard.of shard.number entries.now) }
 {
     let mut out = Vec::new(alloc);
     for entry in entries {
-        if goes_to(&entry.what, shards, shard) {
+        if goes_to(&entry.what, shard.of, shard.number) {
             out.reserve(1)?;
             out.push_reserved(*entry);
         }
     }
     Ok(out)
-}
-
-fn goes_to(what: &What, shards: u16, shard: u16) -> bool
-    requires { 1 ≤ shards }
-    ensures { result ≡ goes_to shards shard what.now }
-{
-    match what {
-        What::Tuple { key, .. } | What::Mark { key, .. } => route(key, shards) == shard,
-        What::Water { .. } | What::Idle | What::End => true,
-    }
 }
 
 fn are_all_same(left: &[Entry], right: &[Entry]) -> bool

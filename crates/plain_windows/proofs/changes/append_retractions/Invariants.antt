@@ -3,13 +3,12 @@ use Rattle.std.proofs.Common.{◌≡◌, ◌≤◌, ◌-◌, ◌++◌, length, d
 use Rattle.std.specs.Prelude.{vec_capacity}
 use Rattle.std.specs.List.{enumerate_from, flat_map}
 use Rattle.stream_base.specs.Model.Changes.{retractions}
-use Rattle.plain_windows.specs.Views.{seen}
 use Rattle.plain_windows.proofs.changes.append_retractions.Given as goal
 
-abbrev pub invariant-loop-window : goal.invariant-loop-window
-invariant-loop-window g l = record {
+abbrev pub invariant-loop-place : goal.invariant-loop-place
+invariant-loop-place g l = record {
   capacity : vec_capacity l.out ≡ vec_capacity l.initial.out;
-  room : length (flat_map (retractions l.key (seen l.old) (seen l.new)) (enumerate_from l.window (drop l.window l.windows))) ≤ vec_capacity l.out - vec_len l.out;
-  all : l.out.items ++ flat_map (retractions l.key (seen l.old) (seen l.new)) (enumerate_from l.window (drop l.window l.windows))
-      ≡ l.initial.out.items ++ flat_map (retractions l.key (seen l.old) (seen l.new)) (enumerate_from 0 l.windows);
+  room : length (flat_map (retractions l.key l.old l.new) (enumerate_from l.place (drop l.place l.windows))) ≤ vec_capacity l.out - vec_len l.out;
+  all : l.out.items ++ flat_map (retractions l.key l.old l.new) (enumerate_from l.place (drop l.place l.windows))
+      ≡ l.initial.out.items ++ flat_map (retractions l.key l.old l.new) (enumerate_from 0 l.windows);
 }

@@ -3,12 +3,11 @@ use Rattle.std.proofs.Common.{◌≡◌, ◌≤◌, ◌+◌, ◌*◌, ℕ, List,
 use Rattle.std.specs.List.{enumerate_from, flat_map}
 use Rattle.stream_base.specs.declared.limits.TheConstants.{TIME_MAX}
 use Rattle.stream_base.specs.Model.Changes.{emissions}
-use Rattle.plain_windows.specs.Views.{seen}
 use Rattle.plain_windows.proofs.changes.count_emissions.Given as goal
 
 abbrev pub invariant-loop-def : goal.invariant-loop-def
 invariant-loop-def l = record {
   few : l.count ≤ l.def-index * (TIME_MAX + 1);
-  all : (key : List ℕ) → l.count + length (flat_map (emissions key (seen l.old) (seen l.new)) (enumerate_from l.def-index (drop l.def-index l.windows)))
-      ≡ length (flat_map (emissions key (seen l.old) (seen l.new)) (enumerate_from 0 l.windows));
+  all : (key : List ℕ) → l.count + length (flat_map (emissions key l.old l.new) (enumerate_from l.def-index (drop l.def-index l.windows)))
+      ≡ length (flat_map (emissions key l.old l.new) (enumerate_from 0 l.windows));
 }

@@ -1,7 +1,6 @@
 -- Each window adds its count.
 use Rattle.std.proofs.Common.{◌∙◌, arith}
 use Rattle.stream_base.specs.Model.Changes.{retractions}
-use Rattle.plain_windows.specs.Views.{seen}
 use Rattle.plain_windows.proofs.Appending.{count_more}
 use Rattle.plain_windows.proofs.changes.count_retractions.Goals as goal
 
@@ -9,6 +8,6 @@ pub loop-def-preserved : goal.loop-def-preserved
 loop-def-preserved c = record {
   few = omega (arith, c.count_retracted-count.ensures.few);
   all = λ key.
-      count_more (retractions key (seen c.args.old.now) (seen c.args.new.now)) c.loop-def.count c.count_retracted-count.result c.loop-def.def-index c.args.windows.now _ c.loop-def-test.true (c.count_retracted-count.ensures.value c.loop-def.def-index key)
+      count_more (retractions key c.args.old.now c.args.new.now) c.loop-def.count c.count_retracted-count.result c.loop-def.def-index c.windows_of-windows.result.now _ c.loop-def-test.true (c.count_retracted-count.ensures.value c.loop-def.def-index key)
       ∙ c.loop-def.invariant.all key;
 }

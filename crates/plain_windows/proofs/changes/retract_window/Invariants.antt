@@ -3,16 +3,15 @@ use Rattle.std.proofs.Common.{◌≡◌, ◌≤◌, ◌-◌, ◌++◌, length, v
 use Rattle.std.specs.Prelude.{vec_capacity}
 use Rattle.std.specs.List.{filter_map}
 use Rattle.stream_base.specs.Model.Changes.{retraction, retractions, standing_at}
-use Rattle.plain_windows.specs.Views.{seen}
 use Rattle.plain_windows.specs.Walks.{left_of}
 use Rattle.plain_windows.proofs.changes.retract_window.Given as goal
 
 abbrev pub invariant-loop-extent : goal.invariant-loop-extent
 invariant-loop-extent g l = record {
   capacity : vec_capacity l.out ≡ vec_capacity l.initial.out;
-  room : length (filter_map (retraction l.owner.window l.owner.key.now l.owner.def.now.func (standing_at l.owner.def.now (seen l.new))) (left_of l.owner.def.now.kind l.old.kept.now l.old.marks.now l.from l.old.water)) ≤ vec_capacity l.out - vec_len l.out;
-  all : l.out.items ++ filter_map (retraction l.owner.window l.owner.key.now l.owner.def.now.func (standing_at l.owner.def.now (seen l.new))) (left_of l.owner.def.now.kind l.old.kept.now l.old.marks.now l.from l.old.water)
-      ≡ l.initial.out.items ++ retractions l.owner.key.now (seen l.old) (seen l.new) (l.owner.window, l.owner.def.now);
+  room : length (filter_map (retraction l.owner.place l.owner.key.now l.owner.window.func (standing_at l.owner.window l.new)) (left_of l.owner.window.kind l.old.kept l.old.marks l.from l.old.water)) ≤ vec_capacity l.out - vec_len l.out;
+  all : l.out.items ++ filter_map (retraction l.owner.place l.owner.key.now l.owner.window.func (standing_at l.owner.window l.new)) (left_of l.owner.window.kind l.old.kept l.old.marks l.from l.old.water)
+      ≡ l.initial.out.items ++ retractions l.owner.key.now l.old l.new (l.owner.place, l.owner.window);
 }
 
 abbrev pub decreases-loop-extent : goal.decreases-loop-extent

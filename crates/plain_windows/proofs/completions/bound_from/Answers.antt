@@ -12,7 +12,7 @@ use Rattle.plain_windows.proofs.completions.bound_from.Goals as goal
 
 pub loop-def-preserved : goal.loop-def-preserved
 loop-def-preserved c =
-    let windows = c.args.windows.now in
+    let windows = c.windows_of-windows.result.now in
     let n = c.loop-def.def-index in
     let least = c.least_of-least.result in
     let own = c.in_ok-bound_of.field-0 in
@@ -52,16 +52,18 @@ loop-def-preserved c =
 
 pub returns-clause-ahead : goal.returns-clause-ahead
 returns-clause-ahead c =
-    ahead_put c.args.windows.now c.args.time c.loop-def.least
-    (λ def m. subst (λ (w : Def). BringsNoneBelow w.kind c.args.time c.loop-def.least) m.2 (c.loop-def.invariant.none_below m.0 def (omega (arith, m.1, c.loop-def-test.false))))
+    rw (← c.windows_of-windows.ensures.value)
+    (ahead_put c.windows_of-windows.result.now c.args.time c.loop-def.least
+    (λ def m. subst (λ (w : Def). BringsNoneBelow w.kind c.args.time c.loop-def.least) m.2 (c.loop-def.invariant.none_below m.0 def (omega (arith, m.1, c.loop-def-test.false)))))
 
 pub returns-clause-due : goal.returns-clause-due
 returns-clause-due c =
-    let windows = c.args.windows.now in
-    due_put windows c.args.time c.loop-def.least
+    let windows = c.windows_of-windows.result.now in
+    rw (← c.windows_of-windows.ensures.value)
+    (due_put windows c.args.time c.loop-def.least
     (λ def m. subst (λ (w : Def). BringsNoneBelow w.kind c.args.time c.loop-def.least) m.2 (c.loop-def.invariant.none_below m.0 def (omega (arith, m.1, c.loop-def-test.false))))
     (λ def m. subst (λ (w : Def). KeepsBounds w.kind) m.2 (c.loop-def.invariant.stay m.0 def (omega (arith, m.1, c.loop-def-test.false))))
     (λ final.
     let one = c.loop-def.invariant.brought final in
     let def : Def = record { kind = Marks; func = Count } in
-    (get_or windows one.0 def, Contains-get_or windows one.0 def (omega (arith, one.1)), one.2 def))
+    (get_or windows one.0 def, Contains-get_or windows one.0 def (omega (arith, one.1)), one.2 def)))

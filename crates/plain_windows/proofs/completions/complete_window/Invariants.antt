@@ -8,9 +8,9 @@ use Rattle.plain_windows.proofs.completions.complete_window.Given as goal
 abbrev pub invariant-loop-extent : goal.invariant-loop-extent
 invariant-loop-extent g l = record {
   capacity : vec_capacity l.out ≡ vec_capacity l.initial.out;
-  room : length (left_of l.owner.def.now.kind l.view.kept.now l.view.marks.now l.from l.new) ≤ vec_capacity l.out - vec_len l.out;
-  all : l.out.items ++ emitted l.owner.window l.owner.key.now l.owner.def.now.func (left_of l.owner.def.now.kind l.view.kept.now l.view.marks.now l.from l.new)
-      ≡ l.initial.out.items ++ emitted l.owner.window l.owner.key.now l.owner.def.now.func (left_of l.owner.def.now.kind l.view.kept.now l.view.marks.now l.initial.from l.new);
+  room : length (left_of l.owner.window.kind l.view.kept l.view.marks l.from l.new) ≤ vec_capacity l.out - vec_len l.out;
+  all : l.out.items ++ emitted l.owner.place l.owner.key.now l.owner.window.func (left_of l.owner.window.kind l.view.kept l.view.marks l.from l.new)
+      ≡ l.initial.out.items ++ emitted l.owner.place l.owner.key.now l.owner.window.func (left_of l.owner.window.kind l.view.kept l.view.marks l.initial.from l.new);
 }
 
 abbrev pub decreases-loop-extent : goal.decreases-loop-extent

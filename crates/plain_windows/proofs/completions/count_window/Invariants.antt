@@ -8,7 +8,7 @@ abbrev pub invariant-loop-extent : goal.invariant-loop-extent
 invariant-loop-extent l = record {
   below : l.count ≤ l.from;
   few : l.count ≤ TIME_MAX + 1;
-  all : l.count + length (left_of l.def.kind l.view.kept.now l.view.marks.now l.from l.new) ≡ length (left_of l.def.kind l.view.kept.now l.view.marks.now l.initial.from l.new);
+  all : l.count + length (left_of l.window.kind l.view.kept l.view.marks l.from l.new) ≡ length (left_of l.window.kind l.view.kept l.view.marks l.initial.from l.new);
 }
 
 abbrev pub decreases-loop-extent : goal.decreases-loop-extent

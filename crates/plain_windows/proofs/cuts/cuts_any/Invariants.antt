@@ -5,4 +5,4 @@ use Rattle.stream_base.specs.Model.Cuts.{cuts_between}
 use Rattle.plain_windows.proofs.cuts.cuts_any.Given as goal
 
 abbrev pub invariant-loop-def : goal.invariant-loop-def
-invariant-loop-def l = list_any (λ w. cuts_between w.kind l.low l.high) (take l.def-index l.windows) ≡ false
+invariant-loop-def l = list_any (λ w. cuts_between w.kind l.times.low l.times.high) (take l.def-index l.windows) ≡ false

@@ -4,7 +4,11 @@ use Rattle.plain_windows.proofs.Neighbours.{first_mark_decides, no_mark}
 use Rattle.plain_windows.proofs.cuts.has_mark.Goals as goal
 
 pub returns-then-place-marks : goal.returns-then-place-marks
-returns-then-place-marks c = sym (first_mark_decides c.args.marks.now c.args.low c.args.high c.marks_before-place.result c.requires.rising c.marks_before-place.ensures (omega arith))
+returns-then-place-marks c =
+    rw (← c.view.view_is)
+    (sym (first_mark_decides c.view.inside.marks.now c.args.times.low c.args.times.high c.marks_before-place.result c.view.invariant.rising c.marks_before-place.ensures (omega arith)))
 
 pub returns-else-place-marks : goal.returns-else-place-marks
-returns-else-place-marks c = no_mark c.args.marks.now c.args.low c.args.high c.marks_before-place.result c.marks_before-place.ensures (omega arith)
+returns-else-place-marks c =
+    rw (← c.view.view_is)
+    (no_mark c.view.inside.marks.now c.args.times.low c.args.times.high c.marks_before-place.result c.marks_before-place.ensures (omega arith))

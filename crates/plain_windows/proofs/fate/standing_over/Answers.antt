@@ -1,22 +1,36 @@
 -- What starts there stands over the extent, or nothing does.
-use Rattle.std.proofs.Common.{◌∙◌, sym}
+use Rattle.std.proofs.Common.{◌∙◌, ap, sym}
+use Rattle.stream_base.specs.Model.Changes.{Moment}
 use Rattle.stream_base.specs.Model.Windows.{instances_of}
 use Rattle.plain_windows.specs.Extents.{instance_in}
 use Rattle.plain_windows.proofs.Bounds.{key_lists_run_on}
 use Rattle.plain_windows.proofs.Looking.{looked_up_not, looked_up_nothing, looked_up_there}
 use Rattle.plain_windows.proofs.fate.standing_over.Goals as goal
 
-pub returns-then-stands_over-clause-found : goal.returns-then-stands_over-clause-found
-returns-then-stands_over-clause-found c =
+pub returns-then-stands_over : goal.returns-then-stands_over
+returns-then-stands_over c =
     let v = c.args.view.now in
-    looked_up_there (instances_of (c.args.def.now).kind v.kept.now v.marks.now) c.args.extent.now v.water (instance_in v.kept.now c.in-Some.there) (key_lists_run_on (c.args.def.now).kind v.kept.now v.marks.now c.requires.kind c.requires.lists) (sym c.in-Some.ensures.found) (sym c.stands_over.ensures ∙ c.if-stands_over.true)
+    record {
+      found =
+          rw (← ap (λ (m : Moment). m.water) c.view.view_is)
+          (looked_up_there (instances_of c.args.window.now.kind v.kept v.marks) c.args.extent.now c.view.inside.water (instance_in v.kept c.in-Some.there) (key_lists_run_on c.args.window.now.kind v.kept v.marks c.vouch.ensures c.vouch-2.ensures) (sym c.in-Some.ensures.found) (sym c.stands_over.ensures ∙ c.if-stands_over.true));
+      inside = c.in-Some.ensures.inside;
+    }
 
-pub returns-else-stands_over-clause-found : goal.returns-else-stands_over-clause-found
-returns-else-stands_over-clause-found c =
+pub returns-else-stands_over : goal.returns-else-stands_over
+returns-else-stands_over c =
     let v = c.args.view.now in
-    looked_up_not (instances_of (c.args.def.now).kind v.kept.now v.marks.now) c.args.extent.now v.water (instance_in v.kept.now c.in-Some.there) (key_lists_run_on (c.args.def.now).kind v.kept.now v.marks.now c.requires.kind c.requires.lists) (sym c.in-Some.ensures.found) (sym c.stands_over.ensures ∙ c.if-stands_over.false)
+    record {
+      found =
+          rw (← ap (λ (m : Moment). m.water) c.view.view_is)
+          (looked_up_not (instances_of c.args.window.now.kind v.kept v.marks) c.args.extent.now c.view.inside.water (instance_in v.kept c.in-Some.there) (key_lists_run_on c.args.window.now.kind v.kept v.marks c.vouch.ensures c.vouch-2.ensures) (sym c.in-Some.ensures.found) (sym c.stands_over.ensures ∙ c.if-stands_over.false));
+      inside = tt;
+    }
 
-pub returns-in-None-clause-found : goal.returns-in-None-clause-found
-returns-in-None-clause-found c =
+pub returns-in-None : goal.returns-in-None
+returns-in-None c =
     let v = c.args.view.now in
-    looked_up_nothing (instances_of (c.args.def.now).kind v.kept.now v.marks.now) c.args.extent.now v.water (key_lists_run_on (c.args.def.now).kind v.kept.now v.marks.now c.requires.kind c.requires.lists) (sym c.in-None.ensures.found)
+    record {
+      found = looked_up_nothing (instances_of c.args.window.now.kind v.kept v.marks) c.args.extent.now v.water (key_lists_run_on c.args.window.now.kind v.kept v.marks c.vouch.ensures c.vouch-2.ensures) (sym c.in-None.ensures.found);
+      inside = tt;
+    }

@@ -6,5 +6,5 @@ use Rattle.plain_windows.proofs.slices.count_slices.Given as goal
 abbrev pub invariant-loop-place : goal.invariant-loop-place
 invariant-loop-place l = record {
   few : l.count ≤ l.place;
-  all : l.count + length (runs_of l.windows l.marks (drop (l.place - 1) l.kept)) ≡ length (runs_of l.windows l.marks l.kept) + 1;
+  all : l.count + length (runs_of l.defs.windows l.view.marks (drop (l.place - 1) l.kept)) ≡ length (runs_of l.defs.windows l.view.marks l.kept) + 1;
 }

@@ -7,10 +7,10 @@ use Rattle.plain_windows.proofs.spans.bound_above.Goals as goal
 
 pub returns-in_err-low : goal.returns-in_err-low
 returns-in_err-low c =
-    let above = span_above c.args.length c.args.slide c.requires.kind.2 c.requires.kind.3 c.args.kept.now c.args.water c.saturating_sub.result c.saturating_sub.ensures in
+    let above = span_above c.args.spacing.length c.args.spacing.slide c.args.spacing.within.2 c.args.spacing.within.3 c.args.view.now.kept c.args.water c.saturating_sub.result c.saturating_sub.ensures in
     c.from_residual.ensures ∙ ap (option_map (λ (i : Instance). i.bound)) (c.in_err-low.ensures.found ∙ sym above)
 
 pub returns : goal.returns
 returns c =
-    let above = span_above c.args.length c.args.slide c.requires.kind.2 c.requires.kind.3 c.args.kept.now c.args.water c.saturating_sub.result c.saturating_sub.ensures in
+    let above = span_above c.args.spacing.length c.args.spacing.slide c.args.spacing.within.2 c.args.spacing.within.3 c.args.view.now.kept c.args.water c.saturating_sub.result c.saturating_sub.ensures in
     ap (option_map (λ (i : Instance). i.bound)) (c.in_ok-low.ensures.found ∙ sym above)

@@ -5,16 +5,16 @@ use Rattle.plain_windows.proofs.spans.bound_holding.Goals as goal
 
 pub returns-clause-none_below : goal.returns-clause-none_below
 returns-clause-none_below c kept x i at d =
-    span_put c.args.length c.args.slide c.requires.kind.2 c.requires.kind.3 kept x _
-    (ap (λ n. n / c.args.slide) c.saturating_sub.ensures ∙ ap (λ t. (t + c.args.slide - c.args.length) / c.args.slide) (sym at)) i d
+    span_put c.args.spacing.length c.args.spacing.slide c.args.spacing.within.2 c.args.spacing.within.3 kept x _
+    (ap (λ n. n / c.args.spacing.slide) c.saturating_sub.ensures ∙ ap (λ t. (t + c.args.spacing.slide - c.args.spacing.length) / c.args.spacing.slide) (sym at)) i d
 
 pub returns-clause-later : goal.returns-clause-later
-returns-clause-later c = (holds_time c.args.length c.args.slide c.requires.kind.2 c.requires.kind.3 c.args.time _ (ap (λ n. n / c.args.slide) c.saturating_sub.ensures)).1
+returns-clause-later c = (holds_time c.args.spacing.length c.args.spacing.slide c.args.spacing.within.2 c.args.spacing.within.3 c.args.time _ (ap (λ n. n / c.args.spacing.slide) c.saturating_sub.ensures)).1
 
 pub returns-clause-brought : goal.returns-clause-brought
 returns-clause-brought c kept x at =
-    span_brought c.args.length c.args.slide c.requires.kind.2 c.requires.kind.3 kept x _
-    (ap (λ n. n / c.args.slide) c.saturating_sub.ensures ∙ ap (λ t. (t + c.args.slide - c.args.length) / c.args.slide) (sym at))
+    span_brought c.args.spacing.length c.args.spacing.slide c.args.spacing.within.2 c.args.spacing.within.3 kept x _
+    (ap (λ n. n / c.args.spacing.slide) c.saturating_sub.ensures ∙ ap (λ t. (t + c.args.spacing.slide - c.args.spacing.length) / c.args.spacing.slide) (sym at))
 
 pub returns-clause-stay : goal.returns-clause-stay
-returns-clause-stay c kept x i d = span_stays c.args.length c.args.slide c.requires.kind.2 c.requires.kind.3 kept x i d
+returns-clause-stay c kept x i d = span_stays c.args.spacing.length c.args.spacing.slide c.args.spacing.within.2 c.args.spacing.within.3 kept x i d

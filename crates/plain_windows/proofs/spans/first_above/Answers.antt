@@ -3,6 +3,8 @@ use Rattle.std.proofs.Common.{◌∙◌, sym}
 use Rattle.plain_windows.proofs.SpanFacts.{span_above}
 use Rattle.plain_windows.proofs.spans.first_above.Goals as goal
 
-pub returns-clause-found : goal.returns-clause-found
-returns-clause-found c =
-    c.first_from.ensures.found ∙ sym (span_above c.args.length c.args.slide c.requires.kind.2 c.requires.kind.3 c.args.kept.now c.args.water c.saturating_sub.result c.saturating_sub.ensures)
+pub returns : goal.returns
+returns c = record {
+  found = c.first_from.ensures.found ∙ sym (span_above c.args.spacing.length c.args.spacing.slide c.args.spacing.within.2 c.args.spacing.within.3 c.args.view.now.kept c.args.water c.saturating_sub.result c.saturating_sub.ensures);
+  inside = c.first_from.ensures.inside;
+}

@@ -8,17 +8,17 @@ use Rattle.plain_windows.proofs.spans.start_from.Goals as goal
 
 pub returns-then-from-gt-TIME_MAX-clause-found : goal.returns-then-from-gt-TIME_MAX-clause-found
 returns-then-from-gt-TIME_MAX-clause-found c =
-    sym (no_span_beyond c.args.length c.args.slide c.requires.kind.2 c.requires.kind.3 c.args.kept.now c.args.from TIME_MAX c.requires.lists.times (omega arith))
+    rw (← c.view.view_is) (sym (no_span_beyond c.args.spacing.length c.args.spacing.slide c.args.spacing.within.2 c.args.spacing.within.3 c.view.inside.kept.now c.args.from TIME_MAX c.view.invariant.times (omega arith)))
 
 pub tuples_before-place-requires : goal.tuples_before-place-requires
-tuples_before-place-requires c = times_do_not_fall c.args.kept.now c.requires.lists.in_order
+tuples_before-place-requires c = times_do_not_fall c.view.inside.kept.now c.view.invariant.in_order
 
 pub returns-then-place-kept-clause-found : goal.returns-then-place-kept-clause-found
 returns-then-place-kept-clause-found c =
-    sym (no_span_from c.args.length c.args.slide c.requires.kind.2 c.requires.kind.3 c.args.kept.now c.args.from c.tuples_before-place.result (times_do_not_fall c.args.kept.now c.requires.lists.in_order) c.tuples_before-place.ensures (omega arith))
+    rw (← c.view.view_is) (sym (no_span_from c.args.spacing.length c.args.spacing.slide c.args.spacing.within.2 c.args.spacing.within.3 c.view.inside.kept.now c.args.from c.tuples_before-place.result (times_do_not_fall c.view.inside.kept.now c.view.invariant.in_order) c.tuples_before-place.ensures (omega arith)))
 
 pub returns-clause-found : goal.returns-clause-found
 returns-clause-found c =
-    let times = times_do_not_fall c.args.kept.now c.requires.lists.in_order in
-    let number = c.max.ensures ∙ ap (λ n. max (first_multiple c.args.slide c.args.from) (n / c.args.slide)) c.saturating_sub.ensures in
-    sym (first_span_from c.args.length c.args.slide c.requires.kind.2 c.requires.kind.3 c.args.kept.now c.args.from c.tuples_before-place.result times c.tuples_before-place.ensures some_tuple (omega arith) c.max.result number (spans_rise c.args.length c.args.slide c.args.kept.now c.requires.kind times))
+    let times = times_do_not_fall c.view.inside.kept.now c.view.invariant.in_order in
+    let number = c.max.ensures ∙ ap (λ n. max (first_multiple c.args.spacing.slide c.args.from) (n / c.args.spacing.slide)) c.saturating_sub.ensures in
+    rw (← c.view.view_is) (sym (first_span_from c.args.spacing.length c.args.spacing.slide c.args.spacing.within.2 c.args.spacing.within.3 c.view.inside.kept.now c.args.from c.tuples_before-place.result times c.tuples_before-place.ensures some_tuple (omega arith) c.max.result number (spans_rise c.args.spacing.length c.args.spacing.slide c.view.inside.kept.now c.args.spacing.within times)))

@@ -1,21 +1,28 @@
 -- The stretch of the first tuple at or after the edge.
-use Rattle.std.proofs.Common.{◌∙◌, ap, sym, arith, Some}
+use Rattle.std.proofs.Common.{sym, subst, arith}
+use Rattle.std.specs.List.{Contains}
 use Rattle.stream_base.proofs.EventOrder.{times_do_not_fall}
+use Rattle.stream_base.specs.Model.Changes.{Moment}
+use Rattle.plain_windows.specs.Runs.{edges_of}
 use Rattle.plain_windows.proofs.PlaceFacts.{some_tuple}
 use Rattle.plain_windows.proofs.EdgeFacts.{no_stretch_behind, first_stretch_behind}
+use Rattle.plain_windows.proofs.Telling.{tells_none, tells_one}
 use Rattle.plain_windows.proofs.stretches.first_behind.Goals as goal
 
 pub tuples_before-place-requires : goal.tuples_before-place-requires
-tuples_before-place-requires c = times_do_not_fall c.args.kept.now c.requires.lists.in_order
+tuples_before-place-requires c = times_do_not_fall c.view.inside.kept.now c.view.invariant.in_order
 
-pub returns-then-place-kept-clause-found : goal.returns-then-place-kept-clause-found
-returns-then-place-kept-clause-found c =
-    sym (no_stretch_behind c.args.marks.now c.args.kept.now c.args.edge c.tuples_before-place.result (times_do_not_fall c.args.kept.now c.requires.lists.in_order) c.requires.edge c.tuples_before-place.ensures (omega arith))
+pub returns-then-place-kept : goal.returns-then-place-kept
+returns-then-place-kept c =
+    let v = c.view.inside in
+    let edge = subst (λ (m : Moment). Contains (edges_of m.marks) c.args.edge) (sym c.view.view_is) c.requires in
+    rw (← c.view.view_is)
+    (tells_none _ _ (no_stretch_behind v.marks.now v.kept.now c.args.edge c.tuples_before-place.result (times_do_not_fall v.kept.now c.view.invariant.in_order) edge c.tuples_before-place.ensures (omega arith)))
 
-pub interval_over-requires-clause-times : goal.interval_over-requires-clause-times
-interval_over-requires-clause-times c = times_do_not_fall c.args.kept.now c.requires.lists.in_order
-
-pub returns-clause-found : goal.returns-clause-found
-returns-clause-found c =
-    ap Some c.interval_over.ensures.is
-    ∙ sym (first_stretch_behind c.args.marks.now c.args.kept.now c.args.edge c.tuples_before-place.result (times_do_not_fall c.args.kept.now c.requires.lists.in_order) c.requires.edge c.tuples_before-place.ensures some_tuple c.edge_up_to.result c.edge_after.result (omega (arith, c.tuples_before-place.ensures.within)) c.edge_up_to.ensures.edge c.edge_up_to.ensures.up_to c.edge_up_to.ensures.last c.edge_after.ensures.edge c.edge_after.ensures.after c.edge_after.ensures.first)
+pub returns : goal.returns
+returns c =
+    let v = c.view.inside in
+    let edge = subst (λ (m : Moment). Contains (edges_of m.marks) c.args.edge) (sym c.view.view_is) c.requires in
+    tells_one _ _ _ _ c.interval_over.ensures.inside c.interval_over.ensures.is
+    (rw (← c.view.view_is)
+    (first_stretch_behind v.marks.now v.kept.now c.args.edge c.tuples_before-place.result (times_do_not_fall v.kept.now c.view.invariant.in_order) edge c.tuples_before-place.ensures some_tuple c.edge_up_to-low.result c.edge_after.result (omega (arith, c.tuples_before-place.ensures.within)) c.edge_up_to-low.ensures.edge c.edge_up_to-low.ensures.up_to c.edge_up_to-low.ensures.last c.edge_after.ensures.edge c.edge_after.ensures.after c.edge_after.ensures.first))

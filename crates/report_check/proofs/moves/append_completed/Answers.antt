@@ -1,24 +1,16 @@
--- The moment is that of a journal, and what is completed are the changes.
-use Rattle.std.proofs.Common.{◌≡◌, ◌∙◌, ◌++◌, sym, subst, ap, rules}
+-- What is completed are the changes.
+use Rattle.std.proofs.Common.{◌≡◌, ◌∙◌, ◌++◌, ap, rules, subst}
 use Rattle.plain_windows.specs.Changing.{all_completions}
-use Rattle.plain_windows.specs.Views.{IsMoment}
-use Rattle.report_check.proofs.Following.{changes_by_progress, is_moment, readable_front}
+use Rattle.report_check.specs.Steps.{IsStep}
+use Rattle.report_check.proofs.Following.{changes_by_progress}
 use Rattle.report_check.proofs.moves.append_completed.Goals as goal
-
-pub count_completions-count-requires-clause-lists : goal.count_completions-count-requires-clause-lists
-count_completions-count-requires-clause-lists g c =
-    let s = c.args.step.now in
-    subst IsMoment (sym c.requires.old) (is_moment s.defs.now s.sources c.args.key.now s.past.now (readable_front s.past.now s.entry.now c.requires.step.readable))
-
-pub append_completions-requires-clause-lists : goal.append_completions-requires-clause-lists
-append_completions-requires-clause-lists g c =
-    let s = c.args.step.now in
-    subst IsMoment (sym c.requires.old) (is_moment s.defs.now s.sources c.args.key.now s.past.now (readable_front s.past.now s.entry.now c.requires.step.readable))
 
 pub returns : goal.returns
 returns g c =
-    let s = c.args.step.now in
-    let kept : c.reserve.new.self.items ≡ c.args.out.now.items = search rules in
+    let items = c.args.out.now.items in
+    let key = c.args.key.now in
+    let step = subst IsStep c.step.view_is c.step.invariant in
+    let kept : c.reserve.new.self.items ≡ items = search rules in
     c.append_completions.ensures.items
-    ∙ (λ i. kept i ++ all_completions (c.windows-windows.ensures.value i) c.args.key.now (c.requires.old i) s.new)
-    ∙ ap (λ cs. c.args.out.now.items ++ cs) (changes_by_progress s c.args.key.now c.requires.step c.requires.progress)
+    ∙ (λ i. kept i ++ all_completions ((c.step.view_is i).defs).windows key (c.requires.old i) (c.step.view_is i).new)
+    ∙ ap (λ cs. items ++ cs) (changes_by_progress c.args.step.now key step c.requires.progress)

@@ -4,4 +4,4 @@ use Rattle.stream_base.specs.Model.Routes.{routed}
 use Rattle.report_check.proofs.routes.routed.Given as goal
 
 abbrev pub invariant-loop-entry : goal.invariant-loop-entry
-invariant-loop-entry l = l.out.items ++ routed l.shards l.shard (drop l.entry-index l.entries) ≡ routed l.shards l.shard l.entries
+invariant-loop-entry l = l.out.items ++ routed l.shard.of l.shard.number (drop l.entry-index l.entries) ≡ routed l.shard.of l.shard.number l.entries

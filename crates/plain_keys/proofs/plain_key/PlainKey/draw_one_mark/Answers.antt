@@ -6,9 +6,9 @@ use Rattle.plain_windows.specs.Extents.{AreKeyLists}
 use Rattle.plain_keys.proofs.Keeps.{lists_mark}
 use Rattle.plain_keys.proofs.plain_key.PlainKey.draw_one_mark.Goals as goal
 
-pub count_changes-count-requires-clause-new_lists : goal.count_changes-count-requires-clause-new_lists
-count_changes-count-requires-clause-new_lists c =
+pub new-new-requires : goal.new-new-requires
+new-new-requires c =
     let s = c.self.inside in
-    let marks : insert_key nat_cmp s.marks.items c.args.time ≡ c.deref-4.result.now = sym (c.deref-4.ensures.value ∙ c.in_ok-draw_mark.ensures ∙ ap (λ ms. insert_key nat_cmp ms c.args.time) c.deref.ensures.value) in
-    subst (AreKeyLists c.deref-2.result.now) marks
-    (subst (λ ks. AreKeyLists ks (insert_key nat_cmp s.marks.items c.args.time)) (sym c.deref-2.ensures.value) (lists_mark s.kept.items s.marks.items c.args.time c.self.invariant.lists c.requires.time))
+    let marks : insert_key nat_cmp s.marks.items c.args.time ≡ c.deref-5.result.now = sym (c.deref-5.ensures.value ∙ c.in_ok-draw_mark.ensures ∙ ap (λ ms. insert_key nat_cmp ms c.args.time) c.deref.ensures.value) in
+    subst (AreKeyLists c.deref-4.result.now) marks
+    (subst (λ ks. AreKeyLists ks (insert_key nat_cmp s.marks.items c.args.time)) (sym c.deref-4.ensures.value) (lists_mark s.kept.items s.marks.items c.args.time c.self.invariant.lists c.requires.time))

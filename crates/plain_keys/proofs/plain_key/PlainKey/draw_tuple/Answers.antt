@@ -13,11 +13,11 @@ use Rattle.plain_keys.proofs.plain_key.PlainKey.draw_tuple.Goals as goal
 pub draw_put-requires-clause-in_order : goal.draw_put-requires-clause-in_order
 draw_put-requires-clause-in_order c = subst TimesDoNotFall (sym c.deref.ensures.value) (times_do_not_fall c.self.inside.kept.items c.self.invariant.lists.in_order)
 
-pub count_changes-count-requires-clause-new_lists : goal.count_changes-count-requires-clause-new_lists
-count_changes-count-requires-clause-new_lists c =
+pub new-new-requires : goal.new-new-requires
+new-new-requires c =
     let s = c.self.inside in
     let few : s.next < JOURNAL_MAX = subst (λ (t : State). t.next < JOURNAL_MAX) (sym c.self.view_is) c.requires.few in
     let kept : put_in_order s.kept.items (stand_in c.args.time) ≡ c.deref-4.result.now =
     sym (c.deref-4.ensures.value ∙ c.in_ok-draw_put.ensures ∙ (λ i. put_in_order (c.deref.ensures.value i) (c.stand_in.ensures i))) in
-    subst (λ (ks : List Kept). AreKeyLists ks c.deref-3.result.now) kept
-    (subst (AreKeyLists (put_in_order s.kept.items (stand_in c.args.time))) (sym c.deref-3.ensures.value) (drawn_lists s.kept.items s.marks.items s.next c.args.time c.self.invariant few c.requires.time))
+    subst (λ (ks : List Kept). AreKeyLists ks c.deref-5.result.now) kept
+    (subst (AreKeyLists (put_in_order s.kept.items (stand_in c.args.time))) (sym c.deref-5.ensures.value) (drawn_lists s.kept.items s.marks.items s.next c.args.time c.self.invariant few c.requires.time))

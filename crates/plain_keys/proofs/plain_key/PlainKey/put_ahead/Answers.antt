@@ -13,4 +13,4 @@ pub invariant_of-self : goal.invariant_of-self
 invariant_of-self c =
     let s = c.self.inside in
     subst (λ (ks : List Kept). IsState ks s.marks.items (c.args.x.position + 1)) (sym c.put_in.ensures)
-    (state_put s.kept.items s.marks.items s.next c.args.x.position c.args.x.time c.args.x.value c.self.invariant (subst (λ (t : State). t.next ≤ c.args.x.position) (sym c.self.view_is) c.requires.position) c.requires.few c.requires.time)
+    (state_put s.kept.items s.marks.items s.next c.args.x.position c.args.x.time c.args.x.value c.self.invariant (subst (λ (t : State). t.next ≤ c.args.x.position) (sym c.self.view_is) c.requires.next.position) c.requires.next.few c.requires.next.time)

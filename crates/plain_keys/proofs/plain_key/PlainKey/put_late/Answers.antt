@@ -12,22 +12,22 @@ use Rattle.plain_keys.proofs.plain_key.PlainKey.put_late.Goals as goal
 pub fill_in-requires-clause-in_order : goal.fill_in-requires-clause-in_order
 fill_in-requires-clause-in_order g c = subst TimesDoNotFall (sym c.deref.ensures.value) (times_do_not_fall c.self.inside.kept.items c.self.invariant.lists.in_order)
 
-pub append_changes-requires-clause-new_lists : goal.append_changes-requires-clause-new_lists
-append_changes-requires-clause-new_lists g c =
+pub new-new-requires : goal.new-new-requires
+new-new-requires g c =
     let s = c.self.inside in
     let x = c.args.x in
-    let later : s.next ≤ x.position = subst (λ (t : State). t.next ≤ x.position) (sym c.self.view_is) c.requires.position in
-    let now : IsState (put_in_order s.kept.items x) s.marks.items (x.position + 1) = state_put s.kept.items s.marks.items s.next x.position x.time x.value c.self.invariant later c.requires.few c.requires.time in
+    let later : s.next ≤ x.position = subst (λ (t : State). t.next ≤ x.position) (sym c.self.view_is) c.requires.next.position in
+    let now : IsState (put_in_order s.kept.items x) s.marks.items (x.position + 1) = state_put s.kept.items s.marks.items s.next x.position x.time x.value c.self.invariant later c.requires.next.few c.requires.next.time in
     let filled : c.fill_in.new.drawn.items ≡ put_in_order s.kept.items x = c.fill_in.ensures ∙ ap (λ ks. put_in_order ks x) c.deref.ensures.value in
     let kept : put_in_order s.kept.items x ≡ c.deref-4.result.now = sym (subst (λ (ks : List Kept). c.deref-4.result.now ≡ ks) filled c.deref-4.ensures.value) in
-    subst (λ (ks : List Kept). AreKeyLists ks c.deref-3.result.now) kept (subst (AreKeyLists (put_in_order s.kept.items x)) (sym c.deref-3.ensures.value) now.lists)
+    subst (λ (ks : List Kept). AreKeyLists ks c.deref-5.result.now) kept (subst (AreKeyLists (put_in_order s.kept.items x)) (sym c.deref-5.ensures.value) now.lists)
 
 pub invariant_of-self : goal.invariant_of-self
 invariant_of-self g c =
     let s = c.self.inside in
     let x = c.args.x in
-    let later : s.next ≤ x.position = subst (λ (t : State). t.next ≤ x.position) (sym c.self.view_is) c.requires.position in
-    let now : IsState (put_in_order s.kept.items x) s.marks.items (x.position + 1) = state_put s.kept.items s.marks.items s.next x.position x.time x.value c.self.invariant later c.requires.few c.requires.time in
+    let later : s.next ≤ x.position = subst (λ (t : State). t.next ≤ x.position) (sym c.self.view_is) c.requires.next.position in
+    let now : IsState (put_in_order s.kept.items x) s.marks.items (x.position + 1) = state_put s.kept.items s.marks.items s.next x.position x.time x.value c.self.invariant later c.requires.next.few c.requires.next.time in
     let filled : c.fill_in.new.drawn.items ≡ put_in_order s.kept.items x = c.fill_in.ensures ∙ ap (λ ks. put_in_order ks x) c.deref.ensures.value in
     let taken : c.swap.new.x.items ≡ c.fill_in.new.drawn.items = ap (λ v. v.items) c.swap.ensures.x_after in
     let kept : put_in_order s.kept.items x ≡ c.swap.new.x.items = sym (subst (λ (ks : List Kept). c.swap.new.x.items ≡ ks) filled taken) in

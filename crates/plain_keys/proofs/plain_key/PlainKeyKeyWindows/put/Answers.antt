@@ -16,8 +16,8 @@ put_late-requires-clause-spare g c =
     let d = c.args.defs.now in
     let s = c.args.self.now in
     let few : s.next < JOURNAL_MAX = omega (arith, c.requires.position, c.requires.few) in
-    let counted : length (changes_between c.windows-windows.result.now s.key (moment s.kept s.marks c.args.water) (moment (put_in_order s.kept c.kept_at-x.result) s.marks c.args.water)) ≡ s.promise =
-    (λ i. length (changes_between (c.windows-windows.ensures.value i) s.key (moment s.kept s.marks c.args.water) (moment (put_in_order s.kept (c.kept_at-x.ensures i)) s.marks c.args.water)))
+    let counted : length (changes_between d.windows s.key (moment s.kept s.marks c.args.water) (moment (put_in_order s.kept c.kept_at-x.result) s.marks c.args.water)) ≡ s.promise =
+    (λ i. length (changes_between d.windows s.key (moment s.kept s.marks c.args.water) (moment (put_in_order s.kept (c.kept_at-x.ensures i)) s.marks c.args.water)))
     ∙ put_count d s.key s.kept s.marks s.next c.args.pos c.args.time (to_z w64 (of_z w64 c.args.value)) c.args.water c.vouch.ensures c.requires.position c.requires.few
     ∙ sym (c.requires.ready.promised c.if-water-time.false few s.key) in
     subst (λ n. n ≤ vec_capacity c.args.out.now - vec_len c.args.out.now) (sym counted) c.requires.spare

@@ -1,8 +1,9 @@
 -- A move of the watermark brings the completions.
 use Rattle.std.proofs.Common.{◌∙◌, length, ap, sym}
-use Rattle.std.specs.List.{enumerate_from, flat_map}
-use Rattle.stream_base.specs.Laws.{completions}
+use Rattle.stream_base.specs.Model.Changes.{Moment}
 use Rattle.key_windows.specs.Calls.{moment}
+use Rattle.plain_windows.specs.Changing.{all_completions}
+use Rattle.plain_keys.specs.States.{State}
 use Rattle.plain_keys.proofs.Keeps.{move_is}
 use Rattle.plain_keys.proofs.plain_key.PlainKeyKeyWindows.reserve_water.Goals as goal
 
@@ -13,6 +14,6 @@ returns-clause-ready c =
     record {
       promised = λ reached key.
           c.count_completions-count.ensures key
-          ∙ (λ i. length (flat_map (completions key (moment (c.deref.ensures.value i) (c.deref-2.ensures.value i) c.args.old) c.args.new) (enumerate_from 0 (c.windows.ensures.value i))))
-          ∙ ap length (sym (move_is d key s.kept.items s.marks.items c.args.old c.args.new c.windows.ensures.limits c.self.invariant.lists c.requires.rises));
+          ∙ ap (λ (m : Moment). length (all_completions d.windows key m c.args.new)) (c.view.ensures ∙ ap (λ (t : State). moment t.kept t.marks c.args.old) (sym c.self.view_is))
+          ∙ ap length (sym (move_is d key s.kept.items s.marks.items c.args.old c.args.new c.windows-windows.ensures.limits c.self.invariant.lists c.requires.rises));
     }

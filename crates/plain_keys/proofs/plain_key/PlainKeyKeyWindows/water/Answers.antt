@@ -1,29 +1,24 @@
 -- A move of the watermark brings the completions.
-use Rattle.std.proofs.Common.{◌≡◌, ◌∙◌, ◌++◌, ◌+◌, ◌-◌, ◌≤◌, ◌<◌, [], ℕ, List, append-nil, length, vec_len, ap, sym, subst, arith}
+use Rattle.std.proofs.Common.{◌≡◌, ◌∙◌, ◌++◌, ◌+◌, ◌-◌, ◌≤◌, ◌<◌, [], append-nil, length, vec_len, ap, refl, sym, subst, arith}
 use Rattle.std.proofs.lemmas.List.{length-append}
 use Rattle.std.specs.Prelude.{vec_capacity}
-use Rattle.std.specs.List.{enumerate_from, flat_map}
-use Rattle.stream_base.specs.Laws.{completions}
-use Rattle.key_windows.specs.Calls.{changes_by_move, moment}
+use Rattle.stream_base.specs.Model.Changes.{Moment}
+use Rattle.key_windows.specs.Calls.{changes_by_move}
+use Rattle.plain_windows.specs.Changing.{all_completions}
 use Rattle.plain_keys.specs.States.{State}
-use Rattle.stream_base.specs.declared.kept.Kept.{Kept}
-use Rattle.plain_windows.specs.Extents.{AreKeyLists}
 use Rattle.plain_keys.proofs.Keeps.{as_promised, move_is, not_due}
 use Rattle.plain_keys.proofs.plain_key.PlainKeyKeyWindows.water.Goals as goal
 
-pub append_completions-requires-clause-spare : goal.append_completions-requires-clause-spare
-append_completions-requires-clause-spare g c =
+pub append_completions-requires : goal.append_completions-requires
+append_completions-requires g c =
     let v = c.self.inside in
     let s = c.args.self.now in
-    let lists : AreKeyLists c.deref.result.now c.deref-2.result.now = subst (λ (l : List Kept). AreKeyLists l c.deref-2.result.now) (sym c.deref.ensures.value) (subst (λ (l : List ℕ). AreKeyLists v.kept.items l) (sym c.deref-2.ensures.value) c.self.invariant.lists) in
-    let counted =
-    as_promised c.args.defs.now s c.args.old c.args.new c.windows.result.now v.key c.deref.result.now c.deref-2.result.now
-    c.windows.ensures.limits lists c.requires.rises c.windows.ensures.value
-    (ap (λ (t : State). t.key) c.self.view_is)
-    (c.deref.ensures.value ∙ ap (λ (t : State). t.kept) c.self.view_is)
-    (c.deref-2.ensures.value ∙ ap (λ (t : State). t.marks) c.self.view_is)
-    c.requires.ready (subst (λ (t : State). t.due ≤ c.args.new) c.self.view_is c.if-new-self.false) in
-    subst (λ n. n ≤ vec_capacity c.args.out.now - vec_len c.args.out.now) (sym counted) c.requires.spare
+    let d = c.args.defs.now in
+    let counted : length (all_completions d.windows v.key c.view-view.result c.args.new) ≡ s.promise =
+    ap (λ (m : Moment). length (all_completions d.windows v.key m c.args.new)) c.view-view.ensures
+    ∙ as_promised d s c.args.old c.args.new d.windows v.key s.kept s.marks c.windows-windows.ensures.limits c.vouch.ensures.lists c.requires.rises refl
+    (ap (λ (t : State). t.key) c.self.view_is) refl refl c.requires.ready (subst (λ (t : State). t.due ≤ c.args.new) c.self.view_is c.if-new-self.false) in
+    record { spare = subst (λ n. n ≤ vec_capacity c.args.out.now - vec_len c.args.out.now) (sym counted) c.requires.spare }
 
 pub returns-then-new-self-clause-changes : goal.returns-then-new-self-clause-changes
 returns-then-new-self-clause-changes g c = λ kept marks fits.
@@ -37,29 +32,25 @@ pub returns-clause-room : goal.returns-clause-room
 returns-clause-room g c =
     let v = c.self.inside in
     let s = c.args.self.now in
-    let lists : AreKeyLists c.deref.result.now c.deref-2.result.now = subst (λ (l : List Kept). AreKeyLists l c.deref-2.result.now) (sym c.deref.ensures.value) (subst (λ (l : List ℕ). AreKeyLists v.kept.items l) (sym c.deref-2.ensures.value) c.self.invariant.lists) in
-    let counted =
-    as_promised c.args.defs.now s c.args.old c.args.new c.windows.result.now v.key c.deref.result.now c.deref-2.result.now
-    c.windows.ensures.limits lists c.requires.rises c.windows.ensures.value
-    (ap (λ (t : State). t.key) c.self.view_is)
-    (c.deref.ensures.value ∙ ap (λ (t : State). t.kept) c.self.view_is)
-    (c.deref-2.ensures.value ∙ ap (λ (t : State). t.marks) c.self.view_is)
-    c.requires.ready (subst (λ (t : State). t.due ≤ c.args.new) c.self.view_is c.if-new-self.false) in
+    let d = c.args.defs.now in
+    let counted : length (all_completions d.windows v.key c.view-view.result c.args.new) ≡ s.promise =
+    ap (λ (m : Moment). length (all_completions d.windows v.key m c.args.new)) c.view-view.ensures
+    ∙ as_promised d s c.args.old c.args.new d.windows v.key s.kept s.marks c.windows-windows.ensures.limits c.vouch.ensures.lists c.requires.rises refl
+    (ap (λ (t : State). t.key) c.self.view_is) refl refl c.requires.ready (subst (λ (t : State). t.due ≤ c.args.new) c.self.view_is c.if-new-self.false) in
     let all : length c.append_completions.new.out.items ≡ length c.args.out.now.items + s.promise =
     ap length c.append_completions.ensures.items
-    ∙ length-append c.args.out.now.items (flat_map (completions v.key (moment c.deref.result.now c.deref-2.result.now c.args.old) c.args.new) (enumerate_from 0 c.windows.result.now))
+    ∙ length-append c.args.out.now.items (all_completions d.windows v.key c.view-view.result c.args.new)
     ∙ ap (λ n. length c.args.out.now.items + n) counted in
     omega (arith, all, c.append_completions.new.out.ok.0, c.args.out.now.ok.0)
 
 pub returns-clause-changes : goal.returns-clause-changes
 returns-clause-changes g c = λ kept marks fits.
-    let s = c.self.inside in
+    let v = c.self.inside in
+    let s = c.args.self.now in
     let d = c.args.defs.now in
-    let key : s.key ≡ c.args.self.now.key = ap (λ (v : State). v.key) c.self.view_is in
-    let ks : s.kept.items ≡ kept = ap (λ (v : State). v.kept) c.self.view_is ∙ fits.0 in
-    let ms : s.marks.items ≡ marks = ap (λ (v : State). v.marks) c.self.view_is ∙ fits.1 in
+    let key : v.key ≡ s.key = ap (λ (t : State). t.key) c.self.view_is in
     c.append_completions.ensures.items
     ∙ ap (λ cs. c.args.out.now.items ++ cs)
-    ((λ i. flat_map (completions s.key (moment (c.deref.ensures.value i) (c.deref-2.ensures.value i) c.args.old) c.args.new) (enumerate_from 0 (c.windows.ensures.value i)))
-    ∙ sym (move_is d s.key s.kept.items s.marks.items c.args.old c.args.new c.windows.ensures.limits c.self.invariant.lists c.requires.rises)
-    ∙ (λ i. changes_by_move d (key i) (ks i) (ms i) c.args.old c.args.new))
+    (ap (λ (m : Moment). all_completions d.windows v.key m c.args.new) c.view-view.ensures
+    ∙ sym (move_is d v.key s.kept s.marks c.args.old c.args.new c.windows-windows.ensures.limits c.vouch.ensures.lists c.requires.rises)
+    ∙ (λ i. changes_by_move d (key i) (fits.0 i) (fits.1 i) c.args.old c.args.new))
