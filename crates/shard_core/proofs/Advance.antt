@@ -237,13 +237,14 @@ module _ {K : Type 0} (key_of : K → List ℕ) (fits : Definitions → List Kep
         i j 0 l m
 
     -- the states there can be moved
-    pub due_movable : water_of sources journal ≤ new → AreMovable fits d t.slots.items (due_places t new) new
-    due_movable le = record {
+    pub due_movable : water_of sources journal ≤ new → IsWater new → AreMovable fits d t.slots.items (due_places t new) new
+    due_movable le is_water = record {
       within = λ i l. c.placed (due_at i l).key (get_or (due_places t new) i 0) (due_at i l).at;
       apart = due_places_apart;
       rises = λ i l x. omega (arith, (c.current (due_at i l).key (get_or (due_places t new) i 0) x (due_at i l).at).past);
       stand = λ i l x. let key = (due_at i l).key in
           (kept_of d.lateness sources key journal, marks_of d.lateness sources key journal, (c.current key (get_or (due_places t new) i 0) x (due_at i l).at).stands);
+      is_water = is_water;
     }
 
     -- and each stands for what is kept of its key

@@ -5,14 +5,13 @@ use Rattle.std.proofs.lemmas.List.{take-append-le}
 use Rattle.std.proofs.lemmas.List.Elements.{All-push}
 use Rattle.std.proofs.Math.Seq.{take-append_seam}
 use Rattle.stream_base.specs.Limits.{AreWithinLimits}
-use Rattle.stream_base.specs.declared.limits.TheConstants.{JOURNAL_MAX}
 use Rattle.stream_base.specs.declared.entry.Entry.{Entry}
 use Rattle.stream_base.specs.Model.Watermark.{has_ended}
 use Rattle.stream_base.specs.Model.Journals.{is_entry_within}
 use Rattle.watermark_table.specs.Watched.{StandsFor, sources_of}
 use Rattle.shard_core.specs.declared.past.Past.TheInside.{Inside}
 use Rattle.shard_core.specs.Past.{IsPast}
-use Rattle.shard_core.specs.Shard.{AreKnown, HasNothingBehindAnEnd, IsJournal}
+use Rattle.shard_core.specs.Shard.{AreKnown, HasNothingBehindAnEnd, IsJournal, IsKnown, IsNext}
 
 none_some : {X : Type 0} {x : X} → None ≡ Some x → ⊥
 none_some h = cc
@@ -31,20 +30,19 @@ open_push journal e before goes n x at =
       | inr p ↦ (λ i. has_ended (p.0 i).source (take (p.1 i) (journal ++ e ∷ []))) ∙ ap (has_ended e.source) (take-append_seam journal (e ∷ [])) ∙ goes
     ]
 
-pub within_push : (sources : ℕ) (journal : List Entry) (e : Entry) → AreKnown sources journal → e.source < sources → is_entry_within e ≡ true → AreKnown sources (journal ++ e ∷ [])
-within_push sources journal e h source within = record {
-  known_sources = All-push (λ x. x.source < sources) journal e h.known_sources source;
-  within = All-push (λ x. is_entry_within x ≡ true) journal e h.within within;
+pub within_push : (sources : ℕ) (journal : List Entry) (e : Entry) → AreKnown sources journal → IsKnown sources e → AreKnown sources (journal ++ e ∷ [])
+within_push sources journal e h k = record {
+  known_sources = All-push (λ x. x.source < sources) journal e h.known_sources k.source;
+  within = All-push (λ x. is_entry_within x ≡ true) journal e h.within k.within;
 }
 
--- a journal with one entry more that is known and whose source hasn't ended
-pub journal_push : (sources : ℕ) (journal : List Entry) (e : Entry) → IsJournal sources journal
-    → e.source < sources → is_entry_within e ≡ true → has_ended e.source journal ≡ false → length journal < JOURNAL_MAX
+-- a journal with its next entry
+pub journal_push : (sources : ℕ) (journal : List Entry) (e : Entry) → IsJournal sources journal → IsNext sources journal e
     → IsJournal sources (journal ++ e ∷ [])
-journal_push sources journal e h source within goes room = record {
+journal_push sources journal e h next = record {
   short = rw length-append (omega arith);
-  known = within_push sources journal e h.known source within;
-  open_before = open_push journal e h.open_before goes;
+  known = within_push sources journal e h.known next.known;
+  open_before = open_push journal e h.open_before next.goes_on;
 }
 
 -- what is kept of the past, one entry on
@@ -55,13 +53,13 @@ pub past_push : (old new : Inside) (e : Entry) → IsPast old
     → (new.waters).lateness ≡ (old.waters).lateness
     → StandsFor new.waters (old.journal.items ++ e ∷ [])
     → new.journal.items ≡ old.journal.items ++ e ∷ []
-    → e.source < sources_of old.waters → is_entry_within e ≡ true → has_ended e.source old.journal.items ≡ false → length old.journal.items < JOURNAL_MAX
+    → IsNext (sources_of old.waters) old.journal.items e
     → IsPast new
-past_push old new e h defs number sources lateness stands journal source within goes room = record {
+past_push old new e h defs number sources lateness stands journal next = record {
   limits = subst AreWithinLimits (sym defs) h.limits;
   sources = sources ∙ h.sources ∙ sym number;
   some = rw number h.some;
   lateness = lateness ∙ h.lateness ∙ ap (λ d. d.lateness) (sym defs);
   waters = subst (StandsFor new.waters) (sym journal) stands;
-  journal_is = rw (sources, journal) (journal_push (sources_of old.waters) old.journal.items e h.journal_is source within goes room);
+  journal_is = rw (sources, journal) (journal_push (sources_of old.waters) old.journal.items e h.journal_is next);
 }

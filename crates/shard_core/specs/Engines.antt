@@ -1,5 +1,5 @@
 -- What the table of keys keeps of each key.
-use Rattle.std.specs.Prelude.{◌≡◌, ◌≤◌, ◌<◌, ◌⊎◌, ℕ, List, [], ◌∷◌, ◌++◌, Option, None, Some, length, slice_index, slice_index_or, ◌≢◌, EachIndex, nat_le}
+use Rattle.std.specs.Prelude.{◌≡◌, ◌≤◌, ◌<◌, ◌⊎◌, ℕ, List, [], ◌∷◌, ◌++◌, Option, None, Some, ◌+◌, Result, OnOk, OnErr, length, slice_index, slice_index_or, ◌≢◌, EachIndex, nat_le}
 use Rattle.std.specs.Map.{values_of}
 use Rattle.key_windows.specs.Calls.{Call, IsWater, changes_by_move}
 use Rattle.key_windows.specs.Calls.Call.{Move}
@@ -8,10 +8,13 @@ use Rattle.stream_base.specs.Limits.{Definitions}
 use Rattle.stream_base.specs.declared.change.Change.{Change}
 use Rattle.stream_base.specs.declared.entry.Entry.{Entry}
 use Rattle.stream_base.specs.declared.kept.Kept.{Kept}
+use Rattle.stream_base.specs.declared.limits.TheConstants.{TIME_MAX}
+use Rattle.stream_base.specs.Model.Changes.{changes_after}
 use Rattle.stream_base.specs.Model.Journal.{kept_of, marks_of}
 use Rattle.stream_base.specs.Model.Watermark.{water_of}
 use Rattle.shard_core.specs.Placed.{AreByKey, place_in}
 use Rattle.shard_core.specs.Recorded.{Recorded}
+use Rattle.shard_core.specs.Shard.{IsKnown}
 use Rattle.shard_core.specs.declared.keys.KeyTable.{KeyTable}
 use Rattle.shard_core.specs.declared.slot.Slot.{Slot}
 
@@ -31,9 +34,35 @@ pub record IsSameSlot {K : Type 0} (key_of : K → List ℕ) (fits : Definitions
 abbrev pub SlotFits : {K : Type 0} → (Definitions → List Kept → List ℕ → ℕ → K → Type 0) → Definitions → List Kept → List ℕ → Slot K → Type 0
 SlotFits fits d kept marks slot = fits d kept marks slot.water slot.state
 
+-- a slot that refused stands for the same as before, and no change was told and no step taken
+pub record HasRefused {K : Type 0} (key_of : K → List ℕ) (fits : Definitions → List Kept → List ℕ → ℕ → K → Type 0) (next_position : K → ℕ) (d : Definitions) (old new : Slot K) (out longer : List Change) (steps later : ℕ) : Type 0 where
+  pub same : IsSameSlot key_of fits next_position d old new
+  pub nothing : longer ≡ out
+  pub no_step : later ≡ steps
+
 -- there are lists for which a slot stands
 abbrev pub HasLists : {K : Type 0} → (Definitions → List Kept → List ℕ → ℕ → K → Type 0) → Definitions → Slot K → Type 0
 HasLists fits d slot = (kept : List Kept) × (marks : List ℕ) × SlotFits fits d kept marks slot
+
+-- a slot stands for some lists, and a time isn't late under its watermark
+pub record Accepts {K : Type 0} (fits : Definitions → List Kept → List ℕ → ℕ → K → Type 0) (d : Definitions) (slot : Slot K) (time : ℕ) : Type 0 where
+  pub stands : HasLists fits d slot
+  pub within : time ≤ TIME_MAX
+  pub is_water : IsWater slot.water
+  pub accepted : slot.water ≤ time + d.lateness
+
+-- a slot stands for some lists, under no later watermark than this one
+pub record MayMove {K : Type 0} (fits : Definitions → List Kept → List ℕ → ℕ → K → Type 0) (d : Definitions) (slot : Slot K) (water : ℕ) : Type 0 where
+  pub stands : HasLists fits d slot
+  pub rises : slot.water ≤ water
+  pub is_water : IsWater water
+
+-- there is a slot at a place, and it stands for some lists, under no later watermark than this one
+pub record MayMoveAt {K : Type 0} (fits : Definitions → List Kept → List ℕ → ℕ → K → Type 0) (d : Definitions) (slots : List (Slot K)) (place water : ℕ) : Type 0 where
+  pub within : place < length slots
+  pub stands : HoldsAt (HasLists fits d) slots place
+  pub rises : HoldsAt (λ slot. slot.water ≤ water) slots place
+  pub is_water : IsWater water
 
 -- room was made for the move of a slot to a watermark
 abbrev pub CanMove : {K : Type 0} → (Call → K → Type 0) → ℕ → Slot K → Type 0
@@ -71,6 +100,36 @@ IsTableOf key_of fits next_position past t = AreCurrent key_of fits next_positio
 -- and with one entry more, of that past and the entry
 abbrev pub IsTableWith : {K : Type 0} → (K → List ℕ) → (Definitions → List Kept → List ℕ → ℕ → K → Type 0) → (K → ℕ) → Recorded → Entry → KeyTable K → Type 0
 IsTableWith key_of fits next_position past e t = AreCurrent key_of fits next_position past.defs past.sources (past.journal ++ e ∷ []) t
+
+-- a tuple or mark of this time may be taken in: the table is that of the past, and the time isn't late there
+pub record MayTake {K : Type 0} (key_of : K → List ℕ) (fits : Definitions → List Kept → List ℕ → ℕ → K → Type 0) (next_position : K → ℕ) (past : Recorded) (t : KeyTable K) (time : ℕ) : Type 0 where
+  pub current : IsTableOf key_of fits next_position past t
+  pub within : time ≤ TIME_MAX
+  pub accepted : water_of past.sources past.journal ≤ time + past.defs.lateness
+
+-- an entry may come: the table is that of the past, and the entry is within its limits and of a source there
+pub record MayCome {K : Type 0} (key_of : K → List ℕ) (fits : Definitions → List Kept → List ℕ → ℕ → K → Type 0) (next_position : K → ℕ) (past : Recorded) (t : KeyTable K) (e : Entry) : Type 0 where
+  pub current : IsTableOf key_of fits next_position past t
+  pub known : IsKnown past.sources e
+
+-- an entry was taken in, and its changes were appended; or it was refused, and the table is that of the past still, no change was told and no step taken
+pub record TakesIn {K T E : Type 0} (key_of : K → List ℕ) (fits : Definitions → List Kept → List ℕ → ℕ → K → Type 0) (next_position : K → ℕ) (past : Recorded) (e : Entry) (answer : Result T E) (t : KeyTable K) (out longer : List Change) (steps later : ℕ) : Type 0 where
+  pub taken : OnOk answer (IsTableWith key_of fits next_position past e t)
+  pub changes : OnOk answer (longer ≡ out ++ changes_after past.defs past.sources past.journal e)
+  pub refused : OnErr answer (IsTableOf key_of fits next_position past t)
+  pub nothing : OnErr answer (longer ≡ out)
+  pub no_step : OnErr answer (later ≡ steps)
+
+-- the places of the keys and the due numbers are as before
+pub record HasSameDues {K : Type 0} (old new : KeyTable K) : Type 0 where
+  pub index : new.index ≡ old.index
+  pub dues : new.dues ≡ old.dues
+
+-- the places of the keys are as before, and there are as many states and due numbers
+pub record HasSamePlaces {K : Type 0} (old new : KeyTable K) : Type 0 where
+  pub index : new.index ≡ old.index
+  pub as_many : length new.slots.items ≡ length old.slots.items
+  pub as_many_dues : length new.dues.items ≡ length old.dues.items
 
 -- the places of the states that are due at a watermark, by the bytes of their keys
 abbrev pub due_places : {K : Type 0} → KeyTable K → ℕ → List ℕ
@@ -110,9 +169,10 @@ StandsIn key_of fits d kept marks slot = fits d (kept (key_of slot.state)) (mark
 abbrev pub moves_of : {K : Type 0} → (K → List ℕ) → Definitions → (List ℕ → List Kept) → (List ℕ → List ℕ) → ℕ → Slot K → List Change
 moves_of key_of d kept marks new slot = changes_by_move d (key_of slot.state) (kept (key_of slot.state)) (marks (key_of slot.state)) slot.water new
 
--- these are places of the slots, each once, and each slot there stands for some lists, under no later watermark
+-- these are places of the slots, each once, and each slot there stands for some lists, under no later watermark than this one
 pub record AreMovable {K : Type 0} (fits : Definitions → List Kept → List ℕ → ℕ → K → Type 0) (d : Definitions) (slots : List (Slot K)) (places : List ℕ) (water : ℕ) : Type 0 where
   pub within : EachIndex places (λ i. slice_index places i < length slots)
   pub apart : AreApart places
   pub rises : EachIndex places (λ i. HoldsAt (λ slot. slot.water ≤ water) slots (slice_index places i))
   pub stand : EachIndex places (λ i. HoldsAt (HasLists fits d) slots (slice_index places i))
+  pub is_water : IsWater water

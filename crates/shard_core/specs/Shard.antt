@@ -20,6 +20,22 @@ pub record Sharded : Type 0 where
 abbrev pub sharded_with : Sharded → Entry → Sharded
 sharded_with s e = record { defs = s.defs; sources = s.sources; journal = s.journal ++ e ∷ [] }
 
+-- a shard has from 1 to 16 sources
+pub record AreSources (sources : ℕ) : Type 0 where
+  pub some : 1 ≤ sources
+  pub few : sources ≤ 16
+
+-- an entry is of one of so many sources, and within its limits
+pub record IsKnown (sources : ℕ) (e : Entry) : Type 0 where
+  pub source : e.source < sources
+  pub within : is_entry_within e ≡ true
+
+-- an entry may be the next of a journal: it is known, its source hasn't ended, and the journal isn't full
+pub record IsNext (sources : ℕ) (journal : List Entry) (e : Entry) : Type 0 where
+  pub known : IsKnown sources e
+  pub goes_on : has_ended e.source journal ≡ false
+  pub few : length journal < JOURNAL_MAX
+
 -- each entry is within its limits, and of a known source
 pub record AreKnown (sources : ℕ) (journal : List Entry) : Type 0 where
   pub known_sources : All (λ e. e.source < sources) journal

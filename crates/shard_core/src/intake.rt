@@ -1,9 +1,7 @@
-ghost use Rattle.std.specs.Prelude.{◌≡◌, ◌≤◌, ◌<◌, ◌++◌, ◌∷◌, [], true, OnOk, OnErr, length};
+ghost use Rattle.std.specs.Prelude.{◌≡◌, ◌<◌, true, OnOk, length};
 ghost use Rattle.stream_base.specs.declared.limits.TheConstants.{JOURNAL_MAX};
-ghost use Rattle.stream_base.specs.Model.Changes.{changes_after};
-ghost use Rattle.stream_base.specs.Model.Journals.{is_entry_within};
 ghost use Rattle.stream_base.specs.Model.What.{is_progress};
-ghost use Rattle.shard_core.specs.Engines.{IsTableOf, IsTableWith};
+ghost use Rattle.shard_core.specs.Engines.{MayCome, TakesIn};
 ghost use Rattle.shard_core.specs.Flat.{sharded};
 ghost use Rattle.shard_core.specs.Work.{IsMarkWithin, IsTupleWithin, comes_late};
 
@@ -24,23 +22,15 @@ impl<K: KeyWindows> KeyTable<K> {
         out: &mut Vec<Change>,
         steps: &mut Steps<L>,
     ) -> Result<(), NoMemory>
-        requires current { IsTableOf K.key_of K.fits K.next_position past.now self.old }
-        requires source { entry.now.source < past.now.sources }
-        requires within { is_entry_within entry.now ≡ true }
+        requires comes { MayCome K.key_of K.fits K.next_position past.now self.old entry.now }
         requires few { length past.now.journal < JOURNAL_MAX }
-        ensures refused { OnErr result
-            (IsTableOf K.key_of K.fits K.next_position past.now self.new) }
-        ensures nothing { OnErr result (out.new.items ≡ out.old.items) }
-        ensures taken { OnOk result
-            (IsTableWith K.key_of K.fits K.next_position past.now entry.now self.new) }
-        ensures changes { OnOk result (out.new.items ≡ out.old.items
-            ++ changes_after past.now.defs past.now.sources past.now.journal entry.now) }
+        ensures taken { TakesIn K.key_of K.fits K.next_position past.now entry.now result
+            self.new out.old.items out.new.items steps.old steps.new }
         ensures tuple_work { OnOk result (IsTupleWithin K.bounds_put (sharded past.now) entry.now
             steps.old steps.new) }
         ensures mark_work { OnOk result (IsMarkWithin K.bounds_mark (sharded past.now) entry.now
             steps.old steps.new) }
         ensures late_work { comes_late (sharded past.now) entry.now ≡ true → steps.new ≡ steps.old }
-        ensures refused_work { OnErr result (steps.new ≡ steps.old) }
     {
         if past.is_late(entry) {
             out.push(Change::Dropped)?;
@@ -67,18 +57,10 @@ impl<K: KeyWindows> KeyTable<K> {
         out: &mut Vec<Change>,
         steps: &mut Steps<L>,
     ) -> Result<(), NoMemory>
-        requires current { IsTableOf K.key_of K.fits K.next_position past.now self.old }
-        requires source { entry.now.source < past.now.sources }
-        requires within { is_entry_within entry.now ≡ true }
+        requires comes { MayCome K.key_of K.fits K.next_position past.now self.old entry.now }
         requires progress { is_progress entry.now.what ≡ true }
-        ensures refused { OnErr result
-            (IsTableOf K.key_of K.fits K.next_position past.now self.new) }
-        ensures nothing { OnErr result (out.new.items ≡ out.old.items) }
-        ensures taken { OnOk result
-            (IsTableWith K.key_of K.fits K.next_position past.now entry.now self.new) }
-        ensures changes { OnOk result (out.new.items ≡ out.old.items
-            ++ changes_after past.now.defs past.now.sources past.now.journal entry.now) }
-        ensures refused_work { OnErr result (steps.new ≡ steps.old) }
+        ensures { TakesIn K.key_of K.fits K.next_position past.now entry.now result
+            self.new out.old.items out.new.items steps.old steps.new }
     {
         let _defs = past.defs();
         let _journal = past.journal();

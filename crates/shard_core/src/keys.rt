@@ -1,15 +1,10 @@
-ghost use Rattle.std.specs.Prelude.{◌≡◌, ◌≤◌, ◌<◌, ◌+◌, ◌++◌, ◌∷◌, [], ℕ, List, true, IfOk, OnOk, OnErr, Some, None, IfSome, length, All, EachIndex, sum_by, ◌-◌, vec_len, vec_capacity, slice_index, slice_index_or};
-ghost use Rattle.std.specs.List.{HoldsAt, flat_map};
-ghost use Rattle.key_windows.specs.Calls.{IsWater, changes_by_move};
-ghost use Rattle.key_windows.specs.Calls.Call.{Move};
-ghost use Rattle.stream_base.specs.declared.kept.Kept.{Kept};
+ghost use Rattle.std.specs.Prelude.{◌≡◌, ◌<◌, [], IfOk, OnOk, Some, None, length};
+ghost use Rattle.std.specs.List.{HoldsAt};
 ghost use Rattle.stream_base.specs.declared.entry.Entry.{Entry};
-ghost use Rattle.stream_base.specs.declared.limits.TheConstants.{JOURNAL_MAX, TIME_MAX};
+ghost use Rattle.stream_base.specs.declared.limits.TheConstants.{JOURNAL_MAX};
 ghost use Rattle.stream_base.specs.declared.what.What.TheVariants.{Tuple, Mark};
-ghost use Rattle.stream_base.specs.Model.Changes.{changes_after};
-ghost use Rattle.stream_base.specs.Model.What.{is_progress};
 ghost use Rattle.stream_base.specs.Model.Watermark.{water_of};
-ghost use Rattle.shard_core.specs.Engines.{AreCurrent, AreMovable, AreSameSlots, IsMovedSlot, IsSameElsewhere, IsSameOutside, IsSameSlot, IsTableOf, IsTableWith, StandsIn, due_places, moves_of, place_of};
+ghost use Rattle.shard_core.specs.Engines.{IsTableOf, MayTake, TakesIn, place_of};
 ghost use Rattle.shard_core.specs.Flat.{sharded};
 ghost use Rattle.shard_core.specs.Work.{IsTakenWithin};
 
@@ -46,43 +41,28 @@ impl<K: KeyWindows> KeyTable<K> {
     }
 
     // The place of a key, with a fresh state where it has none yet.
-    pub fn place_or_add(
-        &mut self,
-        alloc: Global,
-        defs: &Defs,
-        key: &KeyText,
-        water: u64,
-    ) -> Result<usize, NoMemory>
-        requires { IsWater water }
+    fn place_or_add(&mut self, alloc: Global, past: &Past, key: &KeyText) -> Result<usize, NoMemory>
         ensures place { IfOk result (λ p. place_of self.new key.now ≡ Some p) }
-        ensures current { (sources : ℕ) (journal : List Entry) → water ≡ water_of sources journal
-            → AreCurrent K.key_of K.fits K.next_position defs.now sources journal self.old
-            → AreCurrent K.key_of K.fits K.next_position defs.now sources journal self.new }
+        ensures current { IsTableOf K.key_of K.fits K.next_position past.now self.old
+            → IsTableOf K.key_of K.fits K.next_position past.now self.new }
     {
         match self.index.get(key) {
             Some(place) => Ok(place),
-            None => self.add(alloc, defs, key, water),
+            None => self.add(alloc, past, key),
         }
     }
 
-    // A fresh state for a key that has none, all or nothing.
-    fn add(
-        &mut self,
-        alloc: Global,
-        defs: &Defs,
-        key: &KeyText,
-        water: u64,
-    ) -> Result<usize, NoMemory>
-        requires absent { place_of self.old key.now ≡ None }
-        requires water { IsWater water }
+    // A fresh state under the watermark of the past for a key that has none, all or nothing.
+    fn add(&mut self, alloc: Global, past: &Past, key: &KeyText) -> Result<usize, NoMemory>
+        requires { place_of self.old key.now ≡ None }
         ensures place { IfOk result (λ p. place_of self.new key.now ≡ Some p) }
-        ensures current { (sources : ℕ) (journal : List Entry) → water ≡ water_of sources journal
-            → AreCurrent K.key_of K.fits K.next_position defs.now sources journal self.old
-            → AreCurrent K.key_of K.fits K.next_position defs.now sources journal self.new }
+        ensures current { IsTableOf K.key_of K.fits K.next_position past.now self.old
+            → IsTableOf K.key_of K.fits K.next_position past.now self.new }
     {
         self.slots.reserve(1)?;
         self.dues.reserve()?;
-        let slot = Slot::fresh(alloc, defs, *key, water)?;
+        let defs = past.defs();
+        let slot = Slot::fresh(alloc, defs, *key, past.water())?;
         let due = slot.due(defs);
         let place = self.index.add(key)?;
         self.slots.push_reserved(slot);
@@ -114,9 +94,7 @@ impl<K: KeyWindows> KeyTable<K> {
         ensures water { IfOk result (λ p. HoldsAt (λ slot. slot.water
             ≡ water_of past.now.sources past.now.journal) self.new.slots.items p) }
     {
-        let water = past.water();
-        let defs = past.defs();
-        let place = self.place_or_add(alloc, defs, key, water)?;
+        let place = self.place_or_add(alloc, past, key)?;
         self.catch_up(past, key, place);
         Ok(place)
     }
@@ -132,22 +110,13 @@ impl<K: KeyWindows> KeyTable<K> {
         out: &mut Vec<Change>,
         steps: &mut Steps<L>,
     ) -> Result<(), NoMemory>
-        requires current { IsTableOf K.key_of K.fits K.next_position past.now self.old }
-        requires time { time ≤ TIME_MAX }
+        requires accepted { MayTake K.key_of K.fits K.next_position past.now self.old time }
         requires few { length past.now.journal < JOURNAL_MAX }
-        requires accepted { water_of past.now.sources past.now.journal
-            ≤ time + (past.now.defs).lateness }
-        ensures refused { OnErr result
-            (IsTableOf K.key_of K.fits K.next_position past.now self.new) }
-        ensures nothing { OnErr result (out.new.items ≡ out.old.items) }
         ensures taken { (e : Entry) → e.what ≡ Tuple key.now time value
-            → OnOk result (IsTableWith K.key_of K.fits K.next_position past.now e self.new) }
-        ensures changes { (e : Entry) → e.what ≡ Tuple key.now time value
-            → OnOk result (out.new.items
-            ≡ out.old.items ++ changes_after past.now.defs past.now.sources past.now.journal e) }
+            → TakesIn K.key_of K.fits K.next_position past.now e result self.new
+            out.old.items out.new.items steps.old steps.new }
         ensures work { (e : Entry) → e.what ≡ Tuple key.now time value → OnOk result
             (IsTakenWithin K.bounds_put (sharded past.now) e key.now time steps.old steps.new) }
-        ensures refused_work { OnErr result (steps.new ≡ steps.old) }
     {
         let place = self.prepare(alloc, past, key)?;
         let defs = past.defs();
@@ -167,20 +136,12 @@ impl<K: KeyWindows> KeyTable<K> {
         out: &mut Vec<Change>,
         steps: &mut Steps<L>,
     ) -> Result<(), NoMemory>
-        requires current { IsTableOf K.key_of K.fits K.next_position past.now self.old }
-        requires time { time ≤ TIME_MAX }
-        requires accepted { water_of past.now.sources past.now.journal
-            ≤ time + (past.now.defs).lateness }
-        ensures refused { OnErr result
-            (IsTableOf K.key_of K.fits K.next_position past.now self.new) }
-        ensures nothing { OnErr result (out.new.items ≡ out.old.items) }
+        requires { MayTake K.key_of K.fits K.next_position past.now self.old time }
         ensures taken { (e : Entry) → e.what ≡ Mark key.now time
-            → OnOk result (IsTableWith K.key_of K.fits K.next_position past.now e self.new) }
-        ensures changes { (e : Entry) → e.what ≡ Mark key.now time → OnOk result (out.new.items
-            ≡ out.old.items ++ changes_after past.now.defs past.now.sources past.now.journal e) }
+            → TakesIn K.key_of K.fits K.next_position past.now e result self.new
+            out.old.items out.new.items steps.old steps.new }
         ensures work { (e : Entry) → e.what ≡ Mark key.now time → OnOk result
             (IsTakenWithin K.bounds_mark (sharded past.now) e key.now time steps.old steps.new) }
-        ensures refused_work { OnErr result (steps.new ≡ steps.old) }
     {
         let place = self.prepare(alloc, past, key)?;
         let defs = past.defs();

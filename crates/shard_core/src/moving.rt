@@ -1,16 +1,11 @@
-ghost use Rattle.std.specs.Prelude.{◌≡◌, ◌≤◌, ◌<◌, ◌+◌, ◌++◌, ◌∷◌, [], ℕ, List, true, IfOk, OnOk, OnErr, Some, None, IfSome, length, All, EachIndex, sum_by, ◌-◌, vec_len, vec_capacity, slice_index, slice_index_or, ◌↔◌, IsTrue};
+ghost use Rattle.std.specs.Prelude.{◌≡◌, ◌≤◌, ◌<◌, ◌+◌, ◌-◌, ◌++◌, ◌∷◌, [], ℕ, List, true, IfOk, OnOk, length, All, EachIndex, sum_by, vec_len, vec_capacity, slice_index, slice_index_or};
 ghost use Rattle.std.specs.List.{HoldsAt, flat_map};
 ghost use Rattle.std.specs.Map.{values_of};
 ghost use Rattle.key_windows.specs.Calls.{IsWater, changes_by_move};
-ghost use Rattle.key_windows.specs.Calls.Call.{Move};
 ghost use Rattle.stream_base.specs.declared.kept.Kept.{Kept};
-ghost use Rattle.stream_base.specs.declared.entry.Entry.{Entry};
-ghost use Rattle.stream_base.specs.declared.limits.TheConstants.{JOURNAL_MAX, TIME_MAX};
-ghost use Rattle.stream_base.specs.declared.what.What.TheVariants.{Tuple, Mark};
-ghost use Rattle.stream_base.specs.Model.Changes.{changes_after};
 ghost use Rattle.stream_base.specs.Model.What.{is_progress};
 ghost use Rattle.stream_base.specs.Model.Watermark.{water_of};
-ghost use Rattle.shard_core.specs.Engines.{AreCurrent, AreMovable, AreSameSlots, CanMove, HasLists, IsMovedSlot, IsSameElsewhere, IsSameOutside, IsSameSlot, IsTableOf, IsTableWith, SlotFits, StandsIn, due_places, moves_of, place_of};
+ghost use Rattle.shard_core.specs.Engines.{AreMovable, AreSameSlots, CanMove, HasSameDues, HasSamePlaces, IsMovedSlot, IsSameElsewhere, IsSameOutside, IsSameSlot, IsTableOf, MayMoveAt, SlotFits, StandsIn, TakesIn, due_places, moves_of};
 
 use crate::keys::KeyTable;
 use crate::past::Past;
@@ -36,14 +31,8 @@ impl<K: KeyWindows> KeyTable<K> {
         requires progress { is_progress entry.now.what ≡ true }
         requires new { new ≡ water_of past.now.sources (past.now.journal ++ entry.now ∷ []) }
         requires water { IsWater new }
-        ensures refused { OnErr result
-            (IsTableOf K.key_of K.fits K.next_position past.now self.new) }
-        ensures nothing { OnErr result (out.new.items ≡ out.old.items) }
-        ensures taken { OnOk result
-            (IsTableWith K.key_of K.fits K.next_position past.now entry.now self.new) }
-        ensures changes { OnOk result (out.new.items ≡ out.old.items
-            ++ changes_after past.now.defs past.now.sources past.now.journal entry.now) }
-        ensures refused_work { OnErr result (steps.new ≡ steps.old) }
+        ensures { TakesIn K.key_of K.fits K.next_position past.now entry.now result
+            self.new out.old.items out.new.items steps.old steps.new }
     {
         let defs = past.defs();
         let due = self.due_places(alloc, new)?;
@@ -69,12 +58,8 @@ impl<K: KeyWindows> KeyTable<K> {
 
     // Makes room for the move of the state at a place, and answers for how many changes.
     fn reserve_at(&mut self, defs: &Defs, place: usize, new: u64) -> Result<u64, NoMemory>
-        requires place { place < length self.old.slots.items }
-        requires stands { HoldsAt (HasLists K.fits defs.now) self.old.slots.items place }
-        requires rises { HoldsAt (λ slot. slot.water ≤ new) self.old.slots.items place }
-        requires water { IsWater new }
-        ensures index { self.new.index ≡ self.old.index }
-        ensures dues { self.new.dues ≡ self.old.dues }
+        requires { MayMoveAt K.fits defs.now self.old.slots.items place new }
+        ensures table { HasSameDues self.old self.new }
         ensures len { length self.new.slots.items ≡ length self.old.slots.items }
         ensures others { IsSameElsewhere self.old.slots.items self.new.slots.items place }
         ensures same { (x : Slot K) → IsSameSlot K.key_of K.fits K.next_position defs.now
@@ -97,17 +82,12 @@ impl<K: KeyWindows> KeyTable<K> {
         out: &mut Vec<Change>,
         steps: &mut Steps<L>,
     )
-        requires place { place < length self.old.slots.items }
+        requires movable { MayMoveAt K.fits defs.now self.old.slots.items place new }
         requires due { place < length self.old.dues.items }
-        requires stands { HoldsAt (HasLists K.fits defs.now) self.old.slots.items place }
-        requires rises { HoldsAt (λ slot. slot.water ≤ new) self.old.slots.items place }
-        requires water { IsWater new }
         requires ready { HoldsAt (CanMove (K.is_ready defs.now) new) self.old.slots.items place }
         requires spare { HoldsAt (λ slot. K.promised slot.state
             ≤ vec_capacity out.old - vec_len out.old) self.old.slots.items place }
-        ensures index { self.new.index ≡ self.old.index }
-        ensures len { length self.new.slots.items ≡ length self.old.slots.items }
-        ensures dues_len { length self.new.dues.items ≡ length self.old.dues.items }
+        ensures table { HasSamePlaces self.old self.new }
         ensures others { IsSameElsewhere self.old.slots.items self.new.slots.items place }
         ensures other_dues { IsSameElsewhere self.old.dues.items self.new.dues.items place }
         ensures moved { (x : Slot K) → IsMovedSlot K.key_of K.fits K.next_position defs.now new
@@ -129,10 +109,8 @@ impl<K: KeyWindows> KeyTable<K> {
 
     // Makes room for the moves of the states at these places, and answers for how many changes.
     fn reserve_moves(&mut self, defs: &Defs, places: &[usize], new: u64) -> Result<u64, NoMemory>
-        requires movable { AreMovable K.fits defs.now self.old.slots.items places.now new }
-        requires water { IsWater new }
-        ensures index { self.new.index ≡ self.old.index }
-        ensures dues { self.new.dues ≡ self.old.dues }
+        requires { AreMovable K.fits defs.now self.old.slots.items places.now new }
+        ensures table { HasSameDues self.old self.new }
         ensures same { AreSameSlots K.key_of K.fits K.next_position defs.now
             self.old.slots.items self.new.slots.items }
         ensures ready { OnOk result (EachIndex places.now
@@ -161,16 +139,13 @@ impl<K: KeyWindows> KeyTable<K> {
     )
         requires movable { AreMovable K.fits defs.now self.old.slots.items places.now new }
         requires aligned { length self.old.dues.items ≡ length self.old.slots.items }
-        requires water { IsWater new }
         requires ready { EachIndex places.now
             (λ i. HoldsAt (CanMove (K.is_ready defs.now) new) self.old.slots.items
             (slice_index places.now i)) }
         requires spare { (x : Slot K)
             → sum_by (λ p. K.promised (slice_index_or self.old.slots.items p x).state) places.now
             ≤ vec_capacity out.old - vec_len out.old }
-        ensures index { self.new.index ≡ self.old.index }
-        ensures len { length self.new.slots.items ≡ length self.old.slots.items }
-        ensures aligned { length self.new.dues.items ≡ length self.old.dues.items }
+        ensures table { HasSamePlaces self.old self.new }
         ensures others { IsSameOutside self.old.slots.items self.new.slots.items places.now }
         ensures other_dues { IsSameOutside self.old.dues.items self.new.dues.items places.now }
         ensures moved { (x : Slot K)

@@ -1,14 +1,13 @@
-ghost use Rattle.std.specs.Prelude.{◌≡◌, ◌≤◌, ◌<◌, ◌++◌, ◌∷◌, [], List, true, false, IfOk, OnOk, length};
+ghost use Rattle.std.specs.Prelude.{◌≡◌, ◌≤◌, ◌<◌, ◌++◌, ◌∷◌, [], List, true, IfOk, OnOk};
 ghost use Rattle.key_windows.specs.Calls.{IsWater};
 ghost use Rattle.stream_base.specs.Limits.{AreWithinLimits};
 ghost use Rattle.stream_base.specs.declared.entry.Entry.{Entry};
-ghost use Rattle.stream_base.specs.declared.limits.TheConstants.{JOURNAL_MAX};
 ghost use Rattle.stream_base.specs.Model.Journals.{is_entry_within};
 ghost use Rattle.stream_base.specs.Model.Watermark.{has_ended, water_of};
 ghost use Rattle.stream_base.specs.Model.What.{is_late, is_what_within};
 ghost use Rattle.watermark_table.specs.Watched.{StandsFor, sources_of};
 ghost use Rattle.shard_core.specs.Recorded.{IsSameShard};
-ghost use Rattle.shard_core.specs.Shard.{IsJournal};
+ghost use Rattle.shard_core.specs.Shard.{IsJournal, IsKnown, IsNext};
 
 use std::alloc::Global;
 use std::marker::Model;
@@ -106,8 +105,7 @@ impl Past {
 
     // The watermark behind an entry that comes now.
     pub fn water_after(&self, entry: &Entry) -> u64
-        requires source { entry.now.source < self.now.sources }
-        requires within { is_entry_within entry.now ≡ true }
+        requires { IsKnown self.now.sources entry.now }
         ensures { result ≡ water_of self.now.sources (self.now.journal ++ entry.now ∷ []) }
     {
         match entry.what {
@@ -130,10 +128,7 @@ impl Past {
 
     // Takes in an entry, for which there is room.
     pub fn push(&mut self, entry: &Entry)
-        requires source { entry.now.source < self.old.sources }
-        requires within { is_entry_within entry.now ≡ true }
-        requires open { has_ended entry.now.source self.old.journal ≡ false }
-        requires few { length self.old.journal < JOURNAL_MAX }
+        requires next { IsNext self.old.sources self.old.journal entry.now }
         requires room { 1 ≤ self.old.spare }
         ensures same { IsSameShard self.old self.new }
         ensures journal { self.new.journal ≡ self.old.journal ++ entry.now ∷ [] }

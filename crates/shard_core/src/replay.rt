@@ -1,9 +1,7 @@
-ghost use Rattle.std.specs.Prelude.{◌≡◌, ◌<◌, ◌++◌, ◌∷◌, [], true, false, IfOk, OnOk, length};
-ghost use Rattle.stream_base.specs.declared.limits.TheConstants.{JOURNAL_MAX};
+ghost use Rattle.std.specs.Prelude.{◌≡◌, ◌++◌, ◌∷◌, [], IfOk, OnOk};
 ghost use Rattle.stream_base.specs.Model.Changes.{moment_of, rows_at, standing_rows};
-ghost use Rattle.stream_base.specs.Model.Journals.{is_entry_within};
-ghost use Rattle.stream_base.specs.Model.Watermark.{has_ended};
 ghost use Rattle.shard_core.specs.Recorded.{IsSameShard};
+ghost use Rattle.shard_core.specs.Shard.{IsNext};
 
 use crate::keys::KeyTable;
 use crate::past::Past;
@@ -69,10 +67,7 @@ impl Replay {
         entry: &Entry,
         steps: &mut Steps<L>,
     ) -> Result<(), NoMemory>
-        requires source { entry.now.source < self.old.sources }
-        requires within { is_entry_within entry.now ≡ true }
-        requires open { has_ended entry.now.source self.old.journal ≡ false }
-        requires few { length self.old.journal < JOURNAL_MAX }
+        requires { IsNext self.old.sources self.old.journal entry.now }
         ensures same { IsSameShard self.old self.new }
         ensures journal { OnOk result (self.new.journal ≡ self.old.journal ++ entry.now ∷ []) }
     {

@@ -1,11 +1,10 @@
-ghost use Rattle.std.specs.Prelude.{◌≡◌, ◌≤◌, ◌<◌, ◌↔◌, ◌∷◌, [], length, IfOk, OnOk, OnErr, IsErrOf, true, false, Some, slice_get, slice_index, slice_range};
+ghost use Rattle.std.specs.Prelude.{◌≡◌, ◌≤◌, ◌<◌, ◌↔◌, [], length, IfOk, OnOk, OnErr, IsErrOf, true, false, Some, slice_get, slice_index, slice_range};
 ghost use Rattle.stream_base.specs.Limits.{AreWithinLimits};
 ghost use Rattle.stream_base.specs.declared.limits.TheConstants.{JOURNAL_MAX};
 ghost use Rattle.stream_base.specs.Model.Changes.{changes_after, changes_at, standing_rows};
-ghost use Rattle.stream_base.specs.Model.Journals.{is_entry_within};
 ghost use Rattle.stream_base.specs.Model.Watermark.{has_ended};
 ghost use Rattle.shard_core.specs.Flat.{start_at};
-ghost use Rattle.shard_core.specs.Shard.{IsJournal, sharded_with, slices_after};
+ghost use Rattle.shard_core.specs.Shard.{AreSources, IsJournal, IsKnown, IsNext, sharded_with, slices_after};
 ghost use Rattle.shard_core.specs.Work.{IsMarkWithin, IsTupleWithin, comes_late};
 
 use crate::applied::{Applied, ApplyFault};
@@ -49,8 +48,7 @@ impl<K: KeyWindows> Model for KeyedShard<K> {
 impl<K: KeyWindows> KeyedShard<K> {
     /// A shard with an empty journal, for so many sources.
     pub fn new(alloc: Global, defs: Defs, sources: u16) -> Result<KeyedShard<K>, NoMemory>
-        requires some { 1 ≤ sources }
-        requires few { sources ≤ 16 }
+        requires { AreSources sources }
         ensures { IfOk result (λ shard. shard
             ≡ record { defs = defs; sources = sources; journal = [] }) }
     {
@@ -69,8 +67,7 @@ impl<K: KeyWindows> KeyedShard<K> {
     /// The steps of a tuple or mark that isn't late stay within a bound of the engine's, by what is
     /// kept of the key before and behind the entry. A late or refused entry takes none.
     pub fn apply<L>(&mut self, entry: &Entry, steps: &mut Steps<L>) -> Result<Applied, ApplyFault>
-        requires source { entry.now.source < self.old.sources }
-        requires within { is_entry_within entry.now ≡ true }
+        requires { IsKnown self.old.sources entry.now }
         ensures applied { OnOk result (self.new ≡ sharded_with self.old entry.now) }
         ensures position { IfOk result (λ applied. applied.position ≡ length self.old.journal) }
         ensures changes { IfOk result (λ applied. applied.changes
@@ -98,10 +95,7 @@ impl<K: KeyWindows> KeyedShard<K> {
     }
 
     fn append<L>(&mut self, entry: &Entry, steps: &mut Steps<L>) -> Result<Applied, NoMemory>
-        requires source { entry.now.source < self.old.sources }
-        requires within { is_entry_within entry.now ≡ true }
-        requires open { has_ended entry.now.source self.old.journal ≡ false }
-        requires few { length self.old.journal < JOURNAL_MAX }
+        requires { IsNext self.old.sources self.old.journal entry.now }
         ensures applied { OnOk result (self.new ≡ sharded_with self.old entry.now) }
         ensures position { IfOk result (λ applied. applied.position ≡ length self.old.journal) }
         ensures changes { IfOk result (λ applied. applied.changes

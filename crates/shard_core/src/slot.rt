@@ -2,11 +2,10 @@ ghost use Rattle.std.specs.Prelude.{◌≡◌, ◌≤◌, ◌<◌, ◌+◌, ◌+
 ghost use Rattle.std.specs.BTreeSet.{insert_key};
 ghost use Rattle.std.specs.Ordering.{nat_cmp};
 ghost use Rattle.key_windows.specs.Calls.{IsWater, changes_by_mark, changes_by_move, changes_by_put, kept_at, moment};
-ghost use Rattle.key_windows.specs.Calls.Call.{Move};
 ghost use Rattle.stream_base.specs.declared.kept.Kept.{Kept};
-ghost use Rattle.stream_base.specs.declared.limits.TheConstants.{JOURNAL_MAX, TIME_MAX};
+ghost use Rattle.stream_base.specs.declared.limits.TheConstants.{JOURNAL_MAX};
 ghost use Rattle.stream_base.specs.Model.Journal.{put_in_order};
-ghost use Rattle.shard_core.specs.Engines.{CanMove, HasLists, IsQuiet, IsSameSlot, SlotFits};
+ghost use Rattle.shard_core.specs.Engines.{Accepts, CanMove, HasLists, HasRefused, IsQuiet, IsSameSlot, MayMove, SlotFits};
 
 use agg_laws::Steps;
 use key_windows::KeyWindows;
@@ -42,15 +41,12 @@ impl<K: KeyWindows> Slot<K> {
         out: &mut Vec<Change>,
         steps: &mut Steps<L>,
     ) -> Result<(), NoMemory>
-        requires stands { HasLists K.fits defs.now self.old }
-        requires time { time ≤ TIME_MAX }
+        requires accepted { Accepts K.fits defs.now self.old time }
         requires position { K.next_position (self.old).state ≤ position }
         requires few { position < JOURNAL_MAX }
-        requires water { IsWater (self.old).water }
-        requires accepted { (self.old).water ≤ time + (defs.now).lateness }
         ensures refused { OnErr result
-            (IsSameSlot K.key_of K.fits K.next_position defs.now self.old self.new) }
-        ensures nothing { OnErr result (out.new.items ≡ out.old.items) }
+            (HasRefused K.key_of K.fits K.next_position defs.now self.old self.new
+            out.old.items out.new.items steps.old steps.new) }
         ensures key { OnOk result (K.key_of (self.new).state ≡ K.key_of (self.old).state) }
         ensures water { OnOk result ((self.new).water ≡ (self.old).water) }
         ensures next { OnOk result (K.next_position (self.new).state ≡ position + 1) }
@@ -69,7 +65,6 @@ impl<K: KeyWindows> Slot<K> {
             (moment kept marks (self.old).water)
             (moment (put_in_order kept (kept_at position time value)) marks (self.old).water)
             time bound × (steps.new ≤ steps.old + bound)) }
-        ensures refused_work { OnErr result (steps.new ≡ steps.old) }
     {
         let room = self.state.reserve_put(defs, time, self.water)?;
         out.reserve(room as usize)?;
@@ -86,13 +81,10 @@ impl<K: KeyWindows> Slot<K> {
         out: &mut Vec<Change>,
         steps: &mut Steps<L>,
     ) -> Result<(), NoMemory>
-        requires stands { HasLists K.fits defs.now self.old }
-        requires time { time ≤ TIME_MAX }
-        requires water { IsWater (self.old).water }
-        requires accepted { (self.old).water ≤ time + (defs.now).lateness }
+        requires { Accepts K.fits defs.now self.old time }
         ensures refused { OnErr result
-            (IsSameSlot K.key_of K.fits K.next_position defs.now self.old self.new) }
-        ensures nothing { OnErr result (out.new.items ≡ out.old.items) }
+            (HasRefused K.key_of K.fits K.next_position defs.now self.old self.new
+            out.old.items out.new.items steps.old steps.new) }
         ensures key { OnOk result (K.key_of (self.new).state ≡ K.key_of (self.old).state) }
         ensures water { OnOk result ((self.new).water ≡ (self.old).water) }
         ensures next { OnOk result (K.next_position (self.new).state
@@ -112,7 +104,6 @@ impl<K: KeyWindows> Slot<K> {
             (moment kept marks (self.old).water)
             (moment kept (insert_key nat_cmp marks time) (self.old).water)
             time bound × (steps.new ≤ steps.old + bound)) }
-        ensures refused_work { OnErr result (steps.new ≡ steps.old) }
     {
         let room = self.state.reserve_mark(defs, time, self.water)?;
         out.reserve(room as usize)?;
@@ -122,9 +113,7 @@ impl<K: KeyWindows> Slot<K> {
 
     // Makes room for a move to a watermark, and answers for how many changes there is to be room.
     pub fn reserve_move(&mut self, defs: &Defs, new: u64) -> Result<u64, NoMemory>
-        requires stands { HasLists K.fits defs.now self.old }
-        requires rises { (self.old).water ≤ new }
-        requires water { IsWater new }
+        requires { MayMove K.fits defs.now self.old new }
         ensures same { IsSameSlot K.key_of K.fits K.next_position defs.now self.old self.new }
         ensures ready { OnOk result (CanMove (K.is_ready defs.now) new self.new) }
         ensures promised { IfOk result (λ n. K.promised (self.new).state ≡ n) }
@@ -134,9 +123,7 @@ impl<K: KeyWindows> Slot<K> {
 
     // Moves on to a watermark.
     pub fn move_to<L>(&mut self, defs: &Defs, new: u64, out: &mut Vec<Change>, steps: &mut Steps<L>)
-        requires stands { HasLists K.fits defs.now self.old }
-        requires rises { (self.old).water ≤ new }
-        requires water { IsWater new }
+        requires movable { MayMove K.fits defs.now self.old new }
         requires ready { CanMove (K.is_ready defs.now) new self.old }
         requires spare { K.promised (self.old).state ≤ vec_capacity out.old - vec_len out.old }
         ensures key { K.key_of (self.new).state ≡ K.key_of (self.old).state }

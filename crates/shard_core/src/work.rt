@@ -1,11 +1,10 @@
 //! What an entry takes in a shard over keys on slices.
-ghost use Rattle.std.specs.Prelude.{◌≡◌, ◌<◌, ◌↔◌, IfOk, IsErrOf, OnErr, OnOk, false, length, true};
+ghost use Rattle.std.specs.Prelude.{◌≡◌, ◌↔◌, IfOk, IsErrOf, OnErr, OnOk, false, length, true};
 ghost use Rattle.stream_base.specs.declared.limits.TheConstants.{JOURNAL_MAX};
 ghost use Rattle.stream_base.specs.Model.Changes.{changes_after};
-ghost use Rattle.stream_base.specs.Model.Journals.{is_entry_within};
 ghost use Rattle.stream_base.specs.Model.Watermark.{has_ended};
 ghost use Rattle.shard_core.specs.Costs.{IsMarkWithinFolds, IsTupleWithinFolds};
-ghost use Rattle.shard_core.specs.Shard.{sharded_with};
+ghost use Rattle.shard_core.specs.Shard.{IsKnown, sharded_with};
 ghost use Rattle.shard_core.specs.Work.{comes_late};
 
 use crate::Shard;
@@ -26,8 +25,7 @@ pub fn apply_counted<L>(
     entry: &Entry,
     steps: &mut Steps<L>,
 ) -> Result<Applied, ApplyFault>
-    requires source { entry.now.source < shard.old.sources }
-    requires within { is_entry_within entry.now ≡ true }
+    requires { IsKnown shard.old.sources entry.now }
     ensures applied { OnOk result (shard.new ≡ sharded_with shard.old entry.now) }
     ensures position { IfOk result (λ applied. applied.position ≡ length shard.old.journal) }
     ensures changes { IfOk result (λ applied. applied.changes

@@ -1,5 +1,5 @@
 -- The states that are due are moved, or the table stays.
-use Rattle.std.proofs.Common.{◌≡◌, ◌∙◌, ◌≤◌, ℕ, ap, arith, length, sym}
+use Rattle.std.proofs.Common.{◌≡◌, ◌∙◌, ◌≤◌, ℕ, ap, arith, length, rules, sym}
 use Rattle.stream_base.specs.Limits.{AreWithinLimits}
 use Rattle.stream_base.specs.Model.Journal.{kept_of, marks_of}
 use Rattle.stream_base.specs.Model.Watermark.{water_of}
@@ -18,23 +18,35 @@ due_places-requires-clause-places g c =
     let past = c.args.past.now in
     values_within g.K.KeyWindows.key_of g.K.KeyWindows.fits g.K.KeyWindows.next_position past.defs past.sources past.journal c.args.self.now c.requires.current
 
-pub reserve_moves-requires-clause-movable : goal.reserve_moves-requires-clause-movable
-reserve_moves-requires-clause-movable g c =
+pub reserve_moves-requires : goal.reserve_moves-requires
+reserve_moves-requires g c =
     let past = c.args.past.now in
     let further : water_of past.sources past.journal ≤ c.args.new = rw c.requires.new (water_rises past.sources past.journal c.args.entry.now) in
-    rw (c.as_slice-places.ensures.value, c.in_ok-due.ensures, c.defs-defs.ensures.value) (due_movable g.K.KeyWindows.key_of g.K.KeyWindows.fits g.K.KeyWindows.next_position past.defs past.sources past.journal c.args.self.now c.requires.current c.args.new further)
+    rw (c.as_slice-places.ensures.value, c.in_ok-due.ensures, c.defs-defs.ensures.value) (due_movable g.K.KeyWindows.key_of g.K.KeyWindows.fits g.K.KeyWindows.next_position past.defs past.sources past.journal c.args.self.now c.requires.current c.args.new further c.requires.water)
 
-pub returns-in_err-room-clause-refused : goal.returns-in_err-room-clause-refused
-returns-in_err-room-clause-refused g c =
+pub returns-in_err-room : goal.returns-in_err-room
+returns-in_err-room g c =
     let past = c.args.past.now in
-    on_err c.from_residual-in_err-room.result
-    (same_table g.K.KeyWindows.key_of g.K.KeyWindows.fits g.K.KeyWindows.next_position past.defs past.sources past.journal c.args.self.now c.reserve_moves.new.self c.reserve_moves.ensures.index c.reserve_moves.ensures.dues (rw (← c.defs-defs.ensures.value) c.reserve_moves.ensures.same) c.requires.current)
+    record {
+      taken = search rules;
+      changes = search rules;
+      refused = on_err c.from_residual-in_err-room.result
+          (same_table g.K.KeyWindows.key_of g.K.KeyWindows.fits g.K.KeyWindows.next_position past.defs past.sources past.journal c.args.self.now c.reserve_moves.new.self c.reserve_moves.ensures.table.index c.reserve_moves.ensures.table.dues (rw (← c.defs-defs.ensures.value) c.reserve_moves.ensures.same) c.requires.current);
+      nothing = search rules;
+      no_step = search rules;
+    }
 
-pub returns-in_err-reserve-clause-refused : goal.returns-in_err-reserve-clause-refused
-returns-in_err-reserve-clause-refused g c =
+pub returns-in_err-reserve : goal.returns-in_err-reserve
+returns-in_err-reserve g c =
     let past = c.args.past.now in
-    on_err c.from_residual-in_err-reserve.result
-    (same_table g.K.KeyWindows.key_of g.K.KeyWindows.fits g.K.KeyWindows.next_position past.defs past.sources past.journal c.args.self.now c.reserve_moves.new.self c.reserve_moves.ensures.index c.reserve_moves.ensures.dues (rw (← c.defs-defs.ensures.value) c.reserve_moves.ensures.same) c.requires.current)
+    record {
+      taken = search rules;
+      changes = search rules;
+      refused = on_err c.from_residual-in_err-reserve.result
+          (same_table g.K.KeyWindows.key_of g.K.KeyWindows.fits g.K.KeyWindows.next_position past.defs past.sources past.journal c.args.self.now c.reserve_moves.new.self c.reserve_moves.ensures.table.index c.reserve_moves.ensures.table.dues (rw (← c.defs-defs.ensures.value) c.reserve_moves.ensures.same) c.requires.current);
+      nothing = search rules;
+      no_step = search rules;
+    }
 
 -- the same places are due where the index and the due numbers are the same
 same_places : {K : Type 0} (old new : KeyTable K) (water : ℕ) → new.index ≡ old.index → new.dues ≡ old.dues → due_places new water ≡ due_places old water
@@ -52,15 +64,15 @@ move_all-requires-clause-movable g c =
     let ready = c.reserve_moves.new.self in
     let further : water_of past.sources past.journal ≤ new = rw c.requires.new (water_rises past.sources past.journal c.args.entry.now) in
     let current : AreCurrent key_of fits next d past.sources past.journal ready =
-    same_table key_of fits next d past.sources past.journal old ready c.reserve_moves.ensures.index c.reserve_moves.ensures.dues c.reserve_moves.ensures.same (rw c.defs-defs.ensures.value c.requires.current) in
-    let places : c.as_slice-places.result.now ≡ due_places ready new = c.as_slice-places.ensures.value ∙ c.in_ok-due.ensures ∙ sym (same_places old ready new c.reserve_moves.ensures.index c.reserve_moves.ensures.dues) in
-    rw places (due_movable key_of fits next d past.sources past.journal ready current new further)
+    same_table key_of fits next d past.sources past.journal old ready c.reserve_moves.ensures.table.index c.reserve_moves.ensures.table.dues c.reserve_moves.ensures.same (rw c.defs-defs.ensures.value c.requires.current) in
+    let places : c.as_slice-places.result.now ≡ due_places ready new = c.as_slice-places.ensures.value ∙ c.in_ok-due.ensures ∙ sym (same_places old ready new c.reserve_moves.ensures.table.index c.reserve_moves.ensures.table.dues) in
+    rw places (due_movable key_of fits next d past.sources past.journal ready current new further c.requires.water)
 
 pub move_all-requires-clause-spare : goal.move_all-requires-clause-spare
 move_all-requires-clause-spare g c x = omega (arith, c.in_ok-room.ensures.room x, c.in_ok-reserve.ensures.ok)
 
-pub returns-clause-taken : goal.returns-clause-taken
-returns-clause-taken g c =
+pub returns : goal.returns
+returns g c =
     let key_of = g.K.KeyWindows.key_of in
     let fits = g.K.KeyWindows.fits in
     let next = g.K.KeyWindows.next_position in
@@ -71,30 +83,20 @@ returns-clause-taken g c =
     let ready = c.reserve_moves.new.self in
     let further : water_of past.sources past.journal ≤ new = rw c.requires.new (water_rises past.sources past.journal c.args.entry.now) in
     let current : AreCurrent key_of fits next d past.sources past.journal ready =
-    same_table key_of fits next d past.sources past.journal old ready c.reserve_moves.ensures.index c.reserve_moves.ensures.dues c.reserve_moves.ensures.same (rw c.defs-defs.ensures.value c.requires.current) in
-    let places : c.as_slice-places.result.now ≡ due_places ready new = c.as_slice-places.ensures.value ∙ c.in_ok-due.ensures ∙ sym (same_places old ready new c.reserve_moves.ensures.index c.reserve_moves.ensures.dues) in
+    same_table key_of fits next d past.sources past.journal old ready c.reserve_moves.ensures.table.index c.reserve_moves.ensures.table.dues c.reserve_moves.ensures.same (rw c.defs-defs.ensures.value c.requires.current) in
+    let places : c.as_slice-places.result.now ≡ due_places ready new = c.as_slice-places.ensures.value ∙ c.in_ok-due.ensures ∙ sym (same_places old ready new c.reserve_moves.ensures.table.index c.reserve_moves.ensures.table.dues) in
     let moved = c.move_all.ensures in
     let same : c.look_again.new.self.items ≡ c.move_all.new.self.dues.items = c.look_again.ensures in
-    rw (← c.defs-defs.ensures.value)
-    (moved_table key_of fits next d past.sources past.journal ready _ c.args.entry.now new (rw c.defs-defs.ensures.value c.defs-defs.ensures.limits) c.requires.progress c.requires.new c.requires.water current
-    moved.index moved.len (ap length same ∙ moved.aligned) (rw (← places) moved.others) (rw (← places, same) moved.other_dues) (λ x. rw (← places, same) (moved.moved x)))
-
-pub returns-clause-changes : goal.returns-clause-changes
-returns-clause-changes g c =
-    let key_of = g.K.KeyWindows.key_of in
-    let fits = g.K.KeyWindows.fits in
-    let next = g.K.KeyWindows.next_position in
-    let past = c.args.past.now in
-    let d = c.defs-defs.result.now in
-    let old = c.args.self.now in
-    let new = c.args.new in
-    let ready = c.reserve_moves.new.self in
-    let further : water_of past.sources past.journal ≤ new = rw c.requires.new (water_rises past.sources past.journal c.args.entry.now) in
-    let current : AreCurrent key_of fits next d past.sources past.journal ready =
-    same_table key_of fits next d past.sources past.journal old ready c.reserve_moves.ensures.index c.reserve_moves.ensures.dues c.reserve_moves.ensures.same (rw c.defs-defs.ensures.value c.requires.current) in
-    let places : c.as_slice-places.result.now ≡ due_places ready new = c.as_slice-places.ensures.value ∙ c.in_ok-due.ensures ∙ sym (same_places old ready new c.reserve_moves.ensures.index c.reserve_moves.ensures.dues) in
     let limits : AreWithinLimits d = rw c.defs-defs.ensures.value c.defs-defs.ensures.limits in
-    rw (← c.defs-defs.ensures.value)
-    (appended key_of fits next d past.sources past.journal ready current new c.args.entry.now limits c.requires.progress c.requires.new c.args.out.now.items c.move_all.new.out.items
-    (λ x each. rw (← c.reserve.ensures.items, ← places) (c.move_all.ensures.changes x (λ key. kept_of d.lateness past.sources key past.journal) (λ key. marks_of d.lateness past.sources key past.journal) (rw places each)))
-    (λ none. c.move_all.ensures.nowhere (places ∙ none) ∙ c.reserve.ensures.items))
+    record {
+      taken = rw (← c.defs-defs.ensures.value)
+          (moved_table key_of fits next d past.sources past.journal ready _ c.args.entry.now new (rw c.defs-defs.ensures.value c.defs-defs.ensures.limits) c.requires.progress c.requires.new c.requires.water current
+          moved.table.index moved.table.as_many (ap length same ∙ moved.table.as_many_dues) (rw (← places) moved.others) (rw (← places, same) moved.other_dues) (λ x. rw (← places, same) (moved.moved x)));
+      changes = rw (← c.defs-defs.ensures.value)
+          (appended key_of fits next d past.sources past.journal ready current new c.args.entry.now limits c.requires.progress c.requires.new c.args.out.now.items c.move_all.new.out.items
+          (λ x each. rw (← c.reserve.ensures.items, ← places) (c.move_all.ensures.changes x (λ key. kept_of d.lateness past.sources key past.journal) (λ key. marks_of d.lateness past.sources key past.journal) (rw places each)))
+          (λ none. c.move_all.ensures.nowhere (places ∙ none) ∙ c.reserve.ensures.items));
+      refused = tt;
+      nothing = tt;
+      no_step = tt;
+    }

@@ -1,5 +1,5 @@
 -- The state of the key takes in the mark, or the table stays.
-use Rattle.std.proofs.Common.{◌≡◌, ◌∙◌, ◌≤◌, ◌+◌, ◌++◌, ap, arith, get_or, get_or-set_same, refl, subst, sym}
+use Rattle.std.proofs.Common.{◌≡◌, ◌∙◌, ◌≤◌, ◌+◌, ◌++◌, ap, arith, get_or, get_or-set_same, refl, rules, subst, sym}
 use Rattle.std.specs.BTreeSet.{insert_key}
 use Rattle.std.specs.Ordering.{nat_cmp}
 use Rattle.std.proofs.lemmas.List.{set-get_or}
@@ -15,16 +15,18 @@ use Rattle.shard_core.proofs.Entries.{changes_of_mark, kept_with_mark, keyed_tab
 use Rattle.shard_core.proofs.Places.{alike, current_at, has_lists, on_err, replaced, same_for}
 use Rattle.shard_core.proofs.keys.KeyTable.mark.Goals as goal
 
-pub mark-requires-clause-stands : goal.mark-requires-clause-stands
-mark-requires-clause-stands g c =
+pub mark-requires : goal.mark-requires
+mark-requires g c =
     let past = c.args.past.now in
-    rw c.defs-defs.ensures.value
-    (has_lists g.K.KeyWindows.key_of g.K.KeyWindows.fits g.K.KeyWindows.next_position past.defs past.sources past.journal c.prepare.new.self c.args.key.now c.in_ok-place.place c.index_mut.result.now c.prepare.ensures.current c.in_ok-place.ensures.place c.index_mut.ensures.value)
-
-pub mark-requires-clause-water : goal.mark-requires-clause-water
-mark-requires-clause-water g c =
-    let past = c.args.past.now in
-    (current_at g.K.KeyWindows.key_of g.K.KeyWindows.fits g.K.KeyWindows.next_position past.defs past.sources past.journal c.prepare.new.self c.args.key.now c.in_ok-place.place c.index_mut.result.now c.prepare.ensures.current c.in_ok-place.ensures.place c.index_mut.ensures.value).is_water
+    let slot = c.index_mut.result.now in
+    let was = current_at g.K.KeyWindows.key_of g.K.KeyWindows.fits g.K.KeyWindows.next_position past.defs past.sources past.journal c.prepare.new.self c.args.key.now c.in_ok-place.place slot c.prepare.ensures.current c.in_ok-place.ensures.place c.index_mut.ensures.value in
+    let water : slot.water ≡ water_of past.sources past.journal = ap (λ s. s.water) c.index_mut.ensures.value ∙ c.in_ok-place.ensures.water slot in
+    rw c.defs-defs.ensures.value (record {
+      stands = has_lists g.K.KeyWindows.key_of g.K.KeyWindows.fits g.K.KeyWindows.next_position past.defs past.sources past.journal c.prepare.new.self c.args.key.now c.in_ok-place.place slot c.prepare.ensures.current c.in_ok-place.ensures.place c.index_mut.ensures.value;
+      within = c.requires.within;
+      is_water = was.is_water;
+      accepted = omega (arith, water, c.requires.accepted);
+    })
 
 pub due-requires-clause-stands : goal.due-requires-clause-stands
 due-requires-clause-stands g c =
@@ -47,8 +49,8 @@ due-requires-clause-water g c =
     let was = current_at g.K.KeyWindows.key_of g.K.KeyWindows.fits g.K.KeyWindows.next_position past.defs past.sources past.journal c.prepare.new.self c.args.key.now c.in_ok-place.place c.index_mut.result.now c.prepare.ensures.current c.in_ok-place.ensures.place c.index_mut.ensures.value in
     subst (λ (s : Slot g.row.K.Denot). IsWater s.water) (sym there) (subst IsWater (sym c.in_ok-mark.ensures.water) was.is_water)
 
-pub returns-in_err-mark-clause-refused : goal.returns-in_err-mark-clause-refused
-returns-in_err-mark-clause-refused g c =
+pub returns-in_err-mark-clause-taken : goal.returns-in_err-mark-clause-taken
+returns-in_err-mark-clause-taken g c e is =
     let key_of = g.K.KeyWindows.key_of in
     let fits = g.K.KeyWindows.fits in
     let next = g.K.KeyWindows.next_position in
@@ -57,10 +59,16 @@ returns-in_err-mark-clause-refused g c =
     let place = c.in_ok-place.place in
     let due = get_or table.dues.items place 0 in
     let was = current_at key_of fits next past.defs past.sources past.journal table c.args.key.now place c.index_mut.result.now c.prepare.ensures.current c.in_ok-place.ensures.place c.index_mut.ensures.value in
-    on_err c.from_residual-in_err-mark.result
-    (replaced key_of fits next past.defs past.sources past.journal past.journal table _ c.args.key.now place c.mark.new.self due c.prepare.ensures.current c.in_ok-place.ensures.place refl refl
-    (sym (set-get_or table.dues.items place 0)) (λ q ne. same_for past.defs past.sources past.journal q) (omega arith) refl
-    (alike key_of fits next past.defs past.sources past.journal c.args.key.now c.index_mut.result.now c.mark.new.self due (rw (← c.defs-defs.ensures.value) c.in_err-mark.ensures.refused) was))
+    record {
+      taken = search rules;
+      changes = search rules;
+      refused = on_err c.from_residual-in_err-mark.result
+          (replaced key_of fits next past.defs past.sources past.journal past.journal table _ c.args.key.now place c.mark.new.self due c.prepare.ensures.current c.in_ok-place.ensures.place refl refl
+          (sym (set-get_or table.dues.items place 0)) (λ q ne. same_for past.defs past.sources past.journal q) (omega arith) refl
+          (alike key_of fits next past.defs past.sources past.journal c.args.key.now c.index_mut.result.now c.mark.new.self due (rw (← c.defs-defs.ensures.value) c.in_err-mark.ensures.refused.same) was));
+      nothing = search rules;
+      no_step = search rules;
+    }
 
 pub returns-clause-taken : goal.returns-clause-taken
 returns-clause-taken g c e is =
@@ -80,33 +88,21 @@ returns-clause-taken g c e is =
     let there : c.index.result.now ≡ new = c.index.ensures ∙ get_or-set_same table.slots.items place new c.index.result.now (current.placed key place c.in_ok-place.ensures.place) in
     let kept = kept_of d.lateness past.sources key past.journal in
     let marks = marks_of d.lateness past.sources key past.journal in
-    rw (← c.defs-defs.ensures.value)
-    (keyed_table key_of fits next d past.sources past.journal e key (ap key_in is) table _ place slot new c.due.result current c.in_ok-place.ensures.place c.index_mut.ensures.value water refl refl c.set.ensures
-    c.in_ok-mark.ensures.key c.in_ok-mark.ensures.water (omega (arith, c.in_ok-mark.ensures.next, (current_at key_of fits next d past.sources past.journal table key place slot current c.in_ok-place.ensures.place c.index_mut.ensures.value).position))
-    (λ f. rw (kept_with_mark d past.sources past.journal e key c.args.time is accepted, marks_with_mark d past.sources past.journal e key c.args.time is accepted) (c.in_ok-mark.ensures.fits kept marks f))
-    (λ kept marks f. subst (λ (s : Slot g.row.K.Denot). IsQuiet fits d (key_of s.state) kept marks s.water s.state c.due.result) there (c.due.ensures kept marks (subst (λ (s : Slot g.row.K.Denot). fits d kept marks s.water s.state) (sym there) f))))
-
-pub returns-clause-changes : goal.returns-clause-changes
-returns-clause-changes g c e is =
-    let key_of = g.K.KeyWindows.key_of in
-    let fits = g.K.KeyWindows.fits in
-    let next = g.K.KeyWindows.next_position in
-    let past = c.args.past.now in
-    let d = c.defs-defs.result.now in
-    let table = c.prepare.new.self in
-    let key = c.args.key.now in
-    let place = c.in_ok-place.place in
-    let slot = c.index_mut.result.now in
-    let accepted : water_of past.sources past.journal ≤ c.args.time + d.lateness = rw c.defs-defs.ensures.value c.requires.accepted in
-    let current : AreCurrent key_of fits next d past.sources past.journal table = rw c.defs-defs.ensures.value c.prepare.ensures.current in
-    let water : slot.water ≡ water_of past.sources past.journal = ap (λ s. s.water) c.index_mut.ensures.value ∙ c.in_ok-place.ensures.water slot in
     let was : IsCurrent key_of fits next d past.sources past.journal key slot (get_or table.dues.items place 0) = current_at key_of fits next d past.sources past.journal table key place slot current c.in_ok-place.ensures.place c.index_mut.ensures.value in
-    let kept = kept_of d.lateness past.sources key past.journal in
-    let marks = marks_of d.lateness past.sources key past.journal in
-    c.in_ok-mark.ensures.changes kept marks was.stands
-    ∙ (λ i. c.args.out.now.items ++ changes_by_mark d (was.of_key i) kept marks (water i) c.args.time)
-    ∙ ap (λ l. c.args.out.now.items ++ l) (sym (changes_of_mark d past.sources past.journal e key c.args.time is accepted (rw c.defs-defs.ensures.value c.defs-defs.ensures.limits)))
-    ∙ ap (λ x. c.args.out.now.items ++ changes_after x past.sources past.journal e) c.defs-defs.ensures.value
+    record {
+      taken = rw (← c.defs-defs.ensures.value)
+          (keyed_table key_of fits next d past.sources past.journal e key (ap key_in is) table _ place slot new c.due.result current c.in_ok-place.ensures.place c.index_mut.ensures.value water refl refl c.set.ensures
+          c.in_ok-mark.ensures.key c.in_ok-mark.ensures.water (omega (arith, c.in_ok-mark.ensures.next, (current_at key_of fits next d past.sources past.journal table key place slot current c.in_ok-place.ensures.place c.index_mut.ensures.value).position))
+          (λ f. rw (kept_with_mark d past.sources past.journal e key c.args.time is accepted, marks_with_mark d past.sources past.journal e key c.args.time is accepted) (c.in_ok-mark.ensures.fits kept marks f))
+          (λ kept marks f. subst (λ (s : Slot g.row.K.Denot). IsQuiet fits d (key_of s.state) kept marks s.water s.state c.due.result) there (c.due.ensures kept marks (subst (λ (s : Slot g.row.K.Denot). fits d kept marks s.water s.state) (sym there) f))));
+      changes = c.in_ok-mark.ensures.changes kept marks was.stands
+          ∙ (λ i. c.args.out.now.items ++ changes_by_mark d (was.of_key i) kept marks (water i) c.args.time)
+          ∙ ap (λ l. c.args.out.now.items ++ l) (sym (changes_of_mark d past.sources past.journal e key c.args.time is accepted (rw c.defs-defs.ensures.value c.defs-defs.ensures.limits)))
+          ∙ ap (λ x. c.args.out.now.items ++ changes_after x past.sources past.journal e) c.defs-defs.ensures.value;
+      refused = tt;
+      nothing = tt;
+      no_step = tt;
+    }
 
 pub returns-clause-work : goal.returns-clause-work
 returns-clause-work g c e is =

@@ -1,5 +1,5 @@
 -- One state more is moved.
-use Rattle.std.proofs.Common.{◌≡◌, ◌∙◌, ◌<◌, ◌-◌, ◌++◌, ap, arith, get_or, length, subst, sym, take}
+use Rattle.std.proofs.Common.{◌≡◌, ◌≤◌, ◌∙◌, ◌<◌, ◌-◌, ◌++◌, ap, arith, get_or, length, subst, sym, take}
 use Rattle.std.specs.Prelude.{vec_capacity, vec_len}
 use Rattle.std.specs.List.{flat_map}
 use Rattle.std.proofs.lemmas.List.{take_all}
@@ -20,25 +20,30 @@ move_at-requires-clause-spare g c x =
     ap (λ (s : Slot g.row.K.Denot). promised s.state) (m.outside (get_or places i 0) x (λ j jl. c.requires.movable.apart j i jl within)) in
     omega (arith, same, m.room x, sum_by-drop_more (λ p. promised (get_or c.args.self.now.slots.items p x).state) places i 0 within)
 
-pub move_at-requires-clause-stands : goal.move_at-requires-clause-stands
-move_at-requires-clause-stands g c x =
+pub move_at-requires-clause-movable : goal.move_at-requires-clause-movable
+move_at-requires-clause-movable g c =
     let i = c.loop-place.place-index in
     let places = c.args.places.now in
     let within : i < length places = omega arith in
-    let untouched : get_or c.loop-place.self.slots.items (get_or places i 0) x ≡ get_or c.args.self.now.slots.items (get_or places i 0) x =
-    c.loop-place.invariant.1.outside (get_or places i 0) x (λ j jl. c.requires.movable.apart j i jl within) in
-    subst (λ (s : Slot g.row.K.Denot). HasLists g.K.KeyWindows.fits c.args.defs.now s) (sym untouched) (c.requires.movable.stand i within x)
+    let m = c.loop-place.invariant.1 in
+    let untouched = λ (x : Slot g.row.K.Denot). m.outside (get_or places i 0) x (λ j jl. c.requires.movable.apart j i jl within) in
+    record {
+      within = omega (arith, c.requires.movable.within i within, m.as_many);
+      stands = λ x. subst (λ (s : Slot g.row.K.Denot). HasLists g.K.KeyWindows.fits c.args.defs.now s) (sym (untouched x)) (c.requires.movable.stand i within x);
+      rises = λ x. subst (λ (s : Slot g.row.K.Denot). s.water ≤ c.args.new) (sym (untouched x)) (c.requires.movable.rises i within x);
+      is_water = c.requires.movable.is_water;
+    }
 
 pub loop-place-preserved : goal.loop-place-preserved
 loop-place-preserved g c =
     let i = c.loop-place.place-index in
     let places = c.args.places.now in
     let within : i < length places = omega arith in (
-      c.move_at.ensures.index ∙ c.loop-place.invariant.0,
+      c.move_at.ensures.table.index ∙ c.loop-place.invariant.0,
       one_moved g.K.KeyWindows.key_of g.K.KeyWindows.fits g.K.KeyWindows.next_position c.args.defs.now (g.K.KeyWindows.is_ready c.args.defs.now) g.K.KeyWindows.promised c.args.new places i
           c.args.self.now.slots.items c.loop-place.self.slots.items c.move_at.new.self.slots.items c.args.self.now.dues.items c.loop-place.self.dues.items c.move_at.new.self.dues.items c.args.out.now.items c.loop-place.out.items c.move_at.new.out.items
           (vec_capacity c.loop-place.out - vec_len c.loop-place.out) (vec_capacity c.move_at.new.out - vec_len c.move_at.new.out)
-          within c.requires.movable.apart c.loop-place.invariant.1 c.move_at.ensures.len c.move_at.ensures.dues_len c.move_at.ensures.others c.move_at.ensures.other_dues c.move_at.ensures.moved c.move_at.ensures.changes
+          within c.requires.movable.apart c.loop-place.invariant.1 c.move_at.ensures.table.as_many c.move_at.ensures.table.as_many_dues c.move_at.ensures.others c.move_at.ensures.other_dues c.move_at.ensures.moved c.move_at.ensures.changes
           (λ x. omega (arith, c.move_at.ensures.room x, c.move_at.ensures.capacity)),
       λ z. absurd (omega arith),
     )

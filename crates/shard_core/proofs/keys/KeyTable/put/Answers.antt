@@ -1,5 +1,5 @@
 -- The state of the key takes in the tuple, or the table stays.
-use Rattle.std.proofs.Common.{◌≡◌, ◌∙◌, ◌≤◌, ◌+◌, ◌++◌, ℤ, w64, ap, arith, get_or, get_or-set_same, length, refl, subst, sym}
+use Rattle.std.proofs.Common.{◌≡◌, ◌∙◌, ◌≤◌, ◌+◌, ◌++◌, ℤ, w64, ap, arith, get_or, get_or-set_same, length, refl, rules, subst, sym}
 use Rattle.std.proofs.lemmas.Int.{to_z-of_z}
 use Rattle.std.proofs.lemmas.List.{set-get_or}
 use Rattle.stream_base.specs.Model.Journal.{kept_of, marks_of, put_in_order}
@@ -19,16 +19,18 @@ put-requires-clause-position g c =
     let was = current_at g.K.KeyWindows.key_of g.K.KeyWindows.fits g.K.KeyWindows.next_position c.args.past.now.defs c.args.past.now.sources c.args.past.now.journal c.prepare.new.self c.args.key.now c.in_ok-place.place c.index_mut.result.now c.prepare.ensures.current c.in_ok-place.ensures.place c.index_mut.ensures.value in
     subst (λ l. g.K.KeyWindows.next_position c.index_mut.result.now.state ≤ length l) (sym c.journal.ensures.value) was.position
 
-pub put-requires-clause-stands : goal.put-requires-clause-stands
-put-requires-clause-stands g c =
+pub put-requires-clause-accepted : goal.put-requires-clause-accepted
+put-requires-clause-accepted g c =
     let past = c.args.past.now in
-    rw c.defs-defs.ensures.value
-    (has_lists g.K.KeyWindows.key_of g.K.KeyWindows.fits g.K.KeyWindows.next_position past.defs past.sources past.journal c.prepare.new.self c.args.key.now c.in_ok-place.place c.index_mut.result.now c.prepare.ensures.current c.in_ok-place.ensures.place c.index_mut.ensures.value)
-
-pub put-requires-clause-water : goal.put-requires-clause-water
-put-requires-clause-water g c =
-    let past = c.args.past.now in
-    (current_at g.K.KeyWindows.key_of g.K.KeyWindows.fits g.K.KeyWindows.next_position past.defs past.sources past.journal c.prepare.new.self c.args.key.now c.in_ok-place.place c.index_mut.result.now c.prepare.ensures.current c.in_ok-place.ensures.place c.index_mut.ensures.value).is_water
+    let slot = c.index_mut.result.now in
+    let was = current_at g.K.KeyWindows.key_of g.K.KeyWindows.fits g.K.KeyWindows.next_position past.defs past.sources past.journal c.prepare.new.self c.args.key.now c.in_ok-place.place slot c.prepare.ensures.current c.in_ok-place.ensures.place c.index_mut.ensures.value in
+    let water : slot.water ≡ water_of past.sources past.journal = ap (λ s. s.water) c.index_mut.ensures.value ∙ c.in_ok-place.ensures.water slot in
+    rw c.defs-defs.ensures.value (record {
+      stands = has_lists g.K.KeyWindows.key_of g.K.KeyWindows.fits g.K.KeyWindows.next_position past.defs past.sources past.journal c.prepare.new.self c.args.key.now c.in_ok-place.place slot c.prepare.ensures.current c.in_ok-place.ensures.place c.index_mut.ensures.value;
+      within = c.requires.accepted.within;
+      is_water = was.is_water;
+      accepted = omega (arith, water, c.requires.accepted.accepted);
+    })
 
 pub due-requires-clause-stands : goal.due-requires-clause-stands
 due-requires-clause-stands g c =
@@ -51,8 +53,8 @@ due-requires-clause-water g c =
     let was = current_at g.K.KeyWindows.key_of g.K.KeyWindows.fits g.K.KeyWindows.next_position past.defs past.sources past.journal c.prepare.new.self c.args.key.now c.in_ok-place.place c.index_mut.result.now c.prepare.ensures.current c.in_ok-place.ensures.place c.index_mut.ensures.value in
     subst (λ (s : Slot g.row.K.Denot). IsWater s.water) (sym there) (subst IsWater (sym c.in_ok-put.ensures.water) was.is_water)
 
-pub returns-in_err-put-clause-refused : goal.returns-in_err-put-clause-refused
-returns-in_err-put-clause-refused g c =
+pub returns-in_err-put-clause-taken : goal.returns-in_err-put-clause-taken
+returns-in_err-put-clause-taken g c e is =
     let key_of = g.K.KeyWindows.key_of in
     let fits = g.K.KeyWindows.fits in
     let next = g.K.KeyWindows.next_position in
@@ -61,10 +63,16 @@ returns-in_err-put-clause-refused g c =
     let place = c.in_ok-place.place in
     let due = get_or table.dues.items place 0 in
     let was = current_at key_of fits next past.defs past.sources past.journal table c.args.key.now place c.index_mut.result.now c.prepare.ensures.current c.in_ok-place.ensures.place c.index_mut.ensures.value in
-    on_err c.from_residual-in_err-put.result
-    (replaced key_of fits next past.defs past.sources past.journal past.journal table _ c.args.key.now place c.put.new.self due c.prepare.ensures.current c.in_ok-place.ensures.place refl refl
-    (sym (set-get_or table.dues.items place 0)) (λ q ne. same_for past.defs past.sources past.journal q) (omega arith) refl
-    (alike key_of fits next past.defs past.sources past.journal c.args.key.now c.index_mut.result.now c.put.new.self due (rw (← c.defs-defs.ensures.value) c.in_err-put.ensures.refused) was))
+    record {
+      taken = search rules;
+      changes = search rules;
+      refused = on_err c.from_residual-in_err-put.result
+          (replaced key_of fits next past.defs past.sources past.journal past.journal table _ c.args.key.now place c.put.new.self due c.prepare.ensures.current c.in_ok-place.ensures.place refl refl
+          (sym (set-get_or table.dues.items place 0)) (λ q ne. same_for past.defs past.sources past.journal q) (omega arith) refl
+          (alike key_of fits next past.defs past.sources past.journal c.args.key.now c.index_mut.result.now c.put.new.self due (rw (← c.defs-defs.ensures.value) c.in_err-put.ensures.refused.same) was));
+      nothing = search rules;
+      no_step = search rules;
+    }
 
 pub returns-clause-taken : goal.returns-clause-taken
 returns-clause-taken g c e is =
@@ -77,7 +85,7 @@ returns-clause-taken g c e is =
     let key = c.args.key.now in
     let place = c.in_ok-place.place in
     let slot = c.index_mut.result.now in
-    let accepted : water_of past.sources past.journal ≤ c.args.time + d.lateness = rw c.defs-defs.ensures.value c.requires.accepted in
+    let accepted : water_of past.sources past.journal ≤ c.args.time + d.lateness = rw c.defs-defs.ensures.value c.requires.accepted.accepted in
     let current : AreCurrent key_of fits next d past.sources past.journal table = rw c.defs-defs.ensures.value c.prepare.ensures.current in
     let water : slot.water ≡ water_of past.sources past.journal = ap (λ s. s.water) c.index_mut.ensures.value ∙ c.in_ok-place.ensures.water slot in
     let same = to_z-of_z w64 c.args.value c.ranges.value in
@@ -86,37 +94,23 @@ returns-clause-taken g c e is =
     let there : c.index.result.now ≡ new = c.index.ensures ∙ get_or-set_same table.slots.items place new c.index.result.now (current.placed key place c.in_ok-place.ensures.place) in
     let kept = kept_of d.lateness past.sources key past.journal in
     let marks = marks_of d.lateness past.sources key past.journal in
-    rw (← c.defs-defs.ensures.value)
-    (keyed_table key_of fits next d past.sources past.journal e key (ap key_in is) table _ place slot new c.due.result current c.in_ok-place.ensures.place c.index_mut.ensures.value water refl refl c.set.ensures
-    c.in_ok-put.ensures.key c.in_ok-put.ensures.water (omega (arith, c.in_ok-put.ensures.next, at))
-    (λ f. rw (kept_with_tuple d past.sources past.journal e key c.args.time c.args.value is accepted, marks_with_tuple d past.sources past.journal e key c.args.time c.args.value is accepted)
-    (subst (λ n. fits d (put_in_order kept (kept_at n c.args.time c.args.value)) marks new.water new.state) at
-    (subst (λ (v : ℤ). fits d (put_in_order kept (kept_at (length c.journal.result.now) c.args.time v)) marks new.water new.state) same (c.in_ok-put.ensures.fits kept marks f))))
-    (λ kept marks f. subst (λ (s : Slot g.row.K.Denot). IsQuiet fits d (key_of s.state) kept marks s.water s.state c.due.result) there (c.due.ensures kept marks (subst (λ (s : Slot g.row.K.Denot). fits d kept marks s.water s.state) (sym there) f))))
-
-pub returns-clause-changes : goal.returns-clause-changes
-returns-clause-changes g c e is =
-    let key_of = g.K.KeyWindows.key_of in
-    let fits = g.K.KeyWindows.fits in
-    let next = g.K.KeyWindows.next_position in
-    let past = c.args.past.now in
-    let d = c.defs-defs.result.now in
-    let table = c.prepare.new.self in
-    let key = c.args.key.now in
-    let place = c.in_ok-place.place in
-    let slot = c.index_mut.result.now in
-    let accepted : water_of past.sources past.journal ≤ c.args.time + d.lateness = rw c.defs-defs.ensures.value c.requires.accepted in
-    let current : AreCurrent key_of fits next d past.sources past.journal table = rw c.defs-defs.ensures.value c.prepare.ensures.current in
-    let water : slot.water ≡ water_of past.sources past.journal = ap (λ s. s.water) c.index_mut.ensures.value ∙ c.in_ok-place.ensures.water slot in
-    let same = to_z-of_z w64 c.args.value c.ranges.value in
-    let at : length c.journal.result.now ≡ length past.journal = ap length c.journal.ensures.value in
     let was : IsCurrent key_of fits next d past.sources past.journal key slot (get_or table.dues.items place 0) = current_at key_of fits next d past.sources past.journal table key place slot current c.in_ok-place.ensures.place c.index_mut.ensures.value in
-    let kept = kept_of d.lateness past.sources key past.journal in
-    let marks = marks_of d.lateness past.sources key past.journal in
-    c.in_ok-put.ensures.changes kept marks was.stands
-    ∙ (λ i. c.args.out.now.items ++ changes_by_put d (was.of_key i) kept marks (water i) (kept_at (at i) c.args.time (same i)))
-    ∙ ap (λ l. c.args.out.now.items ++ l) (sym (changes_of_tuple d past.sources past.journal e key c.args.time c.args.value is accepted (rw c.defs-defs.ensures.value c.defs-defs.ensures.limits)))
-    ∙ ap (λ x. c.args.out.now.items ++ changes_after x past.sources past.journal e) c.defs-defs.ensures.value
+    record {
+      taken = rw (← c.defs-defs.ensures.value)
+          (keyed_table key_of fits next d past.sources past.journal e key (ap key_in is) table _ place slot new c.due.result current c.in_ok-place.ensures.place c.index_mut.ensures.value water refl refl c.set.ensures
+          c.in_ok-put.ensures.key c.in_ok-put.ensures.water (omega (arith, c.in_ok-put.ensures.next, at))
+          (λ f. rw (kept_with_tuple d past.sources past.journal e key c.args.time c.args.value is accepted, marks_with_tuple d past.sources past.journal e key c.args.time c.args.value is accepted)
+          (subst (λ n. fits d (put_in_order kept (kept_at n c.args.time c.args.value)) marks new.water new.state) at
+          (subst (λ (v : ℤ). fits d (put_in_order kept (kept_at (length c.journal.result.now) c.args.time v)) marks new.water new.state) same (c.in_ok-put.ensures.fits kept marks f))))
+          (λ kept marks f. subst (λ (s : Slot g.row.K.Denot). IsQuiet fits d (key_of s.state) kept marks s.water s.state c.due.result) there (c.due.ensures kept marks (subst (λ (s : Slot g.row.K.Denot). fits d kept marks s.water s.state) (sym there) f))));
+      changes = c.in_ok-put.ensures.changes kept marks was.stands
+          ∙ (λ i. c.args.out.now.items ++ changes_by_put d (was.of_key i) kept marks (water i) (kept_at (at i) c.args.time (same i)))
+          ∙ ap (λ l. c.args.out.now.items ++ l) (sym (changes_of_tuple d past.sources past.journal e key c.args.time c.args.value is accepted (rw c.defs-defs.ensures.value c.defs-defs.ensures.limits)))
+          ∙ ap (λ x. c.args.out.now.items ++ changes_after x past.sources past.journal e) c.defs-defs.ensures.value;
+      refused = tt;
+      nothing = tt;
+      no_step = tt;
+    }
 
 pub returns-clause-work : goal.returns-clause-work
 returns-clause-work g c e is =
@@ -129,7 +123,7 @@ returns-clause-work g c e is =
     let key = c.args.key.now in
     let place = c.in_ok-place.place in
     let slot = c.index_mut.result.now in
-    let accepted : water_of past.sources past.journal ≤ c.args.time + d.lateness = rw c.defs-defs.ensures.value c.requires.accepted in
+    let accepted : water_of past.sources past.journal ≤ c.args.time + d.lateness = rw c.defs-defs.ensures.value c.requires.accepted.accepted in
     let current : AreCurrent key_of fits next d past.sources past.journal table = rw c.defs-defs.ensures.value c.prepare.ensures.current in
     let water : slot.water ≡ water_of past.sources past.journal = ap (λ s. s.water) c.index_mut.ensures.value ∙ c.in_ok-place.ensures.water slot in
     let same = to_z-of_z w64 c.args.value c.ranges.value in

@@ -16,14 +16,19 @@ returns-then-is_late-clause-taken g c =
     let past = c.args.past.now in
     let e = c.args.entry.now in
     let late : is_late past.defs.lateness (water_of past.sources past.journal) e.what ≡ true = sym c.is_late.ensures ∙ c.if-is_late.true in
-    still_table g.K.KeyWindows.key_of g.K.KeyWindows.fits g.K.KeyWindows.next_position past.defs past.sources past.journal c.args.self.now e (late_stays past.defs past.sources past.journal e late) (late_leaves_water past.defs.lateness past.sources past.journal e late) c.requires.current
+    record {
+      taken = still_table g.K.KeyWindows.key_of g.K.KeyWindows.fits g.K.KeyWindows.next_position past.defs past.sources past.journal c.args.self.now e (late_stays past.defs past.sources past.journal e late) (late_leaves_water past.defs.lateness past.sources past.journal e late) c.requires.comes.current;
+      changes = c.in_ok-push.ensures.items ∙ ap (λ ys. c.args.out.now.items ++ ys) (sym (late_is_dropped past.defs past.sources past.journal e late));
+      refused = tt;
+      nothing = tt;
+      no_step = tt;
+    }
 
-pub returns-then-is_late-clause-changes : goal.returns-then-is_late-clause-changes
-returns-then-is_late-clause-changes g c =
-    let past = c.args.past.now in
-    let e = c.args.entry.now in
-    let late : is_late past.defs.lateness (water_of past.sources past.journal) e.what ≡ true = sym c.is_late.ensures ∙ c.if-is_late.true in
-    c.in_ok-push.ensures.items ∙ ap (λ ys. c.args.out.now.items ++ ys) (sym (late_is_dropped past.defs past.sources past.journal e late))
+pub returns-in-Tuple-clause-taken : goal.returns-in-Tuple-clause-taken
+returns-in-Tuple-clause-taken g c = c.put.ensures.taken c.args.entry.now (search rules)
+
+pub returns-in-Mark-clause-taken : goal.returns-in-Mark-clause-taken
+returns-in-Mark-clause-taken g c = c.mark.ensures.taken c.args.entry.now (search rules)
 
 pub returns-in-Tuple-clause-tuple_work : goal.returns-in-Tuple-clause-tuple_work
 returns-in-Tuple-clause-tuple_work g c =

@@ -7,4 +7,4 @@ pub invariant_of-self : goal.invariant_of-self
 invariant_of-self c =
     past_push c.self.inside _ c.args.entry.now c.self.invariant refl refl c.note.ensures.sources c.note.ensures.lateness
     (c.note.ensures.stands c.self.inside.journal.items c.self.invariant.waters) c.push_reserved.ensures.items
-    (rw (← c.self.view_is) at c.requires.source) c.requires.within (rw (← c.self.view_is) at c.requires.open) (rw (← c.self.view_is) at c.requires.few)
+    (rw (← c.self.view_is) at c.requires.next)
