@@ -1,5 +1,5 @@
 -- From the desks that were opened and the feeds that were read to what is handed back.
-use Rattle.std.proofs.Common.{◌≡◌, ◌<◌, arith, ℕ, List, [], ◌++◌, length, get_or, sym, refl, ap, subst, ◌∙◌, inr, ◌⊎◌, ⊎_elim, Option, Some, None}
+use Rattle.std.proofs.Common.{◌≡◌, ◌≤◌, ◌<◌, arith, ℕ, List, [], ◌++◌, length, get_or, sym, refl, ap, subst, ◌∙◌, inr, ◌⊎◌, ⊎_elim, Option, Some, None}
 use Rattle.std.specs.Prelude.{All, IfSome, Vec}
 use Rattle.std.specs.declared.alloc.Global.{Global}
 use Rattle.stream_base.specs.declared.entry.Entry.{Entry}
@@ -17,7 +17,7 @@ use Rattle.fan_in.specs.Closings.{AreStanding, IsClosed, IsSettled}
 use Rattle.fan_in.specs.Desks.{BookedState}
 use Rattle.fan_in.specs.Floors.{AreSeats, IsFloor}
 use Rattle.fan_in.specs.Gathering.{Bears, HoldsPart, IsBack, IsFault, IsFresh, NamesOneOf}
-use Rattle.fan_in.specs.Reading.{AreSame, HasMade, HaveMade, IsReady, MadeOwn}
+use Rattle.fan_in.specs.Reading.{AreSame, HasMade, HaveMade, IsReadyAt, MadeOwn}
 use Rattle.fan_in.specs.Works.{without_shards}
 use Rattle.fan_in.specs.declared.fixed_part.FixedPart.{FixedPart}
 use Rattle.fan_in.specs.declared.outcome.Outcome.{Outcome}
@@ -51,18 +51,26 @@ back_of state faults a x y o p e choice b =
     (⊎_elim (λ w. subst (λ q. IsBack (state a) (state x) q (faults a) (faults x)) (sym w) (back_without (state a) (state x) o (faults a) (faults x) b)) (λ w. subst (λ q. IsBack (state a) (state x) q (faults a) (faults x)) (sym w) b) choice)
 
 module _ {g : Ghosts BookedState Entry FixedPart} where
+  -- a feed that wasn't read is ready to be read at the desks of its seats
   pub ready : (start : FeedState FeedFault) (i : ℕ) (desks : List (Turnstile BookedState Entry FixedPart)) (f : FixedPart) (row : List (Pass BookedState Entry FixedPart g)) → IsFresh i start → AreSeats (Some f) i desks row → All (λ p. made p ≡ []) row → i < f.sources
-      → IsReady start Done row
-  ready start i desks f row fresh seats blank l = record {
-    running = fresh.running;
-    unanswered = fresh.unanswered;
-    whole = fresh.whole;
-    done = refl;
-    known = λ k p lk.
-        let ld : k < length desks = let m = seats.many in omega arith in
-        let seat = seats.each k (some_of desks k ld) p ld in
-        subst (λ (o : Option FixedPart). IfSome o (λ f. start.source < f.sources)) (sym seat.fixed_is) (subst (λ s. s < f.sources) (sym fresh.of_source) l);
-    blank = blank;
+      → length desks ≤ 16 → IsReadyAt desks start Done row
+  ready start i desks f row fresh seats blank l few = record {
+    stand = record {
+      few = few;
+      many = seats.many;
+      own = λ k d p lk. (seats.each k d p (let m = seats.many in omega arith)).own;
+    };
+    ready = record {
+      running = fresh.running;
+      unanswered = fresh.unanswered;
+      whole = fresh.whole;
+      done = refl;
+      known = λ k p lk.
+          let ld : k < length desks = let m = seats.many in omega arith in
+          let seat = seats.each k (some_of desks k ld) p ld in
+          subst (λ (o : Option FixedPart). IfSome o (λ f. start.source < f.sources)) (sym seat.fixed_is) (subst (λ s. s < f.sources) (sym fresh.of_source) l);
+      blank = blank;
+    };
   }
 
   pub standing : (f : Option FixedPart) (sources : ℕ) (desks : List (Turnstile BookedState Entry FixedPart)) (zeros : List (Pass BookedState Entry FixedPart g)) (rows rows' : List (Vec (Pass BookedState Entry FixedPart g) Global))

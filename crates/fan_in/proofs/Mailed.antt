@@ -20,9 +20,11 @@ use Rattle.fan_in.proofs.Outcomes.{back_follows}
 -- a feed that wasn't read is ready to be read and sent
 pub ready : (start : FeedState FeedFault) (i : ℕ) (lanes : List Lane) (row : List (SenderState Entry)) → length lanes ≤ 16 → IsFresh i start → AreBoxesOf i lanes row → All (λ s. s.sent ≡ []) row → IsReadyToSend lanes start Done row
 ready start i lanes row few fresh boxes blank = record {
-  few = few;
-  many = boxes.many;
-  own = λ k l s lt. (boxes.each k l s (let m = boxes.many in omega arith)).lane_is;
+  lanes_are = record {
+    few = few;
+    many = boxes.many;
+    own = λ k l s lt. (boxes.each k l s (let m = boxes.many in omega arith)).lane_is;
+  };
   running = fresh.running;
   unanswered = fresh.unanswered;
   whole = fresh.whole;

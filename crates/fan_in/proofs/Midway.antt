@@ -14,13 +14,14 @@ use Rattle.source_feed.specs.declared.feed_fault.FeedFault.{FeedFault}
 use Rattle.source_feed.specs.declared.feed_fault.FeedFault.TheVariants.{Read, NoMemory}
 use Rattle.turnstile.specs.declared.keeps.Keeps.{Ghosts}
 use Rattle.turnstile.specs.declared.pass.Pass.{Pass}
+use Rattle.turnstile.specs.declared.turnstile.Turnstile.{Turnstile}
 use Rattle.turnstile.specs.Passes.{made}
 use Rattle.fan_in.specs.Desks.{BookedState}
 use Rattle.fan_in.specs.declared.fixed_part.FixedPart.{FixedPart}
 use Rattle.fan_in.specs.declared.outcome.Outcome.{Outcome}
 use Rattle.fan_in.specs.declared.outcome.Outcome.TheVariants.{Done, Fault, Full}
 use Rattle.fan_in.specs.Gathering.{Bears, Shows, NamesOneOf}
-use Rattle.fan_in.specs.Reading.{AreSame, HasMade, HaveMade, IsHalfway, IsReady, IsRead, MadeOwn, TakesMore}
+use Rattle.fan_in.specs.Reading.{AreSame, HasMade, HaveMade, IsHalfway, IsReady, IsReadyAt, IsRead, MadeOwn, StandAt, TakesMore, WasRead}
 
 -- a stream with these entries in front
 abbrev pub behind : List Entry → Stream → Stream
@@ -265,17 +266,25 @@ module _ {g : Ghosts BookedState Entry FixedPart} where
       rose (inl a) = let u = m.unanswered in absurd (cc)
       rose (inr r) = subst (λ (x : ℕ). Rose x n') m.quiet r
 
+  -- the passes still stand at their desks
+  pub still_at : (desks : List (Turnstile BookedState Entry FixedPart)) (old new : List (Pass BookedState Entry FixedPart g)) → StandAt desks old → AreSame old new → StandAt desks new
+  still_at desks old new h s = record {
+    few = h.few;
+    many = s.many ∙ h.many;
+    own = λ k d p l.
+        let lo : k < length old = let m = s.many in omega arith in
+        (s.same k p lo).turnstile ∙ h.own k d p lo;
+  }
+
   -- the same facts of equal values
-  pub ready_of : {X : Type 0} (state : X → FeedState FeedFault) (a b : X) (o : Outcome) (ps qs : List (Pass BookedState Entry FixedPart g)) → a ≡ b → o ≡ Done → ps ≡ qs → IsReady (state b) Done qs → IsReady (state a) o ps
-  ready_of state a b o ps qs e d p h = subst (λ x. IsReady (state x) o ps) (sym e) (subst (λ x. IsReady (state b) x ps) (sym d) (subst (λ (x : List (Pass BookedState Entry FixedPart g)). IsReady (state b) Done x) (sym p) h))
+  pub ready_of : {X : Type 0} (state : X → FeedState FeedFault) (desks : List (Turnstile BookedState Entry FixedPart)) (a b : X) (o : Outcome) (ps qs : List (Pass BookedState Entry FixedPart g)) → a ≡ b → o ≡ Done → ps ≡ qs → IsReadyAt desks (state b) Done qs → IsReadyAt desks (state a) o ps
+  ready_of state desks a b o ps qs e d p h = subst (λ x. IsReadyAt desks (state x) o ps) (sym e) (subst (λ x. IsReadyAt desks (state b) x ps) (sym d) (subst (λ (x : List (Pass BookedState Entry FixedPart g)). IsReadyAt desks (state b) Done x) (sym p) h))
 
-  pub read_of : {X : Type 0} (state : X → FeedState FeedFault) (faults : X → ℕ) (shards : ℕ) (a b a' b' : X) (o o' : Outcome) (ps qs : List (Pass BookedState Entry FixedPart g)) → a ≡ b → a' ≡ b' → o ≡ o' → ps ≡ qs
-      → IsRead shards (state a) (state a') (faults a) (faults a') o ps → IsRead shards (state b) (state b') (faults b) (faults b') o' qs
-  read_of state faults shards a b a' b' o o' ps qs e e' q p h =
-      subst (λ x. IsRead shards (state x) (state b') (faults x) (faults b') o' qs) e
-      (subst (λ x. IsRead shards (state a) (state x) (faults a) (faults x) o' qs) e'
-      (subst (λ x. IsRead shards (state a) (state a') (faults a) (faults a') x qs) q
-      (subst (λ (x : List (Pass BookedState Entry FixedPart g)). IsRead shards (state a) (state a') (faults a) (faults a') o x) p h)))
-
-  pub same_of : (a b c d : List (Pass BookedState Entry FixedPart g)) → a ≡ b → c ≡ d → AreSame a c → AreSame b d
-  same_of a b c d e f h = subst (λ (x : List (Pass BookedState Entry FixedPart g)). AreSame x d) e (subst (λ (x : List (Pass BookedState Entry FixedPart g)). AreSame a x) f h)
+  pub read_of : {X : Type 0} (state : X → FeedState FeedFault) (faults : X → ℕ) (shards : ℕ) (a b a' b' : X) (o o' : Outcome) (ps qs rs ts : List (Pass BookedState Entry FixedPart g)) → a ≡ b → a' ≡ b' → o ≡ o' → ps ≡ qs → rs ≡ ts
+      → WasRead shards (state a) (state a') (faults a) (faults a') o ps rs → WasRead shards (state b) (state b') (faults b) (faults b') o' qs ts
+  read_of state faults shards a b a' b' o o' ps qs rs ts e e' q p r h =
+      subst (λ x. WasRead shards (state x) (state b') (faults x) (faults b') o' qs ts) e
+      (subst (λ x. WasRead shards (state a) (state x) (faults a) (faults x) o' qs ts) e'
+      (subst (λ x. WasRead shards (state a) (state a') (faults a) (faults a') x qs ts) q
+      (subst (λ (x : List (Pass BookedState Entry FixedPart g)). WasRead shards (state a) (state a') (faults a) (faults a') o x ts) p
+      (subst (λ (x : List (Pass BookedState Entry FixedPart g)). WasRead shards (state a) (state a') (faults a) (faults a') o ps x) r h))))

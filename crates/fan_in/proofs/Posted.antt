@@ -13,7 +13,7 @@ use Rattle.mail_lane.specs.declared.letter.Letter.{Letter}
 use Rattle.mail_lane.specs.Lane.{Lane, ReceiverState, SenderState, letter, AreSendersOf, IsReceiverOf, ReceivesOne}
 use Rattle.shard_core.specs.Shard.{Sharded}
 use Rattle.fan_in.specs.declared.owner.Owner.{Owner}
-use Rattle.fan_in.specs.Owning.{IsOwner, OwnsAfter, entries_in}
+use Rattle.fan_in.specs.Owning.{OwnsAfter, entries_in}
 use Rattle.fan_in.specs.declared.owner_job.OwnerJob.{OwnerJob}
 use Rattle.fan_in.specs.Posts.{GainBoxes, GainsBox, IsBoxOf, IsPost, OwnsLane}
 use Rattle.fan_in.proofs.Lists.{next_is, push_at}
@@ -93,25 +93,23 @@ box_more lane i all left left' old now sender row row' h senders unsent lo many 
 
 -- the owner of a lane from which nothing was taken yet
 pub owns_first : (d e : Definitions) (sources n k : ℕ) (lane : Lane) (receiver : ReceiverState Entry) (owner : Owner) (shard : Sharded) → e ≡ d → shard ≡ record { defs = e; sources = sources; journal = [] } → n ≡ k
-    → IsReceiverOf lane receiver → (receiver.taken ≡ []) × (receiver.back ≡ []) → IsOwner owner → OwnsAfter shard.defs sources n [] owner → OwnsLane d sources k lane (record { receiver = receiver; owner = owner })
-owns_first d e sources n k lane receiver owner shard same is number own none right after = record {
+    → IsReceiverOf lane receiver → (receiver.taken ≡ []) × (receiver.back ≡ []) → OwnsAfter shard.defs sources n [] owner → OwnsLane d sources k lane (record { receiver = receiver; owner = owner })
+owns_first d e sources n k lane receiver owner shard same is number own none after = record {
   own = own;
   back_none = none.1;
-  is = right;
   after = subst (λ (l : List (Letter Entry)). OwnsAfter d sources k (entries_in l) owner) (sym none.0)
       (subst (λ (j : ℕ). OwnsAfter d sources j [] owner) number (subst (λ (x : Definitions). OwnsAfter x sources n [] owner) (ap (λ (s : Sharded). s.defs) is ∙ same) after));
 }
 
 -- the owner applied what its receiver took
-pub owns_more : (d : Definitions) (sources k : ℕ) (lane : Lane) (old new : OwnerJob) (mid : ReceiverState Entry) (entry : Entry) → OwnsLane d sources k lane old → ReceivesOne (old.receiver) entry mid → mid ≡ new.receiver → IsOwner new.owner
+pub owns_more : (d : Definitions) (sources k : ℕ) (lane : Lane) (old new : OwnerJob) (mid : ReceiverState Entry) (entry : Entry) → OwnsLane d sources k lane old → ReceivesOne (old.receiver) entry mid → mid ≡ new.receiver
     → (OwnsAfter d sources k (entries_in (old.receiver).taken) old.owner → OwnsAfter d sources k (entries_in (old.receiver).taken ++ entry ∷ []) new.owner) → OwnsLane d sources k lane new
-owns_more d sources k lane old new mid entry h got is right step =
+owns_more d sources k lane old new mid entry h got is step =
     let after : ReceiverState Entry = record { lane = (old.receiver).lane; senders = (old.receiver).senders; taken = (old.receiver).taken ++ letter got.0 entry ∷ []; back = (old.receiver).back } in
     let now : new.receiver ≡ after = sym is ∙ got.2 in
     let taken : entries_in (new.receiver).taken ≡ entries_in (old.receiver).taken ++ entry ∷ [] = ap (λ (r : ReceiverState Entry). entries_in r.taken) now ∙ map-append (λ (x : Letter Entry). x.message) (old.receiver).taken (letter got.0 entry ∷ []) in
     record {
       own = (ap (λ (r : ReceiverState Entry). r.lane) now ∙ (h.own).0, ap (λ (r : ReceiverState Entry). r.senders) now ∙ (h.own).1);
       back_none = ap (λ (r : ReceiverState Entry). r.back) now ∙ h.back_none;
-      is = right;
       after = subst (λ (l : List Entry). OwnsAfter d sources k l new.owner) (sym taken) (step h.after);
     }

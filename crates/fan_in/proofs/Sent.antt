@@ -60,8 +60,6 @@ ends_routed shards k (x ∷ xs) h = by_route (goes_to shards k x.what) refl (end
 -- where a feed stands that has given some entries so far
 pub record IsSending (lanes : List Lane) (start now : FeedState FeedFault) (old new : ℕ) (outcome : Outcome) (first senders : List (SenderState Entry)) : Type 0 where
   pub given : List Entry
-  pub few : length lanes ≤ 16
-  pub many : length first ≡ length lanes
   pub lanes_are : SendOn lanes first
   pub same : AreSameSenders first senders
   pub source : now.source ≡ start.source
@@ -81,9 +79,7 @@ pub begin : (lanes : List Lane) (start : FeedState FeedFault) (n : ℕ) (outcome
     → IsReadyToSend lanes start outcome senders → IsSending lanes start start n n outcome senders senders
 begin lanes start n outcome senders r = record {
   given = [];
-  few = r.few;
-  many = r.many;
-  lanes_are = r.own;
+  lanes_are = r.lanes_are;
   same = same_refl senders;
   source = refl;
   unanswered = r.unanswered;
@@ -103,9 +99,13 @@ begin lanes start n outcome senders r = record {
 -- the senders of a feed that stands so are of their lanes
 pub still_on : (lanes : List Lane) (start now : FeedState FeedFault) (old new : ℕ) (outcome : Outcome) (first senders : List (SenderState Entry))
     → IsSending lanes start now old new outcome first senders → SendOn lanes senders
-still_on lanes start now old new outcome first senders m k l s lt =
-    let lf : k < length first = let a = (m.same).many in omega arith in
-    ((m.same).same k s lf).lane ∙ m.lanes_are k l s lf
+still_on lanes start now old new outcome first senders m = record {
+  few = (m.lanes_are).few;
+  many = (m.same).many ∙ (m.lanes_are).many;
+  own = λ k l s lt.
+      let lf : k < length first = let a = (m.same).many in omega arith in
+      ((m.same).same k s lf).lane ∙ (m.lanes_are).own k l s lf;
+}
 
 -- with more entries to be had, the same sender sent no more than the first of them
 has_more : (wanted more : List Entry) (k : ℕ) (o o' : Outcome) (s : SenderState Entry) → HasSent wanted k o s → (o' ≡ Done → ⊥) → (o' ≡ Full k → o ≡ Full k)
@@ -155,8 +155,6 @@ more lanes start now then' old n n' o o' first ps qs entry m gives counts s t =
     let before : AreInner m.given = m.inner gives.outcome.running in
     record {
       given = m.given ++ entry ∷ [];
-      few = m.few;
-      many = m.many;
       lanes_are = m.lanes_are;
       same = same_more first ps qs m.same s;
       source = gives.source ∙ m.source;
@@ -223,7 +221,7 @@ pub last : (lanes : List Lane) (start now then' : FeedState FeedFault) (old n n'
 last lanes start now then' old n n' o first ps m gives counts =
     let shards = length lanes in
     let t = told_last shards start.rest m.given now.source now.ended now.rest o m.told m.whole gives.outcome.ended m.halfway in
-    let many : shards ≡ length ps = let a = (m.same).many in let b = m.many in omega arith in
+    let many : shards ≡ length ps = let a = (m.same).many in let b = (m.lanes_are).many in omega arith in
     record {
       same = m.same;
       back_is = back_own start then' o old n' (record {

@@ -14,7 +14,7 @@ use Rattle.mail_lane.specs.Lane.{Lane, ReceiverState, SenderState, SettledState,
 use Rattle.fan_in.specs.declared.outcome.Outcome.{Outcome}
 use Rattle.fan_in.specs.declared.owner.Owner.{Owner}
 use Rattle.fan_in.specs.declared.owner_job.OwnerJob.{OwnerJob}
-use Rattle.fan_in.specs.Owning.{IsOwner, OwnsAfter, entries_in, note_of}
+use Rattle.fan_in.specs.Owning.{OwnsAfter, entries_in, note_of}
 use Rattle.fan_in.specs.Posts.{AreOwned, IsBoxOf, OwnsLane}
 use Rattle.fan_in.specs.Reading.{IsAbout}
 use Rattle.fan_in.specs.Sending.{AreFrom, IsOwnOutcome}
@@ -98,9 +98,9 @@ end_held d n k i taken back owner h = holds n taken back h.many h.whole h.from k
 pub end_about : (d : Definitions) (n k i : ℕ) (taken : List (Letter Entry)) (back : List (List Entry)) (owner : Owner) → IsEnd d n k taken back owner → IsAbout k (note_of i owner.notes)
 end_about d n k i taken back owner h = ((h.after).noted (not_stray d n k taken back owner h owner.stray refl)).about i
 
-pub end_settled : (d : Definitions) (n k : ℕ) (taken : List (Letter Entry)) (back : List (List Entry)) (owner : Owner) → IsEnd d n k taken back owner → IsOwner owner → IsJournal (owner.shard).sources (owner.shard).journal → IsSettledShard d n owner.shard
-end_settled d n k taken back owner h right journal =
-    let sources : (owner.shard).sources ≡ n = right.alike ∙ (h.after).sources_are in
+pub end_settled : (d : Definitions) (n k : ℕ) (taken : List (Letter Entry)) (back : List (List Entry)) (owner : Owner) → IsEnd d n k taken back owner → IsJournal (owner.shard).sources (owner.shard).journal → IsSettledShard d n owner.shard
+end_settled d n k taken back owner h journal =
+    let sources : (owner.shard).sources ≡ n = owner.alike ∙ (h.after).sources_are in
     record {
       gathered = record { defs = (h.after).defs_are; sources_are = sources; journal = subst (λ (m : ℕ). IsJournal m (owner.shard).journal) sources journal };
       short = journal.short;

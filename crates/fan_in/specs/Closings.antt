@@ -10,10 +10,12 @@ use Rattle.turnstile.specs.declared.pass.Pass.{Pass}
 use Rattle.turnstile.specs.declared.turnstile.Turnstile.{Turnstile}
 use Rattle.turnstile.specs.Passes.{made, seen}
 use Rattle.fan_in.specs.Desks.{BookedState}
-use Rattle.fan_in.specs.Floors.{AreSeats, AreZeros, IsSeat}
+use Rattle.fan_in.specs.Floors.{AreSeats, AreZeros, IsSeat, known_in}
 use Rattle.fan_in.specs.Gathering.{IsGathered}
 use Rattle.fan_in.specs.Reading.{MadeOwn}
 use Rattle.fan_in.specs.declared.fixed_part.FixedPart.{FixedPart}
+use Rattle.fan_in.specs.declared.floor.Floor.{Floor}
+use Rattle.fan_in.specs.declared.plan.Plan.{Plan}
 
 -- the shard of a closed desk
 pub record IsClosed (f : Option FixedPart) (shard : Sharded) : Type 0 where
@@ -69,3 +71,7 @@ module _ {g : Ghosts BookedState Entry FixedPart} where
     pub many : length rows ≡ sources
     pub rows_are : (i : ℕ) (row : Vec (Pass BookedState Entry FixedPart g) Global) → i < sources → AreSeats f i desks (slice_index_or rows i row).items
     pub own : (i : ℕ) (row : Vec (Pass BookedState Entry FixedPart g) Global) → i < sources → MadeOwn i (slice_index_or rows i row).items
+
+-- a floor of this plan, whose rows of passes made entries of their sources alone
+abbrev pub IsStandingOf : Plan → Floor → Type 0
+IsStandingOf plan floor = AreStanding (known_in plan) plan.sources floor.desks.items floor.zeros.items floor.rows.items

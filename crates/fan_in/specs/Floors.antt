@@ -1,5 +1,5 @@
 -- The desks of all shards, pass zero of each, and for each source a row of passes, one of each desk.
-use Rattle.std.specs.Prelude.{◌≡◌, ◌≤◌, ◌<◌, ◌+◌, ◌++◌, ℕ, List, [], ◌∷◌, length, All, Option, slice_index_or, Vec}
+use Rattle.std.specs.Prelude.{◌≡◌, ◌≤◌, ◌<◌, ◌+◌, ◌++◌, ℕ, List, [], ◌∷◌, length, All, Option, Some, slice_index_or, Vec}
 use Rattle.std.specs.declared.alloc.Global.{Global}
 use Rattle.stream_base.specs.declared.entry.Entry.{Entry}
 use Rattle.turnstile.specs.declared.keeps.Keeps.{Ghosts}
@@ -8,6 +8,8 @@ use Rattle.turnstile.specs.declared.turnstile.Turnstile.{Turnstile}
 use Rattle.turnstile.specs.Passes.{number, fixed, made, born, IsPassOf}
 use Rattle.fan_in.specs.Desks.{BookedState}
 use Rattle.fan_in.specs.declared.fixed_part.FixedPart.{FixedPart}
+use Rattle.fan_in.specs.declared.floor.Floor.{Floor}
+use Rattle.fan_in.specs.declared.plan.Plan.{Plan}
 
 module _ {g : Ghosts BookedState Entry FixedPart} where
   -- pass zero of a desk, which made nothing and gave its numbers to the passes of so many sources
@@ -54,3 +56,11 @@ module _ {g : Ghosts BookedState Entry FixedPart} where
     pub many : length rows ≡ sources
     pub rows_are : (i : ℕ) (row : Vec (Pass BookedState Entry FixedPart g) Global) → i < sources → AreSeats f i desks (slice_index_or rows i row).items
     pub blank : (i : ℕ) (row : Vec (Pass BookedState Entry FixedPart g) Global) → i < sources → All (λ p. made p ≡ []) (slice_index_or rows i row).items
+
+-- what each desk of a plan knows
+abbrev pub known_in : Plan → Option FixedPart
+known_in plan = Some (record { defs = plan.defs; sources = plan.sources })
+
+-- a floor of this plan, of the desks that were opened so far
+abbrev pub IsFloorOf : Plan → Floor → Type 0
+IsFloorOf plan floor = IsFloor (known_in plan) plan.sources floor.desks.items floor.zeros.items floor.rows.items

@@ -1,5 +1,5 @@
 -- What comes of gathering the feeds of several sources into the journals of several shards.
-use Rattle.std.specs.Prelude.{◌≡◌, ◌≢◌, ◌<◌, ◌⊎◌, ℕ, true, false, List, length, None, Some, IfSome, MatchOption, ⊤}
+use Rattle.std.specs.Prelude.{◌≡◌, ◌≢◌, ◌<◌, ◌⊎◌, ℕ, true, false, List, [], length, None, Some, IfSome, MatchOption, ⊤, slice_index_or}
 use Rattle.stream_base.specs.Limits.{Definitions}
 use Rattle.outside.specs.Outside.{Rose}
 use Rattle.stream_base.specs.declared.entry.Entry.{Entry}
@@ -12,6 +12,7 @@ use Rattle.source_feed.specs.Stream.{Stream}
 use Rattle.source_feed.specs.declared.feed_fault.FeedFault.{FeedFault}
 use Rattle.source_feed.specs.declared.feed_fault.FeedFault.TheVariants.{Read, NoMemory}
 use Rattle.turnstile.specs.History.{BeginsWith}
+use Rattle.fan_in.specs.declared.gathered.FeedEnd.{FeedEnd}
 use Rattle.fan_in.specs.declared.outcome.Outcome.{Outcome}
 use Rattle.fan_in.specs.declared.outcome.Outcome.TheVariants.{Done, Fault, Full}
 
@@ -66,3 +67,28 @@ pub record IsGathered (d : Definitions) (sources : ℕ) (shard : Sharded) : Type
   pub defs : shard.defs ≡ d
   pub sources_are : shard.sources ≡ sources
   pub journal : IsJournal sources shard.journal
+
+-- the same feeds in the same order, whatever their outcomes
+pub record AreSameFeeds {F : Type 0} (old new : List (FeedEnd F)) : Type 0 where
+  pub many : length new ≡ length old
+  pub feeds : (i : ℕ) (e : FeedEnd F) → i < length old → (slice_index_or new i e).feed ≡ (slice_index_or old i e).feed
+
+-- `state` and `faults` are those of the feeds
+module _ {F : Type 0} (state : F → FeedState FeedFault) where
+  -- feeds that weren't read yet, one for each source, in the order of the sources
+  pub record AreFreshFeeds (sources : ℕ) (feeds : List F) : Type 0 where
+    pub one_each : length feeds ≡ sources
+    pub fresh : (i : ℕ) (f : F) → i < length feeds → IsFresh i (state (slice_index_or feeds i f))
+
+  module _ (faults : F → ℕ) where
+    -- what became of feeds that were gathered into shards: each came back with its outcome, and each shard that was handed out holds of each feed what the outcome says; where none was, each outcome is a fault
+    pub record AreGathered (d : Definitions) (sources shards : ℕ) (feeds : List F) (handed : List Sharded) (ends : List (FeedEnd F)) : Type 0 where
+      pub many_ends : length ends ≡ sources
+      pub back : (i : ℕ) (f : F) (e : FeedEnd F) → i < sources → let start = slice_index_or feeds i f in let end = slice_index_or ends i e in
+          IsBack (state start) (state end.feed) end.outcome (faults start) (faults end.feed)
+      pub named : (i : ℕ) (e : FeedEnd F) → i < sources → NamesOneOf shards (slice_index_or ends i e).outcome
+      pub many_shards : (handed ≡ []) ⊎ (length handed ≡ shards)
+      pub none : handed ≡ [] → (i : ℕ) (e : FeedEnd F) → i < sources → IsFault (slice_index_or ends i e).outcome
+      pub alike : (k : ℕ) (s : Sharded) → k < length handed → IsGathered d sources (slice_index_or handed k s)
+      pub parts : (k i : ℕ) (s : Sharded) (f : F) (e : FeedEnd F) → k < length handed → i < sources
+          → IfSome (state (slice_index_or feeds i f)).rest (λ stream. HoldsPart shards k i stream (slice_index_or ends i e).outcome (slice_index_or handed k s).journal)

@@ -12,7 +12,7 @@ use Rattle.shard_core.specs.declared.applied.ApplyFault.TheVariants.{Ended, Full
 use Rattle.turnstile.specs.declared.keeps.Keeps.{Ghosts}
 use Rattle.turnstile.specs.declared.pass.Pass.{Pass}
 use Rattle.turnstile.specs.History.{BeginsWith}
-use Rattle.turnstile.specs.Passes.{number, fixed, seen, made}
+use Rattle.turnstile.specs.Passes.{number, fixed, seen, made, IsSamePass}
 use Rattle.fan_in.specs.Desks.{BookedState, booked_with, entries_of}
 use Rattle.fan_in.specs.declared.fixed_part.FixedPart.{FixedPart}
 
@@ -35,7 +35,7 @@ HoldsCause source journal NoMemory = ⊤
 -- what an offer's turn does to the shard that it finds, and what it answers
 pub record Books (entry : Entry) (before after : BookedState) (number : ℕ) (reply : Result Applied ApplyFault) : Type 0 where
   pub numbered : length before.numbers ≡ length (before.shard).journal
-  pub booked : IfOk reply (λ applied. after ≡ booked_with before number entry)
+  pub booked : OnOk reply (after ≡ booked_with before number entry)
   pub position : IfOk reply (λ applied. applied.position ≡ length (before.shard).journal)
   pub changes : IfOk reply (λ applied. applied.changes ≡ length (changes_after (before.shard).defs (before.shard).sources (before.shard).journal entry))
   pub takes : OnOk reply (IsOpen entry.source (before.shard).journal)
@@ -58,3 +58,9 @@ module _ {g : Ghosts BookedState Entry FixedPart} where
     pub begins : BeginsWith (seen new) (seen old)
     pub makes_nothing : made new ≡ made old
     pub cause : HoldsCause entry.source (entries_of (seen new)) fault
+
+  -- an offer was answered: the pass is the same, and the entry was taken or refused
+  pub record IsAnswered (entry : Entry) (old new : Pass BookedState Entry FixedPart g) (reply : Result Applied ApplyFault) : Type 0 where
+    pub same : IsSamePass old new
+    pub offered : IfOk reply (IsOffered entry old new)
+    pub refused : IfErr reply (IsRefused entry old new)

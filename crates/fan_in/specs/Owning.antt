@@ -37,12 +37,6 @@ pub record HasNoted (k : ℕ) (got journal : List Entry) (notes : List Outcome) 
   pub full : (source : ℕ) → note_of source notes ≡ Full k → (length journal ≡ JOURNAL_MAX) × (0 < length (entries_from source rest))
   pub open_or_full : stopped ≡ false → (rest ≡ []) ⊎ (length journal ≡ JOURNAL_MAX)
 
--- an owner of one of at most 16 shards, for at most 16 sources
-pub record IsOwner (o : Owner) : Type 0 where
-  pub few : o.number < 16
-  pub few_sources : o.sources ≤ 16
-  pub alike : (o.shard).sources ≡ o.sources
-
 -- an owner after it got these entries
 pub record OwnsAfter (d : Definitions) (sources k : ℕ) (got : List Entry) (o : Owner) : Type 0 where
   pub number_is : o.number ≡ k

@@ -5,13 +5,14 @@ use Rattle.stream_base.specs.Limits.{Definitions}
 use Rattle.stream_base.specs.declared.entry.Entry.{Entry}
 use Rattle.mail_lane.specs.Lane.{Lane, SenderState, IsReceiverOf}
 use Rattle.fan_in.specs.declared.owner_job.OwnerJob.{OwnerJob}
-use Rattle.fan_in.specs.Owning.{IsOwner, OwnsAfter, entries_in}
+use Rattle.fan_in.specs.declared.plan.Plan.{Plan}
+use Rattle.fan_in.specs.declared.post.Post.{Post}
+use Rattle.fan_in.specs.Owning.{OwnsAfter, entries_in}
 
 -- the owner of a shard made of all that it took from its lane what it should
 pub record OwnsLane (d : Definitions) (sources k : ℕ) (lane : Lane) (job : OwnerJob) : Type 0 where
   pub own : IsReceiverOf lane job.receiver
   pub back_none : (job.receiver).back ≡ []
-  pub is : IsOwner job.owner
   pub after : OwnsAfter d sources k (entries_in (job.receiver).taken) job.owner
 
 -- the lane's sender of this source
@@ -47,3 +48,7 @@ pub record IsPost (d : Definitions) (sources : ℕ) (lanes : List Lane) (owners 
   pub many : length rows ≡ sources
   pub rows_are : (i : ℕ) (row : Vec (SenderState Entry) Global) → i < sources → AreBoxesOf i lanes (slice_index_or rows i row).items
   pub blank : (i : ℕ) (row : Vec (SenderState Entry) Global) → i < sources → All (λ s. s.sent ≡ []) (slice_index_or rows i row).items
+
+-- a post of this plan, of the lanes that were opened so far
+abbrev pub IsPostOf : Plan → Post → Type 0
+IsPostOf plan post = IsPost plan.defs plan.sources post.lanes.items post.owners.items post.rows.items

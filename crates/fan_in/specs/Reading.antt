@@ -1,5 +1,6 @@
 -- How far the reading of one feed has come, and what its passes made of its entries.
-use Rattle.std.specs.Prelude.{◌≡◌, ◌≤◌, ◌<◌, ◌++◌, ℕ, false, List, [], ◌∷◌, length, All, None, IfSome, ⊤, slice_index_or}
+use Rattle.std.specs.Prelude.{◌≡◌, ◌≤◌, ◌<◌, ◌++◌, ℕ, false, List, [], ◌∷◌, length, All, None, IfSome, ⊤, slice_index_or, Vec}
+use Rattle.std.specs.declared.alloc.Global.{Global}
 use Rattle.stream_base.specs.declared.entry.Entry.{Entry}
 use Rattle.stream_base.specs.declared.limits.TheConstants.{JOURNAL_MAX}
 use Rattle.stream_base.specs.Model.Routes.{routed}
@@ -37,10 +38,12 @@ module _ {g : Ghosts BookedState Entry FixedPart} where
     pub full : outcome ≡ Full k → length (seen pass) ≡ JOURNAL_MAX
     pub lacks : outcome ≡ Full k → length (made pass) < length wanted
 
-  -- each pass stands at the desk of its number
-  abbrev pub StandAt : List (Turnstile BookedState Entry FixedPart) → List (Pass BookedState Entry FixedPart g) → Type 0
-  StandAt desks passes = (k : ℕ) (d : Turnstile BookedState Entry FixedPart) (p : Pass BookedState Entry FixedPart g)
-      → k < length passes → IsPassOf (slice_index_or desks k d) (slice_index_or passes k p)
+  -- one pass stands at each of at most 16 desks, in their order
+  pub record StandAt (desks : List (Turnstile BookedState Entry FixedPart)) (passes : List (Pass BookedState Entry FixedPart g)) : Type 0 where
+    pub few : length desks ≤ 16
+    pub many : length passes ≡ length desks
+    pub own : (k : ℕ) (d : Turnstile BookedState Entry FixedPart) (p : Pass BookedState Entry FixedPart g)
+        → k < length passes → IsPassOf (slice_index_or desks k d) (slice_index_or passes k p)
 
   -- the same passes, in the same order
   pub record AreSame (old new : List (Pass BookedState Entry FixedPart g)) : Type 0 where
@@ -67,12 +70,17 @@ module _ {g : Ghosts BookedState Entry FixedPart} where
     pub known : All (λ p. IfSome (fixed p) (λ f. start.source < f.sources)) passes
     pub blank : All (λ p. made p ≡ []) passes
 
-  -- the same feed and passes, at the desks of at most 16 shards
+  -- the same feed and passes, which stand at these desks
   pub record IsReadyAt (desks : List (Turnstile BookedState Entry FixedPart)) (start : FeedState FeedFault) (outcome : Outcome) (passes : List (Pass BookedState Entry FixedPart g)) : Type 0 where
-    pub few : length desks ≤ 16
-    pub many : length passes ≡ length desks
-    pub own : StandAt desks passes
+    pub stand : StandAt desks passes
     pub ready : IsReady start outcome passes
+
+  -- at least one feed, and for each a row of passes with which it may be read at these desks; `state` is that of a feed
+  pub record AreReadyAt {F : Type 0} (state : F → FeedState FeedFault) (desks : List (Turnstile BookedState Entry FixedPart)) (feeds : List F) (rows : List (Vec (Pass BookedState Entry FixedPart g) Global)) : Type 0 where
+    pub some : 1 ≤ length feeds
+    pub one_each : length rows ≡ length feeds
+    pub ready : (i : ℕ) (f : F) (row : Vec (Pass BookedState Entry FixedPart g) Global) → i < length feeds
+        → IsReadyAt desks (state (slice_index_or feeds i f)) Done (slice_index_or rows i row).items
 
   -- the passes made entries of this source alone
   abbrev pub MadeOwn : ℕ → List (Pass BookedState Entry FixedPart g) → Type 0

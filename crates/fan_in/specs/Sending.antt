@@ -1,5 +1,6 @@
 -- How far the sending of one feed's entries has come, and what its senders have sent.
-use Rattle.std.specs.Prelude.{◌≡◌, ◌≤◌, ◌<◌, ◌⊎◌, ◌++◌, ℕ, true, false, List, [], ◌∷◌, length, All, None, IfSome, ⊤, slice_index_or}
+use Rattle.std.specs.Prelude.{◌≡◌, ◌≤◌, ◌<◌, ◌⊎◌, ◌++◌, ℕ, true, false, List, [], ◌∷◌, length, All, None, IfSome, ⊤, slice_index_or, Vec}
+use Rattle.std.specs.declared.alloc.Global.{Global}
 use Rattle.stream_base.specs.declared.entry.Entry.{Entry}
 use Rattle.stream_base.specs.declared.limits.TheConstants.{JOURNAL_MAX}
 use Rattle.stream_base.specs.Model.Journals.{is_entry_within}
@@ -25,9 +26,11 @@ pub record HasSent (wanted : List Entry) (k : ℕ) (outcome : Outcome) (sender :
   pub whole : outcome ≡ Done → sender.sent ≡ wanted
   pub over : outcome ≡ Full k → JOURNAL_MAX < length sender.sent
 
--- each sender is of the lane of its place
-abbrev pub SendOn : List Lane → List (SenderState Entry) → Type 0
-SendOn lanes senders = (k : ℕ) (l : Lane) (s : SenderState Entry) → k < length senders → IsSenderOf (slice_index_or lanes k l) (slice_index_or senders k s)
+-- one sender sends on each of at most 16 lanes, in their order
+pub record SendOn (lanes : List Lane) (senders : List (SenderState Entry)) : Type 0 where
+  pub few : length lanes ≤ 16
+  pub many : length senders ≡ length lanes
+  pub own : (k : ℕ) (l : Lane) (s : SenderState Entry) → k < length senders → IsSenderOf (slice_index_or lanes k l) (slice_index_or senders k s)
 
 -- the same senders, in the same order
 pub record AreSameSenders (old new : List (SenderState Entry)) : Type 0 where
@@ -50,16 +53,21 @@ abbrev pub HaveSent : ℕ → List Entry → Outcome → List (SenderState Entry
 HaveSent shards entries outcome senders = (k : ℕ) (s : SenderState Entry) → k < length senders
     → HasSent (routed shards k entries) k outcome (slice_index_or senders k s)
 
--- a feed that wasn't read yet, and senders that sent nothing yet, one of each lane, of at most 16
+-- a feed that wasn't read yet, and senders that sent nothing yet, which send on these lanes
 pub record IsReadyToSend (lanes : List Lane) (start : FeedState FeedFault) (outcome : Outcome) (senders : List (SenderState Entry)) : Type 0 where
-  pub few : length lanes ≤ 16
-  pub many : length senders ≡ length lanes
-  pub own : SendOn lanes senders
+  pub lanes_are : SendOn lanes senders
   pub running : start.ended ≡ false
   pub unanswered : start.answered ≡ None
   pub whole : Closes start
   pub done : outcome ≡ Done
   pub blank : All (λ s. s.sent ≡ []) senders
+
+-- at least one feed, and for each a row of senders with which it may be read and sent on these lanes; `state` is that of a feed
+pub record AreReadyToSend {F : Type 0} (state : F → FeedState FeedFault) (lanes : List Lane) (feeds : List F) (rows : List (Vec (SenderState Entry) Global)) : Type 0 where
+  pub some : 1 ≤ length feeds
+  pub one_each : length rows ≡ length feeds
+  pub ready : (i : ℕ) (f : F) (row : Vec (SenderState Entry) Global) → i < length feeds
+      → IsReadyToSend lanes (state (slice_index_or feeds i f)) Done (slice_index_or rows i row).items
 
 -- no entry but the last is an end
 abbrev pub EndsLast : List Entry → Type 0

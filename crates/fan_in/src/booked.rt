@@ -1,8 +1,6 @@
-ghost use Rattle.std.specs.Prelude.{◌≡◌, ◌<◌, [], length, true, IfOk, IfErr, OnOk, OnErr};
-ghost use Rattle.stream_base.specs.Model.Changes.{changes_after};
-ghost use Rattle.stream_base.specs.Model.Journals.{is_entry_within};
-ghost use Rattle.fan_in.specs.Desks.{booked_with, fixed_of, items_of};
-ghost use Rattle.fan_in.specs.Offers.{HoldsCause, IsOpen};
+ghost use Rattle.std.specs.Prelude.{◌≡◌, [], length};
+ghost use Rattle.fan_in.specs.Desks.{fixed_of, items_of};
+ghost use Rattle.fan_in.specs.Offers.{Books, MayOffer};
 
 use crate::fixed_part::FixedPart;
 use agg_laws::Steps;
@@ -67,18 +65,8 @@ impl Booked {
         number: u64,
         steps: &mut Steps<L>,
     ) -> Result<Applied, ApplyFault>
-        requires source { (entry.now).source < ((self.old).shard).sources }
-        requires within { is_entry_within entry.now ≡ true }
-        ensures booked { OnOk result (self.new ≡ booked_with self.old number entry.now) }
-        ensures numbered { length (self.old).numbers ≡ length ((self.old).shard).journal }
-        ensures position { IfOk result (λ applied. applied.position
-            ≡ length ((self.old).shard).journal) }
-        ensures changes { IfOk result (λ applied. applied.changes
-            ≡ length (changes_after ((self.old).shard).defs ((self.old).shard).sources
-            ((self.old).shard).journal entry.now)) }
-        ensures takes { OnOk result (IsOpen (entry.now).source ((self.old).shard).journal) }
-        ensures cause { IfErr result (HoldsCause (entry.now).source ((self.old).shard).journal) }
-        ensures refused { OnErr result (self.new ≡ self.old) }
+        requires may { MayOffer entry.now (fixed_of self.old) }
+        ensures books { Books entry.now self.old self.new number result }
     {
         if self.numbers.reserve(1).is_err() {
             return Err(ApplyFault::NoMemory);

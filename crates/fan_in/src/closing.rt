@@ -1,8 +1,8 @@
-ghost use Rattle.std.specs.Prelude.{◌≡◌, ◌<◌, ℕ, Some, All, length, IfOk, OnOk, slice_index_or};
+ghost use Rattle.std.specs.Prelude.{◌≡◌, ◌<◌, All, length, IfOk, OnOk};
 ghost use Rattle.turnstile.specs.Passes.{fixed};
-ghost use Rattle.fan_in.specs.Floors.{IsZero};
-ghost use Rattle.fan_in.specs.Closings.{AreClosed, AreStanding, EndAt, IsClosed};
-ghost use Rattle.fan_in.specs.Closings.{IsColumn, LoseLast, SettlesLast};
+ghost use Rattle.fan_in.specs.Floors.{IsZero, known_in};
+ghost use Rattle.fan_in.specs.Closings.{AreClosed, EndAt, IsClosed};
+ghost use Rattle.fan_in.specs.Closings.{IsColumn, IsStandingOf, LoseLast, SettlesLast};
 
 use crate::booked::Booked;
 use crate::desk::Desk;
@@ -22,12 +22,9 @@ pub(crate) fn close_all<R: Wait>(
     plan: &Plan,
     floor: Floor,
 ) -> Result<Vec<Shard>, NoMemory>
-    requires standing { AreStanding
-        (Some (record { defs = plan.now.defs; sources = plan.now.sources })) plan.now.sources
-        floor.desks.items floor.zeros.items floor.rows.items }
+    requires standing { IsStandingOf plan.now floor }
     ensures many { IfOk result (λ shards. length shards.items ≡ length floor.desks.items) }
-    ensures closed { IfOk result (λ shards. AreClosed
-        (Some (record { defs = plan.now.defs; sources = plan.now.sources }))
+    ensures closed { IfOk result (λ shards. AreClosed (known_in plan.now)
         floor.rows.items shards.items) }
 {
     let Floor {

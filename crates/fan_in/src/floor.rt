@@ -1,7 +1,7 @@
 ghost use Rattle.std.specs.Prelude.{◌≡◌, ◌≤◌, ◌<◌, ◌+◌, ◌-◌, ◌^◌, ℕ, [], All, length};
-ghost use Rattle.std.specs.Prelude.{Some, IfOk, OnOk};
+ghost use Rattle.std.specs.Prelude.{IfOk, OnOk};
 ghost use Rattle.turnstile.specs.Passes.{number, room, fixed, made, born, IsPassOf};
-ghost use Rattle.fan_in.specs.Floors.{GainSeats, IsFloor, IsZero};
+ghost use Rattle.fan_in.specs.Floors.{GainSeats, IsFloorOf, IsZero};
 
 use crate::booked::Booked;
 use crate::desk::Desk;
@@ -21,12 +21,8 @@ pub(crate) struct Floor {
 
 // Opens a desk for each shard, with a pass for each source.
 pub(crate) fn open_floor(alloc: Global, plan: &Plan) -> Result<Floor, NoMemory>
-    requires some_sources { 1 ≤ plan.now.sources }
-    requires few_sources { plan.now.sources ≤ 16 }
     ensures shards { IfOk result (λ floor. length floor.desks.items ≡ plan.now.shards) }
-    ensures open { IfOk result (λ floor. IsFloor
-        (Some (record { defs = plan.now.defs; sources = plan.now.sources })) plan.now.sources
-        floor.desks.items floor.zeros.items floor.rows.items) }
+    ensures open { IfOk result (IsFloorOf plan.now) }
 {
     let mut floor = Floor {
         desks: Vec::new(alloc),
@@ -53,16 +49,10 @@ fn empty_rows(alloc: Global, sources: u16) -> Result<Vec<Vec<Pass<Booked>>>, NoM
 
 // Opens one desk more.
 fn open_desk(alloc: Global, plan: &Plan, floor: &mut Floor) -> Result<(), NoMemory>
-    requires some_sources { 1 ≤ plan.now.sources }
-    requires few_sources { plan.now.sources ≤ 16 }
-    requires open { IsFloor
-        (Some (record { defs = plan.now.defs; sources = plan.now.sources })) plan.now.sources
-        floor.old.desks.items floor.old.zeros.items floor.old.rows.items }
+    requires open { IsFloorOf plan.now floor.old }
     ensures one_more { OnOk result
         (length floor.new.desks.items ≡ length floor.old.desks.items + 1) }
-    ensures open { OnOk result (IsFloor
-        (Some (record { defs = plan.now.defs; sources = plan.now.sources })) plan.now.sources
-        floor.new.desks.items floor.new.zeros.items floor.new.rows.items) }
+    ensures open { OnOk result (IsFloorOf plan.now floor.new) }
 {
     let shard = Shard::new(alloc, plan.defs.copy(alloc)?, plan.sources)?;
     let (desk, mut zero) = Turnstile::new(alloc, Booked::new(alloc, shard))?;

@@ -1,6 +1,6 @@
-ghost use Rattle.std.specs.Prelude.{◌<◌, IfSome, IfOk, IfErr};
-ghost use Rattle.turnstile.specs.Passes.{fixed, IsPassOf, IsSamePass};
-ghost use Rattle.fan_in.specs.Offers.{IsOffered, IsRefused, MayOffer};
+ghost use Rattle.std.specs.Prelude.{◌<◌, IfSome};
+ghost use Rattle.turnstile.specs.Passes.{fixed, IsPassOf};
+ghost use Rattle.fan_in.specs.Offers.{IsAnswered, MayOffer};
 
 use crate::booked::Booked;
 use crate::desk::Desk;
@@ -55,9 +55,7 @@ pub(crate) fn offer_gated<G: Gate, R: Threads + Wait>(
     requires own { IsPassOf desk.now pass.old }
     requires may { IfSome (fixed pass.old) (MayOffer entry.now) }
     requires few { shard < 16 }
-    ensures same { IsSamePass pass.old pass.new }
-    ensures offered { IfOk result (IsOffered entry.now pass.old pass.new) }
-    ensures refused { IfErr result (IsRefused entry.now pass.old pass.new) }
+    ensures answered { IsAnswered entry.now pass.old pass.new result }
 {
     let mut steps = Steps::start(rt);
     let call = GatedTurn {

@@ -1,5 +1,7 @@
-ghost use Rattle.std.specs.Prelude.{◌≡◌, ◌<◌, ◌⊎◌, ℕ, Some, [], length, slice_index_or};
-ghost use Rattle.fan_in.specs.Closings.{AreClosed, AreStanding};
+ghost use Rattle.std.specs.Prelude.{◌≡◌, ◌<◌, ◌⊎◌, ℕ, [], length, slice_index_or};
+ghost use Rattle.fan_in.specs.Closings.{AreClosed, IsStandingOf};
+ghost use Rattle.fan_in.specs.Floors.{known_in};
+ghost use Rattle.fan_in.specs.Gathering.{AreSameFeeds};
 ghost use Rattle.fan_in.specs.Works.{without_shards};
 
 use crate::closing::close_all;
@@ -19,21 +21,15 @@ pub(crate) fn hand_back<F, R: Wait>(
     floor: Floor,
     mut ends: Vec<FeedEnd<F>>,
 ) -> Gathered<F>
-    requires standing { AreStanding
-        (Some (record { defs = plan.now.defs; sources = plan.now.sources })) plan.now.sources
-        floor.desks.items floor.zeros.items floor.rows.items }
-    ensures many { length result.ends.items ≡ length ends.items }
-    ensures feeds { (i : ℕ) (e : _) → i < length ends.items
-        → (slice_index_or result.ends.items i e).feed ≡ (slice_index_or ends.items i e).feed }
+    requires standing { IsStandingOf plan.now floor }
+    ensures same { AreSameFeeds ends.items result.ends.items }
     ensures outcomes { ((result.shards.items ≡ []) × ((i : ℕ) (e : _) → i < length ends.items
         → (slice_index_or result.ends.items i e).outcome
         ≡ without_shards (slice_index_or ends.items i e).outcome))
         ⊎ ((length result.shards.items ≡ length floor.desks.items) × ((i : ℕ) (e : _)
         → i < length ends.items → (slice_index_or result.ends.items i e).outcome
         ≡ (slice_index_or ends.items i e).outcome)) }
-    ensures closed { AreClosed
-        (Some (record { defs = plan.now.defs; sources = plan.now.sources }))
-        floor.rows.items result.shards.items }
+    ensures closed { AreClosed (known_in plan.now) floor.rows.items result.shards.items }
 {
     match close_all(rt, alloc, plan, floor) {
         Ok(shards) => Gathered { shards, ends },

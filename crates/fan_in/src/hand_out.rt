@@ -1,5 +1,5 @@
-ghost use Rattle.std.specs.Prelude.{◌≡◌, ◌≤◌, ◌<◌, ◌++◌, [], ◌∷◌, All, IfSome, length};
-ghost use Rattle.stream_base.specs.Model.Routes.{goes_to, routed};
+ghost use Rattle.std.specs.Prelude.{◌++◌, [], ◌∷◌, All, IfSome, length};
+ghost use Rattle.stream_base.specs.Model.Routes.{routed};
 ghost use Rattle.turnstile.specs.Passes.{fixed, made, IsPassOf, IsSamePass};
 ghost use Rattle.fan_in.specs.Offers.{MayOffer};
 ghost use Rattle.fan_in.specs.Reading.{AreSame, HasMade, HaveTaken, IsAbout, IsHalfway, StandAt};
@@ -8,12 +8,13 @@ use crate::booked::Booked;
 use crate::desk::Desk;
 use crate::gated::offer_gated;
 use crate::outcome::Outcome;
+use crate::place::Place;
 use outside::Gate;
 use shard_core::ApplyFault;
-use source_feed::{FeedFault, route};
+use source_feed::FeedFault;
 use std::sync::Wait;
 use std::thread::Threads;
-use stream_base::{Entry, What};
+use stream_base::Entry;
 use turnstile::Pass;
 
 // Offers an entry to each desk to which it goes, in their order, up to the first that refuses it.
@@ -24,9 +25,7 @@ pub(crate) fn hand_out<G: Gate, R: Threads + Wait>(
     passes: &mut [Pass<Booked>],
     entry: &Entry,
 ) -> Outcome
-    requires many { length passes.old ≡ length desks.now }
-    requires few { length desks.now ≤ 16 }
-    requires own { StandAt desks.now passes.old }
+    requires stand { StandAt desks.now passes.old }
     requires may { All (λ p. IfSome (fixed p) (MayOffer entry.now)) passes.old }
     ensures same { AreSame passes.old passes.new }
     ensures halfway { IsHalfway (length desks.now) result }
@@ -34,7 +33,11 @@ pub(crate) fn hand_out<G: Gate, R: Threads + Wait>(
 {
     let shards = desks.len() as u16;
     for k in 0..desks.len() {
-        let outcome = offer_at(rt, gate, &desks[k], &mut passes[k], k as u16, shards, entry);
+        let place = Place {
+            shard: k as u16,
+            shards,
+        };
+        let outcome = offer_at(rt, gate, &desks[k], &mut passes[k], place, entry);
         match outcome {
             Outcome::Done => {}
             Outcome::Fault(_) | Outcome::Full { .. } => return outcome,
@@ -49,39 +52,25 @@ fn offer_at<G: Gate, R: Threads + Wait>(
     gate: &G,
     desk: &Desk,
     pass: &mut Pass<Booked>,
-    shard: u16,
-    shards: u16,
+    place: Place,
     entry: &Entry,
 ) -> Outcome
     requires own { IsPassOf desk.now pass.old }
     requires may { IfSome (fixed pass.old) (MayOffer entry.now) }
-    requires inside { shard < shards }
-    requires few { shards ≤ 16 }
     ensures same { IsSamePass pass.old pass.new }
-    ensures about { IsAbout shard result }
-    ensures made { HasMade
-        (made pass.old ++ routed shards shard (entry.now ∷ [])) shard result pass.new }
+    ensures about { IsAbout place.shard result }
+    ensures made { HasMade (made pass.old ++ routed place.shards place.shard (entry.now ∷ []))
+        place.shard result pass.new }
 {
-    if !goes_to(&entry.what, shards, shard) {
+    if !place.goes_to(&entry.what) {
         return Outcome::Done;
     }
     gate.pass(entry.source);
-    match offer_gated(rt, gate, desk, pass, shard, entry) {
+    match offer_gated(rt, gate, desk, pass, place.shard, entry) {
         Ok(_) => Outcome::Done,
-        Err(ApplyFault::Full) => Outcome::Full { shard },
+        Err(ApplyFault::Full) => Outcome::Full { shard: place.shard },
         // The source can't have ended here: its end is the last entry that its feed gives, and no
         // other pass makes entries of it. So `Ended` is answered as want of memory, which is free.
         Err(ApplyFault::Ended | ApplyFault::NoMemory) => Outcome::Fault(FeedFault::NoMemory),
-    }
-}
-
-// Whether an entry goes to a shard.
-pub(crate) fn goes_to(what: &What, shards: u16, shard: u16) -> bool
-    requires { 1 ≤ shards }
-    ensures { result ≡ goes_to shards shard what.now }
-{
-    match what {
-        What::Tuple { key, .. } | What::Mark { key, .. } => route(key, shards) == shard,
-        What::Water { .. } | What::Idle | What::End => true,
     }
 }

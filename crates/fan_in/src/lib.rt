@@ -30,6 +30,7 @@ mod outbox;
 mod outcome;
 mod owner;
 mod owner_job;
+mod place;
 mod plan;
 mod post;
 mod read_out;

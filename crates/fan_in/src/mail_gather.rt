@@ -1,12 +1,8 @@
-ghost use Rattle.std.specs.Prelude.{◌≡◌, ◌≤◌, ◌<◌, ◌+◌, ◌⊎◌, ℕ, [], All, length};
-ghost use Rattle.std.specs.Prelude.{IfOk, IfErr, IfSome, slice_index_or};
-ghost use Rattle.shard_core.specs.Shard.{Sharded};
-ghost use Rattle.fan_in.specs.Gathering.{HoldsPart, IsBack, IsFault, IsFresh};
-ghost use Rattle.fan_in.specs.Gathering.{IsGathered, NamesOneOf};
-ghost use Rattle.fan_in.specs.Posts.{AreOwned, IsPost};
-ghost use Rattle.fan_in.specs.Sending.{IsReadyToSend, IsSentOut};
-ghost use Rattle.fan_in.specs.Works.{IsReserved};
-ghost use Rattle.fan_in.specs.declared.outcome.Outcome.TheVariants.{Done};
+ghost use Rattle.std.specs.Prelude.{◌≡◌, ◌<◌, ℕ, length, IfOk, IfErr, slice_index_or};
+ghost use Rattle.fan_in.specs.Gathering.{AreFreshFeeds, AreGathered};
+ghost use Rattle.fan_in.specs.Posts.{AreOwned, IsPostOf};
+ghost use Rattle.fan_in.specs.Sending.{AreReadyToSend, IsSentOut};
+ghost use Rattle.fan_in.specs.Works.{HasTaskRoom, IsReserved};
 
 use crate::gathered::{FeedEnd, Gathered, Unstarted};
 use crate::outbox::Outbox;
@@ -41,35 +37,12 @@ impl MailFeeds {
         feeds: Vec<F>,
         gate: &G,
     ) -> Result<Gathered<F>, Unstarted<F>>
-        requires some_sources { 1 ≤ plan.now.sources }
-        requires few_sources { plan.now.sources ≤ 16 }
-        requires some_shards { 1 ≤ plan.now.shards }
-        requires few_shards { plan.now.shards ≤ 16 }
-        requires one_each { length feeds.items ≡ plan.now.sources }
-        requires fresh { (i : ℕ) (f : F) → i < length feeds.items
-            → IsFresh i (F.state (slice_index_or feeds.items i f)) }
-        ensures ends { IfOk result (λ g. length g.ends.items ≡ plan.now.sources) }
-        ensures back { IfOk result (λ g. (i : ℕ) (f : F) (e : FeedEnd F) → i < plan.now.sources
-            → let start = slice_index_or feeds.items i f in
-            let end = slice_index_or g.ends.items i e in
-            IsBack (F.state start) (F.state end.feed) end.outcome
-            (F.faults start) (F.faults end.feed)) }
-        ensures named { IfOk result (λ g. (i : ℕ) (e : FeedEnd F) → i < plan.now.sources
-            → NamesOneOf plan.now.shards (slice_index_or g.ends.items i e).outcome) }
-        ensures shards { IfOk result (λ g. (g.shards.items ≡ [])
-            ⊎ (length g.shards.items ≡ plan.now.shards)) }
-        ensures none { IfOk result (λ g. g.shards.items ≡ [] → (i : ℕ) (e : FeedEnd F)
-            → i < plan.now.sources → IsFault (slice_index_or g.ends.items i e).outcome) }
+        requires fresh { AreFreshFeeds F.state plan.now.sources feeds.items }
+        ensures gathered { IfOk result (λ g. AreGathered F.state F.faults plan.now.defs
+            plan.now.sources plan.now.shards feeds.items g.shards.items g.ends.items) }
 
         // Shards are handed back always.
         ensures all_shards { IfOk result (λ g. length g.shards.items ≡ plan.now.shards) }
-        ensures alike { IfOk result (λ g. (k : ℕ) (s : Sharded) → k < length g.shards.items
-            → IsGathered plan.now.defs plan.now.sources (slice_index_or g.shards.items k s)) }
-        ensures parts { IfOk result (λ g. (k i : ℕ) (s : Sharded) (f : F) (e : FeedEnd F)
-            → k < length g.shards.items → i < plan.now.sources
-            → IfSome (F.state (slice_index_or feeds.items i f)).rest (λ stream.
-            HoldsPart plan.now.shards k i stream (slice_index_or g.ends.items i e).outcome
-            (slice_index_or g.shards.items k s).journal)) }
         ensures unstarted { IfErr result (λ u. u.feeds ≡ feeds) }
     {
         match prepare(alloc, plan) {
@@ -102,17 +75,10 @@ impl MailFeeds {
 
 // All that wants memory before a feed is read: the lanes with their senders, and room for the tasks.
 fn prepare<F>(alloc: Global, plan: &Plan) -> Result<(Post, Tasks<F>), NoMemory>
-    requires some_sources { 1 ≤ plan.now.sources }
-    requires few_sources { plan.now.sources ≤ 16 }
-    requires few_shards { plan.now.shards ≤ 16 }
-    ensures shards { IfOk result (λ r. length r.0.lanes.items ≡ plan.now.shards) }
-    ensures open { IfOk result (λ r. IsPost plan.now.defs plan.now.sources
-        r.0.lanes.items r.0.owners.items r.0.rows.items) }
-    ensures tasks { IfOk result (λ r. IsReserved (plan.now.sources + plan.now.shards) r.1.tasks) }
-    ensures ends { IfOk result (λ r. IsReserved plan.now.sources r.1.ends) }
-    ensures rows { IfOk result (λ r. IsReserved plan.now.sources r.1.rows) }
-    ensures owners { IfOk result (λ r. IsReserved plan.now.shards r.1.owners) }
-    ensures room { IfOk result (λ r. IsReserved plan.now.shards r.1.shards) }
+    ensures lanes { IfOk result (λ r. length r.0.lanes.items ≡ plan.now.shards) }
+    ensures open { IfOk result (λ r. IsPostOf plan.now r.0) }
+    ensures room { IfOk result (λ r. HasTaskRoom plan.now.sources plan.now.shards r.1) }
+    ensures shards { IfOk result (λ r. IsReserved plan.now.shards r.1.shards) }
 {
     let post = open_post(alloc, plan)?;
     let tasks = room_for(alloc, usize::from(plan.sources), usize::from(plan.shards))?;
@@ -130,16 +96,9 @@ fn send_all<F: Feed + Send, G: Gate, R: Threads + Wait + Sync>(
     rows: Vec<Vec<Outbox>>,
     owners: Vec<OwnerJob>,
 ) -> (Vec<FeedEnd<F>>, Vec<Vec<Outbox>>, Vec<OwnerJob>, Vec<Shard>)
-    requires few { length lanes.now ≤ 16 }
-    requires some { 1 ≤ length feeds.items }
-    requires one_each { length rows.items ≡ length feeds.items }
     requires owned { AreOwned plan.now.defs plan.now.sources lanes.now owners.items }
-    requires tasks { IsReserved (length feeds.items + length lanes.now) room.tasks }
-    requires ends { IsReserved (length feeds.items) room.ends }
-    requires boxes { IsReserved (length feeds.items) room.rows }
-    requires jobs { IsReserved (length lanes.now) room.owners }
-    requires ready { (i : ℕ) (f : F) (row : _) → i < length feeds.items → IsReadyToSend lanes.now
-        (F.state (slice_index_or feeds.items i f)) Done (slice_index_or rows.items i row).items }
+    requires room { HasTaskRoom (length feeds.items) (length lanes.now) room }
+    requires ready { AreReadyToSend F.state lanes.now feeds.items rows.items }
     ensures many_ends { length result.0.items ≡ length feeds.items }
     ensures many_rows { length result.1.items ≡ length feeds.items }
     ensures sent { (i : ℕ) (f : F) (row : _) (e : _) (box : _) → i < length feeds.items

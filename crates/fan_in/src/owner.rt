@@ -1,9 +1,7 @@
-ghost use Rattle.std.specs.Prelude.{◌≡◌, ◌≤◌, ◌<◌, ◌++◌, ℕ, List, [], ◌∷◌};
-ghost use Rattle.stream_base.specs.Limits.{Definitions};
-ghost use Rattle.stream_base.specs.declared.entry.Entry.{Entry};
-ghost use Rattle.fan_in.specs.Owning.{IsOwner, OwnsAfter};
+ghost use Rattle.std.specs.Prelude.{◌≡◌, ◌≤◌, ◌<◌};
 
 use crate::outcome::Outcome;
+use crate::plan::Plan;
 use agg_laws::Steps;
 use outside::Gate;
 use shard_core::{ApplyFault, Shard};
@@ -23,20 +21,26 @@ pub(crate) struct Owner {
     pub(crate) stopped: bool,
     // Whether an entry came that no feed sends.
     pub(crate) stray: bool,
+    ghost few: { number < 16 },
+    ghost few_sources: { sources ≤ 16 },
+    ghost alike: { shard.sources ≡ sources },
 }
 
 impl Owner {
-    pub(crate) fn new(shard: Shard, number: u16, sources: u16) -> Owner
+    ghost use Rattle.std.specs.Prelude.{◌++◌, ℕ, List, [], ◌∷◌};
+    ghost use Rattle.stream_base.specs.Limits.{Definitions};
+    ghost use Rattle.stream_base.specs.declared.entry.Entry.{Entry};
+    ghost use Rattle.fan_in.specs.Owning.{OwnsAfter};
+
+    pub(crate) fn new(shard: Shard, number: u16, plan: &Plan) -> Owner
         requires few { number < 16 }
-        requires few_sources { sources ≤ 16 }
-        requires alike { shard.sources ≡ sources }
+        requires alike { shard.sources ≡ plan.now.sources }
         requires blank { shard.journal ≡ [] }
-        ensures is { IsOwner result }
-        ensures nothing { OwnsAfter shard.defs sources number [] result }
+        ensures nothing { OwnsAfter shard.defs plan.now.sources number [] result }
     {
         Owner {
             number,
-            sources,
+            sources: plan.sources,
             shard,
             notes: [Outcome::Done; 16],
             stopped: false,
@@ -47,8 +51,6 @@ impl Owner {
     // Applies an entry, unless memory ran out before. The gate is passed with 16 and the number of
     // the shard.
     pub(crate) fn take_in<G: Gate, R: Threads>(&mut self, rt: &R, gate: &G, entry: &Entry)
-        requires is { IsOwner self.old }
-        ensures is { IsOwner self.new }
         ensures after { (d : Definitions) (sources k : ℕ) (got : List Entry)
             → OwnsAfter d sources k got self.old
             → OwnsAfter d sources k (got ++ entry.now ∷ []) self.new }

@@ -1,6 +1,6 @@
-ghost use Rattle.std.specs.Prelude.{◌≡◌, ◌≤◌, ◌<◌, ◌+◌, ℕ, [], All, length, IfOk, OnOk};
+ghost use Rattle.std.specs.Prelude.{◌≡◌, ◌<◌, ◌+◌, [], All, length, IfOk, OnOk};
 ghost use Rattle.mail_lane.specs.Lane.{AreSendersOf};
-ghost use Rattle.fan_in.specs.Posts.{GainBoxes, IsPost};
+ghost use Rattle.fan_in.specs.Posts.{GainBoxes, IsPostOf};
 
 use crate::outbox::Outbox;
 use crate::owner::Owner;
@@ -21,12 +21,8 @@ pub(crate) struct Post {
 
 // Opens a lane for each shard, with a sender for each source.
 pub(crate) fn open_post(alloc: Global, plan: &Plan) -> Result<Post, NoMemory>
-    requires some_sources { 1 ≤ plan.now.sources }
-    requires few_sources { plan.now.sources ≤ 16 }
-    requires few_shards { plan.now.shards ≤ 16 }
     ensures shards { IfOk result (λ post. length post.lanes.items ≡ plan.now.shards) }
-    ensures open { IfOk result (λ post. IsPost plan.now.defs plan.now.sources
-        post.lanes.items post.owners.items post.rows.items) }
+    ensures open { IfOk result (IsPostOf plan.now) }
 {
     let mut post = Post {
         lanes: Vec::new(alloc),
@@ -53,21 +49,17 @@ fn empty_rows(alloc: Global, sources: u16) -> Result<Vec<Vec<Outbox>>, NoMemory>
 
 // Opens one lane more.
 fn open_lane(alloc: Global, plan: &Plan, number: u16, post: &mut Post) -> Result<(), NoMemory>
-    requires some_sources { 1 ≤ plan.now.sources }
-    requires few_sources { plan.now.sources ≤ 16 }
     requires few { number < 16 }
     requires next { number ≡ length post.old.lanes.items }
-    requires open { IsPost plan.now.defs plan.now.sources
-        post.old.lanes.items post.old.owners.items post.old.rows.items }
+    requires open { IsPostOf plan.now post.old }
     ensures one_more { OnOk result
         (length post.new.lanes.items ≡ length post.old.lanes.items + 1) }
-    ensures open { OnOk result (IsPost plan.now.defs plan.now.sources
-        post.new.lanes.items post.new.owners.items post.new.rows.items) }
+    ensures open { OnOk result (IsPostOf plan.now post.new) }
 {
     let shard = Shard::new(alloc, plan.defs.copy(alloc)?, plan.sources)?;
     let (mail, receiver, senders) = Mail::new(alloc, plan.sources)?;
     hand_outboxes(&mail, senders, post.rows.as_mut_slice())?;
-    let owner = Owner::new(shard, number, plan.sources);
+    let owner = Owner::new(shard, number, plan);
     post.lanes.push(mail)?;
     post.owners.push(OwnerJob { receiver, owner })?;
     Ok(())

@@ -1,7 +1,6 @@
-ghost use Rattle.std.specs.Prelude.{◌≡◌, ◌≤◌, ◌<◌, ℕ, length, slice_index_or};
-ghost use Rattle.fan_in.specs.Reading.{AreSame, IsReady, IsRead, StandAt};
-ghost use Rattle.fan_in.specs.Works.{IsReserved};
-ghost use Rattle.fan_in.specs.declared.outcome.Outcome.TheVariants.{Done};
+ghost use Rattle.std.specs.Prelude.{◌≡◌, ◌<◌, ℕ, length, slice_index_or};
+ghost use Rattle.fan_in.specs.Reading.{AreReadyAt, WasRead};
+ghost use Rattle.fan_in.specs.Works.{HasRoom};
 
 use crate::booked::Booked;
 use crate::desk::Desk;
@@ -23,26 +22,15 @@ pub(crate) fn read_out<F: Feed + Send, G: Gate, R: Threads + Wait + Sync>(
     feeds: Vec<F>,
     rows: Vec<Vec<Pass<Booked>>>,
 ) -> (Vec<FeedEnd<F>>, Vec<Vec<Pass<Booked>>>)
-    requires few { length desks.now ≤ 16 }
-    requires some { 1 ≤ length feeds.items }
-    requires one_each { length rows.items ≡ length feeds.items }
-    requires jobs { IsReserved (length feeds.items) work.jobs }
-    requires ends { IsReserved (length feeds.items) work.ends }
-    requires seats { IsReserved (length feeds.items) work.rows }
-    requires many { (i : ℕ) (row : _) → i < length feeds.items
-        → length (slice_index_or rows.items i row).items ≡ length desks.now }
-    requires own { (i : ℕ) (row : _) → i < length feeds.items
-        → StandAt desks.now (slice_index_or rows.items i row).items }
-    requires ready { (i : ℕ) (f : F) (row : _) → i < length feeds.items → IsReady
-        (F.state (slice_index_or feeds.items i f)) Done (slice_index_or rows.items i row).items }
+    requires ready { AreReadyAt F.state desks.now feeds.items rows.items }
+    requires room { HasRoom (length feeds.items) work }
     ensures many_ends { length result.0.items ≡ length feeds.items }
     ensures many_rows { length result.1.items ≡ length feeds.items }
-    ensures same { (i : ℕ) (row : _) → i < length feeds.items → AreSame
-        (slice_index_or rows.items i row).items (slice_index_or result.1.items i row).items }
     ensures read { (i : ℕ) (f : F) (e : _) (row : _) → i < length feeds.items
         → let old = slice_index_or feeds.items i f in let new = slice_index_or result.0.items i e in
-        IsRead (length desks.now) (F.state old) (F.state new.feed) (F.faults old)
-        (F.faults new.feed) new.outcome (slice_index_or result.1.items i row).items }
+        WasRead (length desks.now) (F.state old) (F.state new.feed) (F.faults old)
+        (F.faults new.feed) new.outcome (slice_index_or rows.items i row).items
+        (slice_index_or result.1.items i row).items }
 {
     let Work {
         mut jobs,

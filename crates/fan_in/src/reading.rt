@@ -1,7 +1,7 @@
-ghost use Rattle.std.specs.Prelude.{◌≡◌, ◌≤◌, All, IfSome, length};
+ghost use Rattle.std.specs.Prelude.{◌≡◌, All, IfSome, length};
 ghost use Rattle.turnstile.specs.Passes.{fixed};
 ghost use Rattle.fan_in.specs.Offers.{MayOffer};
-ghost use Rattle.fan_in.specs.Reading.{AreSame, IsReady, IsRead, StandAt, TakesMore};
+ghost use Rattle.fan_in.specs.Reading.{AreSame, IsReadyAt, StandAt, TakesMore, WasRead};
 
 use crate::desk::Desk;
 use crate::hand_out::hand_out;
@@ -20,13 +20,11 @@ pub(crate) fn read_feed<F: Feed, G: Gate, R: Threads + Wait>(
     desks: &[Desk],
     job: &mut Job<F>,
 )
-    requires few { length desks.now ≤ 16 }
-    requires many { length job.old.passes.items ≡ length desks.now }
-    requires own { StandAt desks.now job.old.passes.items }
-    requires ready { IsReady (F.state job.old.feed) job.old.outcome job.old.passes.items }
-    ensures same { AreSame job.old.passes.items job.new.passes.items }
-    ensures read { IsRead (length desks.now) (F.state job.old.feed) (F.state job.new.feed)
-        (F.faults job.old.feed) (F.faults job.new.feed) job.new.outcome job.new.passes.items }
+    requires ready { IsReadyAt desks.now (F.state job.old.feed) job.old.outcome
+        job.old.passes.items }
+    ensures read { WasRead (length desks.now) (F.state job.old.feed) (F.state job.new.feed)
+        (F.faults job.old.feed) (F.faults job.new.feed) job.new.outcome
+        job.old.passes.items job.new.passes.items }
 {
     'entries: for _ in rt.forever() {
         match job.feed.next() {
@@ -49,9 +47,7 @@ fn take_entry<F: Feed, G: Gate, R: Threads + Wait>(
     job: &mut Job<F>,
     entry: &Entry,
 )
-    requires few { length desks.now ≤ 16 }
-    requires many { length job.old.passes.items ≡ length desks.now }
-    requires own { StandAt desks.now job.old.passes.items }
+    requires stand { StandAt desks.now job.old.passes.items }
     requires may { All (λ p. IfSome (fixed p) (MayOffer entry.now)) job.old.passes.items }
     ensures feed { job.new.feed ≡ job.old.feed }
     ensures same { AreSame job.old.passes.items job.new.passes.items }

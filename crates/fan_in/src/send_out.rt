@@ -1,12 +1,12 @@
-ghost use Rattle.std.specs.Prelude.{◌≡◌, ◌≤◌, ◌<◌, ◌++◌, [], ◌∷◌, length};
+ghost use Rattle.std.specs.Prelude.{◌++◌, [], ◌∷◌, length};
 ghost use Rattle.stream_base.specs.Model.Routes.{routed};
 ghost use Rattle.mail_lane.specs.Lane.{IsSenderOf};
 ghost use Rattle.fan_in.specs.Reading.{IsAbout, IsHalfway};
 ghost use Rattle.fan_in.specs.Sending.{AreSameSenders, HasSent, HaveSentMore, IsSameSender, SendOn};
 
-use crate::hand_out::goes_to;
 use crate::outbox::Outbox;
 use crate::outcome::Outcome;
+use crate::place::Place;
 use mail_lane::Mail;
 use outside::Gate;
 use source_feed::FeedFault;
@@ -21,24 +21,18 @@ pub(crate) fn send_out<G: Gate, R: Wait>(
     outboxes: &mut [Outbox],
     entry: &Entry,
 ) -> Outcome
-    requires many { length outboxes.old ≡ length lanes.now }
-    requires few { length lanes.now ≤ 16 }
-    requires own { SendOn lanes.now outboxes.old }
+    requires senders { SendOn lanes.now outboxes.old }
     ensures same { AreSameSenders outboxes.old outboxes.new }
     ensures halfway { IsHalfway (length lanes.now) result }
     ensures sent { HaveSentMore (length lanes.now) entry.now result outboxes.old outboxes.new }
 {
     let shards = lanes.len() as u16;
     for k in 0..lanes.len() {
-        let outcome = send_to(
-            rt,
-            gate,
-            &lanes[k],
-            &mut outboxes[k],
-            k as u16,
+        let place = Place {
+            shard: k as u16,
             shards,
-            entry,
-        );
+        };
+        let outcome = send_to(rt, gate, &lanes[k], &mut outboxes[k], place, entry);
         match outcome {
             Outcome::Done => {}
             Outcome::Fault(_) | Outcome::Full { .. } => return outcome,
@@ -54,23 +48,20 @@ fn send_to<G: Gate, R: Wait>(
     gate: &G,
     mail: &Mail<Entry>,
     outbox: &mut Outbox,
-    shard: u16,
-    shards: u16,
+    place: Place,
     entry: &Entry,
 ) -> Outcome
     requires own { IsSenderOf mail.now outbox.old }
-    requires inside { shard < shards }
-    requires few { shards ≤ 16 }
     ensures same { IsSameSender outbox.old outbox.new }
-    ensures about { IsAbout shard result }
-    ensures sent { HasSent (outbox.old.sent ++ routed shards shard (entry.now ∷ [])) shard result
-        outbox.new }
+    ensures about { IsAbout place.shard result }
+    ensures sent { HasSent (outbox.old.sent ++ routed place.shards place.shard (entry.now ∷ []))
+        place.shard result outbox.new }
 {
-    if !goes_to(&entry.what, shards, shard) {
+    if !place.goes_to(&entry.what) {
         return Outcome::Done;
     }
     if outbox.count() > JOURNAL_MAX {
-        return Outcome::Full { shard };
+        return Outcome::Full { shard: place.shard };
     }
     gate.pass(entry.source);
     match outbox.send(rt, mail, *entry) {

@@ -1,4 +1,4 @@
-ghost use Rattle.std.specs.Prelude.{◌≡◌, ◌≤◌, length};
+ghost use Rattle.std.specs.Prelude.{◌≡◌, length};
 ghost use Rattle.fan_in.specs.Sending.{AreSameSenders, IsReadyToSend, IsSentOut, SendOn};
 ghost use Rattle.fan_in.specs.Sending.{SendsMore, own_outcome};
 
@@ -49,9 +49,7 @@ fn pass_on<F: Feed, G: Gate, R: Threads + Wait>(
     job: &mut MailJob<F>,
     entry: &Entry,
 )
-    requires few { length lanes.now ≤ 16 }
-    requires many { length job.old.outboxes.items ≡ length lanes.now }
-    requires own { SendOn lanes.now job.old.outboxes.items }
+    requires senders { SendOn lanes.now job.old.outboxes.items }
     ensures feed { job.new.feed ≡ job.old.feed }
     ensures same { AreSameSenders job.old.outboxes.items job.new.outboxes.items }
     ensures sent { SendsMore (length lanes.now) entry.now job.old.outcome job.new.outcome

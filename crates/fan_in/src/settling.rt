@@ -3,7 +3,8 @@ ghost use Rattle.std.specs.Prelude.{All, slice_index_or};
 ghost use Rattle.stream_base.specs.Limits.{Definitions};
 ghost use Rattle.stream_base.specs.declared.entry.Entry.{Entry};
 ghost use Rattle.mail_lane.specs.Lane.{IsReceiverOf, TakenWhole};
-ghost use Rattle.fan_in.specs.Owning.{IsOwner, OwnsAfter, entries_in, note_of};
+ghost use Rattle.fan_in.specs.Gathering.{AreSameFeeds};
+ghost use Rattle.fan_in.specs.Owning.{OwnsAfter, entries_in, note_of};
 ghost use Rattle.fan_in.specs.Posts.{AreOwned, OwnsLane};
 ghost use Rattle.fan_in.specs.Reading.{IsAbout};
 ghost use Rattle.fan_in.specs.Sending.{IsOwnOutcome};
@@ -38,7 +39,6 @@ pub(crate) fn settle_all<F, G: Gate, R: Threads + Wait>(
     shards: &mut Vec<Shard>,
     ends: &mut [FeedEnd<F>],
 )
-    requires few { plan.now.sources ≤ 16 }
     requires owned { AreOwned plan.now.defs plan.now.sources lanes.items owners.items }
     requires rows { AreSentRows plan.now.sources lanes.items rows.items }
     requires room { IsReserved (length lanes.items) shards.old }
@@ -46,9 +46,7 @@ pub(crate) fn settle_all<F, G: Gate, R: Threads + Wait>(
     requires own { All (λ e. IsOwnOutcome e.outcome) ends.old }
     ensures many { length shards.new.items ≡ length lanes.items }
     ensures settled { All (IsSettledShard plan.now.defs plan.now.sources) shards.new.items }
-    ensures many_ends { length ends.new ≡ length ends.old }
-    ensures feeds { (i : ℕ) (e : _) → i < length ends.old
-        → (slice_index_or ends.new i e).feed ≡ (slice_index_or ends.old i e).feed }
+    ensures same { AreSameFeeds ends.old ends.new }
     ensures follows { (i : ℕ) (e : _) → i < length ends.old → Follows (length lanes.items)
         (slice_index_or ends.old i e).outcome (slice_index_or ends.new i e).outcome }
     ensures held { (k i : ℕ) (row : _) (b : _) (e : _) (s : _) → k < length lanes.items
@@ -137,8 +135,6 @@ fn apply_rest<G: Gate, R: Threads + Wait>(
     settled: &mut Settled<Entry>,
     owner: &mut Owner,
 )
-    requires is { IsOwner owner.old }
-    ensures is { IsOwner owner.new }
     ensures whole { TakenWhole settled.new }
     ensures sent { settled.new.sent ≡ settled.old.sent }
     ensures after { (d : Definitions) (sources k : ℕ)
@@ -157,9 +153,7 @@ fn apply_rest<G: Gate, R: Threads + Wait>(
 // What an owner noted of each source goes into the outcome of its feed.
 fn take_notes<F>(ends: &mut [FeedEnd<F>], notes: &[Outcome; 16])
     requires few { length ends.old ≤ 16 }
-    ensures many { length ends.new ≡ length ends.old }
-    ensures feeds { (i : ℕ) (e : _) → i < length ends.old
-        → (slice_index_or ends.new i e).feed ≡ (slice_index_or ends.old i e).feed }
+    ensures same { AreSameFeeds ends.old ends.new }
     ensures outcomes { (i : ℕ) (e : _) → i < length ends.old
         → (slice_index_or ends.new i e).outcome
         ≡ worse (slice_index_or ends.old i e).outcome (note_of i notes.now) }

@@ -1,5 +1,5 @@
 ghost use Rattle.std.specs.Prelude.{◌≡◌, ◌≤◌, ◌<◌, ℕ, All, length, slice_index_or};
-ghost use Rattle.fan_in.specs.Reading.{AreSame, IsReady, IsReadyAt, IsRead, StandAt, WasRead};
+ghost use Rattle.fan_in.specs.Reading.{IsReadyAt, WasRead};
 
 use crate::desk::Desk;
 use crate::job::Job;
@@ -18,17 +18,13 @@ pub(crate) fn read_all<F: Feed + Send, G: Gate, R: Threads + Wait + Sync>(
     jobs: &mut [Job<F>],
 )
     requires some { 1 ≤ length jobs.old }
-    requires few { length desks.now ≤ 16 }
-    requires many { All (λ job. length job.passes.items ≡ length desks.now) jobs.old }
-    requires own { All (λ job. StandAt desks.now job.passes.items) jobs.old }
-    requires ready { All (λ job. IsReady (F.state job.feed) job.outcome job.passes.items) jobs.old }
+    requires ready { All (λ job. IsReadyAt desks.now (F.state job.feed) job.outcome
+        job.passes.items) jobs.old }
     ensures many { length jobs.new ≡ length jobs.old }
-    ensures same { (i : ℕ) (d : _) → i < length jobs.old → AreSame
-        (slice_index_or jobs.old i d).passes.items (slice_index_or jobs.new i d).passes.items }
     ensures read { (i : ℕ) (d : _) → i < length jobs.old
         → let old = slice_index_or jobs.old i d in let new = slice_index_or jobs.new i d in
-        IsRead (length desks.now) (F.state old.feed) (F.state new.feed)
-        (F.faults old.feed) (F.faults new.feed) new.outcome new.passes.items }
+        WasRead (length desks.now) (F.state old.feed) (F.state new.feed) (F.faults old.feed)
+        (F.faults new.feed) new.outcome old.passes.items new.passes.items }
 {
     let threads = jobs.len();
     thread::for_each_mut(

@@ -1,6 +1,6 @@
 ghost use Rattle.std.specs.Prelude.{◌≡◌, ◌≤◌, ◌<◌, ◌+◌, ℕ, drop, length, slice_index_or, IfOk};
 ghost use Rattle.std.specs.Vec.{vec_capacity};
-ghost use Rattle.fan_in.specs.Works.{IsReserved};
+ghost use Rattle.fan_in.specs.Works.{HasTaskRoom, IsReserved};
 ghost use Rattle.fan_in.specs.Tasks.{IsOwning, IsReading};
 ghost use Rattle.fan_in.specs.declared.outcome.Outcome.TheVariants.{Done};
 ghost use Rattle.fan_in.specs.declared.task.Task.TheVariants.{Owning, Reading};
@@ -32,11 +32,8 @@ pub(crate) struct Tasks<F> {
 // Room for the tasks of so many feeds and owners.
 pub(crate) fn room_for<F>(alloc: Global, feeds: usize, owners: usize) -> Result<Tasks<F>, NoMemory>
     requires few { (feeds ≤ 16) × (owners ≤ 16) }
-    ensures tasks { IfOk result (λ r. IsReserved (feeds + owners) r.tasks) }
-    ensures ends { IfOk result (λ r. IsReserved feeds r.ends) }
-    ensures rows { IfOk result (λ r. IsReserved feeds r.rows) }
-    ensures owners { IfOk result (λ r. IsReserved owners r.owners) }
-    ensures shards { IfOk result (λ r. IsReserved owners r.shards) }
+    ensures room { IfOk result (HasTaskRoom feeds owners) }
+    ensures shards { IfOk result (λ room. IsReserved owners room.shards) }
 {
     let rows = Vec::with_capacity(alloc, feeds)?;
     let shards = Vec::with_capacity(alloc, owners)?;

@@ -1,5 +1,6 @@
 ghost use Rattle.std.specs.Prelude.{◌≡◌, ◌<◌, ℕ, length, IfOk, slice_index_or};
-ghost use Rattle.fan_in.specs.Works.{IsReserved, without_shards};
+ghost use Rattle.fan_in.specs.Gathering.{AreSameFeeds};
+ghost use Rattle.fan_in.specs.Works.{HasRoom, IsReserved, without_shards};
 ghost use Rattle.fan_in.specs.declared.outcome.Outcome.TheVariants.{Done};
 
 use crate::booked::Booked;
@@ -20,9 +21,7 @@ pub(crate) struct Work<F> {
 
 // Room for so many jobs.
 pub(crate) fn make_room<F>(alloc: Global, many: usize) -> Result<Work<F>, NoMemory>
-    ensures jobs { IfOk result (λ work. IsReserved many work.jobs) }
-    ensures ends { IfOk result (λ work. IsReserved many work.ends) }
-    ensures rows { IfOk result (λ work. IsReserved many work.rows) }
+    ensures { IfOk result (HasRoom many) }
 {
     let rows = Vec::with_capacity(alloc, many)?;
     let ends: Vec<FeedEnd<F>> = Vec::with_capacity(alloc, many)?;
@@ -88,9 +87,7 @@ pub(crate) fn take_apart<F>(
 
 // No shard can be handed out: each feed without a fault of its own has want of memory.
 pub(crate) fn give_up<F>(ends: &mut [FeedEnd<F>])
-    ensures many { length ends.new ≡ length ends.old }
-    ensures feeds { (i : ℕ) (e : _) → i < length ends.old
-        → (slice_index_or ends.new i e).feed ≡ (slice_index_or ends.old i e).feed }
+    ensures same { AreSameFeeds ends.old ends.new }
     ensures outcomes { (i : ℕ) (e : _) → i < length ends.old
         → (slice_index_or ends.new i e).outcome
         ≡ without_shards (slice_index_or ends.old i e).outcome }

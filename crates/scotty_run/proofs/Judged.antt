@@ -18,13 +18,10 @@ use Rattle.scotty_run.specs.Opening.{StopsAtOpening}
 use Rattle.scotty_run.specs.Outside.{Counts, Telling, WhereTold}
 use Rattle.scotty_run.specs.Reading.{IsTextOf}
 use Rattle.scotty_run.specs.Words.{Check, Run}
+use Rattle.scotty_run.proofs.Endings.{BeganBefore}
 use Rattle.scotty_run.proofs.Filled.{stops_since}
 use Rattle.scotty_run.proofs.Opened.{rose_since}
 use Rattle.scotty_run.proofs.Told.{read_too_long_is_told, read_whole_is_told, rose_from_none}
-
-pub if_ok : {T E : Type 0} (r : Result T E) (P Q : T → Type 0) → IfOk r P → ((x : T) → P x → Q x) → IfOk r Q
-if_ok (Ok x) P Q h f = f x h
-if_ok (Err e) P Q h f = tt
 
 -- the report's text is its bytes, where the reading is of them
 pub text_is_told : (told left : Option (List ℕ)) (read : Result (Vec ℕ Global) WholeFault) (text : Result (Vec ℕ Global) Fault) → IfOk text (λ t. read ≡ Ok t)
@@ -79,19 +76,18 @@ opening_stops told run d counts ReportFull h = h
 opening_stops told run d counts NoMemory h = tt
 
 -- counts that began earlier
-report_since : (told : Option (List ℕ)) (names : List (List ℕ)) (old now : Counts) → old.opens.after ≡ now.opens.after → old.reads.after ≡ now.reads.after → old.opens.before ≤ now.opens.before → old.reads.before ≤ now.reads.before
-    → (now.left names → old.left names) → (fault : Fault) → StopsAtReport told names now fault → StopsAtReport told names old fault
-report_since told names old now a b o r l Usage h = h
-report_since told names old now a b o r l (Defs cause) h = h
-report_since told names old now a b o r l (Unopened place) h = h
-report_since told names old now a b o r l (Row source number why) h = h
-report_since told names old now a b o r l (Read place) h = h
-report_since told names old now a b o r l (FullSource source) h = h
-report_since told names old now a b o r l (FullShard k) h = h
-report_since told names old now a b o r l ReportOpen h = (rose_since old.opens.before now.opens.before old.opens.after o (rw a h.0), l h.1)
-report_since told names old now a b o r l ReportRead h = rose_since old.reads.before now.reads.before old.reads.after r (rw b h)
-report_since told names old now a b o r l ReportFull h = h
-report_since told names old now a b o r l NoMemory h = h
+report_since : (told : Option (List ℕ)) (names : List (List ℕ)) (old now : Counts) → BeganBefore old now → (fault : Fault) → StopsAtReport told names now fault → StopsAtReport told names old fault
+report_since told names old now b Usage h = h
+report_since told names old now b (Defs cause) h = h
+report_since told names old now b (Unopened place) h = h
+report_since told names old now b (Row source number why) h = h
+report_since told names old now b (Read place) h = h
+report_since told names old now b (FullSource source) h = h
+report_since told names old now b (FullShard k) h = h
+report_since told names old now b ReportOpen h = (rose_since old.opens.before now.opens.before old.opens.after b.opens (rw b.opens_end h.0), b.left names h.1)
+report_since told names old now b ReportRead h = rose_since old.reads.before now.reads.before old.reads.after b.reads (rw b.reads_end h)
+report_since told names old now b ReportFull h = h
+report_since told names old now b NoMemory h = h
 
 module _ (told mid : Telling) (c : Check) (same : (which : List ℕ) → mid which ≡ told which) where
   told_is : mid ≡ told
@@ -105,13 +101,13 @@ module _ (told mid : Telling) (c : Check) (same : (which : List ℕ) → mid whi
   pub found_behind : (d : Definitions) (text : List ℕ) → WhereTold (told c.report) (λ bytes. IsTextOf bytes text) → (finding : Finding) → IsFoundIn mid c d text finding → IsFoundBehind told c d finding
   found_behind d text read finding h = record { text = text; text_read = read; found_in = subst (λ (t : Telling). IsFoundIn t c d text finding) told_is h }
 
-  module _ (old now : Counts) (a : old.opens.after ≡ now.opens.after) (b : old.reads.after ≡ now.reads.after) (o : old.opens.before ≤ now.opens.before) (r : old.reads.before ≤ now.reads.before) (l : (names : List (List ℕ)) → now.left names → old.left names) where
+  module _ (old now : Counts) (b : BeganBefore old now) where
     pub stops_behind_report : (d : Definitions) (text : List ℕ) → WhereTold (told c.report) (λ bytes. IsTextOf bytes text) → (fault : Fault) → StopsAtSources mid (reading_run c) d now fault → StopsBehindDefs told c d old fault
-    stops_behind_report d text read fault h = inr record { text = text; text_read = read; cause = stops_since told (reading_run c) d old now a b o r l fault (subst (λ (t : Telling). StopsAtSources t (reading_run c) d now fault) told_is h) }
+    stops_behind_report d text read fault h = inr record { text = text; text_read = read; cause = stops_since told (reading_run c) d old now b fault (subst (λ (t : Telling). StopsAtSources t (reading_run c) d now fault) told_is h) }
 
     pub stops_behind_defs : (d : Definitions) → AreDefsOf (told c.defs) d → (fault : Fault) → StopsBehindDefs mid c d now fault → StopsAtCheck told c old fault
     stops_behind_defs d read fault h = inr record { d = d; read = read; cause = since (subst (λ (t : Telling). StopsBehindDefs t c d now fault) told_is h) }
       where
         since : StopsBehindDefs told c d now fault → StopsBehindDefs told c d old fault
-        since (inl x) = inl (report_since (told c.report) (c.report ∷ c.sources) old now a b o r (l (c.report ∷ c.sources)) fault x)
-        since (inr x) = inr record { text = x.text; text_read = x.text_read; cause = stops_since told (reading_run c) d old now a b o r l fault x.cause }
+        since (inl x) = inl (report_since (told c.report) (c.report ∷ c.sources) old now b fault x)
+        since (inr x) = inr record { text = x.text; text_read = x.text_read; cause = stops_since told (reading_run c) d old now b fault x.cause }

@@ -6,6 +6,7 @@ pub mod Settlings
 pub mod Opened
 pub mod Gathers
 pub mod Ends
+pub mod Endings
 pub mod Filled
 pub mod Makings
 pub mod Answering

@@ -1,5 +1,5 @@
 -- The feeds and the shards of a made run.
-use Rattle.std.proofs.Common.{◌≡◌, ◌∙◌, ◌<◌, ◌≤◌, ◌+◌, ◌++◌, ◌⊎◌, ℕ, List, [], ◌∷◌, All, length, map, take, get_or, ap, sym, subst, arith, inl, inr, ⊎_elim, length-append, IfSome}
+use Rattle.std.proofs.Common.{◌≡◌, ◌∙◌, ◌<◌, ◌+◌, ◌++◌, ◌⊎◌, ℕ, List, [], ◌∷◌, All, length, map, take, get_or, ap, sym, subst, arith, inl, inr, ⊎_elim, length-append, IfSome}
 use Rattle.std.specs.List.{range_with_len}
 use Rattle.std.proofs.lemmas.Bool.{cases_lt}
 use Rattle.std.proofs.lemmas.Grind.{flat_map-append}
@@ -16,9 +16,10 @@ use Rattle.source_feed.specs.declared.feed_fault.FeedFault.{FeedFault}
 use Rattle.fan_in.specs.declared.gathered.FeedEnd.{FeedEnd}
 use Rattle.fan_in.specs.declared.outcome.Outcome.{Outcome}
 use Rattle.fan_in.specs.declared.outcome.Outcome.TheVariants.{Done}
-use Rattle.fan_in.specs.Gathering.{HoldsPart, IsFault, IsGathered}
+use Rattle.fan_in.specs.Gathering.{AreFreshFeeds, AreGathered, HoldsPart, IsFault}
 use Rattle.final_rows.specs.AtEnd.{rows_of_shards}
 use Rattle.scotty_run.specs.Making.{AreMadeFeeds, AreMadeShards, AreOfDefinitions, IsMadeFeed}
+use Rattle.scotty_run.specs.Words.{IsWithinLimits, Made}
 use Rattle.scotty_run.proofs.Opened.{some_of}
 
 abbrev Feed : Type 0
@@ -42,51 +43,63 @@ standing_more sources shards i s rows own l is alike before mine =
     ∙ sym (flat_map-append (standing_rows made_definitions sources) (map journal (take i shards)) (s.journal ∷ []))
     ∙ ap (rows_of_shards made_definitions sources) (sym (map-append journal (take i shards) (s ∷ [])) ∙ ap (map journal) (ap (λ x. take i shards ++ x ∷ []) is ∙ sym (take_more shards i s l)))
 
-module _ (seed rows sources : ℕ) where
+module _ (run : Made) where
   -- one feed more
-  pub made_more : (feeds : List Feed) (feed : Feed) (n : ℕ) → length feeds ≡ n → AreMadeFeeds seed rows sources feeds → IsMadeFeed seed rows sources n feed → AreMadeFeeds seed rows sources (feeds ++ feed ∷ [])
+  pub made_more : (feeds : List Feed) (feed : Feed) (n : ℕ) → length feeds ≡ n → AreMadeFeeds run feeds → IsMadeFeed run.seed run.rows run.sources n feed → AreMadeFeeds run (feeds ++ feed ∷ [])
   made_more feeds feed n many h is i f l =
-      ⊎_elim (λ (less : i < length feeds). subst (IsMadeFeed seed rows sources i) (sym (get_or_append_left feeds (feed ∷ []) f i less)) (h i f less))
+      ⊎_elim (λ (less : i < length feeds). subst (IsMadeFeed run.seed run.rows run.sources i) (sym (get_or_append_left feeds (feed ∷ []) f i less)) (h i f less))
       (λ ge.
       let same : n ≡ i = let size = length-append feeds (feed ∷ []) in omega (arith, ge, many, l, size) in
-      subst (IsMadeFeed seed rows sources i) (sym (get_or_push feeds feed f i (many ∙ same))) (subst (λ k. IsMadeFeed seed rows sources k feed) same is))
+      subst (IsMadeFeed run.seed run.rows run.sources i) (sym (get_or_push feeds feed f i (many ∙ same))) (subst (λ n. IsMadeFeed run.seed run.rows run.sources n feed) same is))
       (cases_lt i (length feeds))
 
-  made_count : length (made_sources seed rows sources) ≡ sources
-  made_count = length-map (range_with_len 0 sources) (made_entries seed rows sources) ∙ length-range_with_len 0 sources
+  -- the feeds weren't read yet
+  pub fresh_feeds : (feeds : List Feed) → length feeds ≡ run.sources → AreMadeFeeds run feeds → AreFreshFeeds (λ f. f) run.sources feeds
+  fresh_feeds feeds many made = record {
+    one_each = many;
+    fresh = λ i f l.
+        let m = made i f l in
+        record {
+          of_source = ap (λ (s : Feed). s.source) m.state;
+          running = ap (λ (s : Feed). s.ended) m.state;
+          unanswered = ap (λ (s : Feed). s.answered) m.state;
+          whole = m.closes;
+        };
+  }
 
-  made_at : (i : ℕ) → i < sources → get_or (made_sources seed rows sources) i [] ≡ made_entries seed rows sources i
+  made_count : length (made_sources run.seed run.rows run.sources) ≡ run.sources
+  made_count = length-map (range_with_len 0 run.sources) (made_entries run.seed run.rows run.sources) ∙ length-range_with_len 0 run.sources
+
+  made_at : (i : ℕ) → i < run.sources → get_or (made_sources run.seed run.rows run.sources) i [] ≡ made_entries run.seed run.rows run.sources i
   made_at i l =
-      let inside : i < length (range_with_len 0 sources) = let n = length-range_with_len 0 sources in omega (arith, l, n) in
+      let inside : i < length (range_with_len 0 run.sources) = let n = length-range_with_len 0 run.sources in omega (arith, l, n) in
       let zero : 0 + i ≡ i = omega arith in
-      get_or-map (made_entries seed rows sources) (range_with_len 0 sources) i 0 [] inside ∙ ap (made_entries seed rows sources) (get_or-range_with_len 0 sources i 0 l ∙ zero)
+      get_or-map (made_entries run.seed run.rows run.sources) (range_with_len 0 run.sources) i 0 [] inside ∙ ap (made_entries run.seed run.rows run.sources) (get_or-range_with_len 0 run.sources i 0 l ∙ zero)
 
-  module _ (k : ℕ) (feeds : List Feed) (ends : List End) (shards : List Sharded)
-      (some : 1 ≤ sources) (one_each : length feeds ≡ sources) (many : length ends ≡ sources)
-      (count : (shards ≡ []) ⊎ (length shards ≡ k))
-      (none : shards ≡ [] → (i : ℕ) (e : End) → i < sources → IsFault (get_or ends i e).outcome)
-      (alike : (j : ℕ) (s : Sharded) → j < length shards → IsGathered made_definitions sources (get_or shards j s))
-      (parts : (j i : ℕ) (s : Sharded) (f : Feed) (e : End) → j < length shards → i < sources → IfSome (get_or feeds i f).rest (λ stream. HoldsPart k j i stream (get_or ends i e).outcome (get_or shards j s).journal))
-      (made : AreMadeFeeds seed rows sources feeds)
+  module _ (limits : IsWithinLimits run) (feeds : List Feed) (ends : List End) (shards : List Sharded)
+      (one_each : length feeds ≡ run.sources)
+      (were : AreGathered (λ f. f) (λ _. 0) made_definitions run.sources run.shards feeds shards ends)
+      (made : AreMadeFeeds run feeds)
       (done : All (λ o. o ≡ Done) (map (λ e. e.outcome) ends)) where
-    end_at : (i : ℕ) → i < sources → End
-    end_at i l = some_of ends i (omega (arith, l, many))
+    end_at : (i : ℕ) → i < run.sources → End
+    end_at i l = some_of ends i (let n = were.many_ends in omega (arith, l, n))
 
-    done_at : (i : ℕ) (e : End) → i < sources → (get_or ends i e).outcome ≡ Done
+    done_at : (i : ℕ) (e : End) → i < run.sources → (get_or ends i e).outcome ≡ Done
     done_at i e l =
         let outcome : End → Outcome = λ (x : End). x.outcome in
-        let inside : i < length ends = omega (arith, l, many) in
+        let inside : i < length ends = let n = were.many_ends in omega (arith, l, n) in
         let below : i < length (map outcome ends) = let n = length-map ends outcome in omega (arith, inside, n) in
         sym (get_or-map outcome ends i e Done inside) ∙ done i Done below
 
-    back : length shards ≡ k
-    back = by count
+    back : length shards ≡ run.shards
+    back = by were.many_shards
       where
-        by : (shards ≡ []) ⊎ (length shards ≡ k) → length shards ≡ k
+        by : (shards ≡ []) ⊎ (length shards ≡ run.shards) → length shards ≡ run.shards
         by (inl empty) =
-            let l : 0 < sources = omega (arith, some) in
+            let some = (limits.few).some_sources in
+            let l : 0 < run.sources = omega (arith, some) in
             let e = end_at 0 l in
-            absurd (subst IsFault (done_at 0 e l) (none empty 0 e l))
+            absurd (subst IsFault (done_at 0 e l) (were.none empty 0 e l))
         by (inr all) = all
 
     journals : List (List Entry)
@@ -100,29 +113,30 @@ module _ (seed rows sources : ℕ) where
     unfolding journals
     journal_at j s l = get_or-map (λ (x : Sharded). x.journal) shards j s [] l
 
-    known : (j i : ℕ) (e : Entry) → j < length journals → i < length (get_or journals j []) → (get_or (get_or journals j []) i e).source < length (made_sources seed rows sources)
+    known : (j i : ℕ) (e : Entry) → j < length journals → i < length (get_or journals j []) → (get_or (get_or journals j []) i e).source < length (made_sources run.seed run.rows run.sources)
     known j i e l m =
         let l2 = inside j l in
         let s = some_of shards j l2 in
-        let below = subst (λ (es : List Entry). All (λ x. x.source < sources) es) (sym (journal_at j s l2)) (((alike j s l2).journal).known).known_sources in
-        let b : (get_or (get_or journals j []) i e).source < sources = below i e m in
+        let below = subst (λ (es : List Entry). All (λ x. x.source < run.sources) es) (sym (journal_at j s l2)) (((were.alike j s l2).journal).known).known_sources in
+        let b : (get_or (get_or journals j []) i e).source < run.sources = below i e m in
         omega (arith, b, made_count)
 
-    held : (j i : ℕ) → j < length journals → i < length (made_sources seed rows sources) → entries_from i (get_or journals j []) ≡ routed k j (get_or (made_sources seed rows sources) i [])
+    held : (j i : ℕ) → j < length journals → i < length (made_sources run.seed run.rows run.sources) → entries_from i (get_or journals j []) ≡ routed run.shards j (get_or (made_sources run.seed run.rows run.sources) i [])
     held j i l m =
         let l2 = inside j l in
-        let li : i < sources = omega (arith, m, made_count) in
+        let li : i < run.sources = omega (arith, m, made_count) in
         let s = some_of shards j l2 in
         let f = some_of feeds i (omega (arith, li, one_each)) in
         let e = end_at i li in
         let told = ap (λ (x : Feed). x.rest) (made i f (omega (arith, li, one_each))).state in
-        let part = subst (λ o. IfSome o (λ stream. HoldsPart k j i stream (get_or ends i e).outcome (get_or shards j s).journal)) told (parts j i s f e l2 li) in
-        ap (entries_from i) (journal_at j s l2) ∙ part.whole (done_at i e li) ∙ ap (routed k j) (sym (made_at i li))
+        let part = subst (λ o. IfSome o (λ stream. HoldsPart run.shards j i stream (get_or ends i e).outcome (get_or shards j s).journal)) told (were.parts j i s f e l2 li) in
+        ap (entries_from i) (journal_at j s l2) ∙ part.whole (done_at i e li) ∙ ap (routed run.shards j) (sym (made_at i li))
 
-    pub made_shards : AreMadeShards seed rows sources k shards
+    pub made_shards : AreMadeShards run shards
     unfolding journals
     made_shards = record {
-      alike = λ j s l. let a = alike j s l in (a.defs, a.sources_are);
+      limits = limits;
+      alike = λ j s l. let a = were.alike j s l in (a.defs, a.sources_are);
       lawful = record {
         count = length-map shards (λ s. s.journal) ∙ back;
         known = known;

@@ -7,7 +7,7 @@ use Rattle.outside.specs.Outside.{Rose}
 use Rattle.source_feed.specs.FileFeedState.{FileFeedState}
 use Rattle.scotty_run.specs.Causes.{told_at}
 use Rattle.scotty_run.specs.Opening.{AreUnread, IsUnread}
-use Rattle.scotty_run.specs.Outside.{Telling}
+use Rattle.scotty_run.specs.Outside.{GivesBack, Telling}
 
 -- a count that rose later rose from an earlier moment on
 pub rose_since : (a b c : ℕ) → a ≤ b → Rose b c → Rose a c
@@ -63,3 +63,53 @@ failed_more faults initial all left x a b c is front before least failed quiet i
     rose_since a b c least (failed (subst (λ y. 0 < faults y) at some)))
     (λ past. rose_still a b c (faults x) least (before i e past l some) failed quiet)
     (cases_lt i (length all))
+
+module _ {F E : Type 0} (failed_opens failed_reads : F → ℕ) (may_open : F → List (List ℕ) → Type 0) (many_out : F → ℕ) (told : F → Telling) (faults : E → ℕ) where
+  -- the last of these are given back, down to those that are left
+  pub record AreGivenDownTo (left all : List E) (old now : F) : Type 0 where
+    pub out : many_out now + length all ≡ many_out old + length left
+    pub planned : (names : List (List ℕ)) → may_open old names → may_open now names
+    pub opens : failed_opens now ≡ failed_opens old
+    pub reads : failed_reads old ≤ failed_reads now
+    pub same : (which : List ℕ) → told now which ≡ told old which
+    pub front : (i : ℕ) (e : E) → i < length left → get_or left i e ≡ get_or all i e
+    pub failed : (i : ℕ) (e : E) → length left ≤ i → i < length all → 0 < faults (get_or all i e) → Rose (failed_reads old) (failed_reads now)
+
+  pub none_given : (all : List E) (files : F) → AreGivenDownTo all all files files
+  none_given all files = record {
+    out = refl;
+    planned = λ names may. may;
+    opens = refl;
+    reads = omega arith;
+    same = λ which. refl;
+    front = λ i e l. refl;
+    failed = λ i e ge l some. absurd (let no : ⊥ = omega (arith, ge, l) in no);
+  }
+
+  -- one more is given back
+  pub one_given : (fewer left all : List E) (x : E) (old now new : F) → left ≡ fewer ++ x ∷ [] → AreGivenDownTo left all old now
+      → many_out new + 1 ≡ many_out now → ((names : List (List ℕ)) → may_open now names → may_open new names) → failed_opens new ≡ failed_opens now → failed_reads now ≤ failed_reads new
+      → (0 < faults x → Rose (failed_reads now) (failed_reads new)) → (faults x ≡ 0 → failed_reads new ≡ failed_reads now) → ((which : List ℕ) → told new which ≡ told now which)
+      → AreGivenDownTo fewer all old new
+  one_given fewer left all x old now new is before one_less planned opens reads failed quiet same =
+      let size = ap length is in
+      record {
+        out = let a = before.out in omega (arith, a, one_less, size, length-append fewer (x ∷ []));
+        planned = λ names may. planned names (before.planned names may);
+        opens = opens ∙ before.opens;
+        reads = let a = before.reads in omega (arith, a, reads);
+        same = λ which. same which ∙ before.same which;
+        front = front_less all left fewer x is before.front;
+        failed = failed_more faults all left fewer x (failed_reads old) (failed_reads now) (failed_reads new) is before.front before.failed before.reads failed quiet;
+      }
+
+  -- none is left
+  pub all_given : (left all : List E) (old new : F) → length left ≡ 0 → AreGivenDownTo left all old new → GivesBack failed_opens failed_reads may_open many_out told all faults old new
+  all_given left all old new none given = record {
+    out = let a = given.out in omega (arith, a, none);
+    planned = given.planned;
+    opens = given.opens;
+    reads = given.reads;
+    failed = λ i e l some. given.failed i e (omega (arith, none)) l some;
+    same = given.same;
+  }

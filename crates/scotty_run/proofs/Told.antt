@@ -1,8 +1,9 @@
 -- What the bytes that were read say of the bytes that a file tells.
 use Rattle.std.proofs.Common.{◌≡◌, ◌∙◌, ◌<◌, ◌+◌, ◌++◌, ℕ, List, [], length, Option, Some, None, Result, Ok, Err, inl, inr, refl, ap, sym, subst, arith, append-nil, length-append, false, leb}
 use Rattle.std.proofs.lemmas.Bool.Decides.{nat_tests}
-use Rattle.std.specs.Prelude.{IfOk, IfErr, IfSome, IsErrOf, OnOk, Vec}
+use Rattle.std.specs.Prelude.{IfOk, IfErr, IfSome, IsErrOf, IsOkAnd, OnOk, Vec}
 use Rattle.std.specs.declared.alloc.Global.{Global}
+use Rattle.stream_base.specs.Limits.{Definitions}
 use Rattle.outside.specs.Outside.{Rose, with_front}
 use Rattle.source_feed.specs.Whole.{PassesLimit}
 use Rattle.source_feed.specs.declared.whole_fault.WholeFault.{WholeFault}
@@ -13,7 +14,7 @@ use Rattle.window_defs.specs.declared.defs_fault.DefsFault.TheVariants.{Long, To
 use Rattle.window_defs.specs.declared.defs_fault.DefsFault.TheVariants.{NoMemory as NoRoom}
 use Rattle.emission_text.specs.declared.fault.Fault.{Fault}
 use Rattle.emission_text.specs.declared.fault.Fault.TheVariants.{Usage, Defs, Unopened, Row, Read, FullSource, FullShard, ReportOpen, ReportRead, ReportFull, NoMemory}
-use Rattle.scotty_run.specs.Causes.{StopsAtBytes, StopsAtDefs, StopsAtReading}
+use Rattle.scotty_run.specs.Causes.{AreDefsOf, StopsAtBytes, StopsAtDefs, StopsAtReading}
 use Rattle.scotty_run.specs.Outside.{Counts}
 
 some_inj : {X : Type 0} {x y : X} → Some x ≡ Some y → x ≡ y
@@ -45,6 +46,11 @@ pub rose_from_none : (faults reads after : ℕ) → Rose 0 faults → (0 < fault
 rose_from_none faults reads after (inl more) h = h more
 rose_from_none faults reads after (inr last) h = h (omega arith)
 
+-- what holds of a success, weakened
+pub if_ok : {T E : Type 0} (r : Result T E) (P Q : T → Type 0) → IfOk r P → ((x : T) → P x → Q x) → IfOk r Q
+if_ok (Ok x) P Q h f = f x h
+if_ok (Err e) P Q h f = tt
+
 -- what holds of an error, weakened
 pub if_err : {T E : Type 0} (r : Result T E) (P Q : E → Type 0) → IfErr r P → ((e : E) → P e → Q e) → IfErr r Q
 if_err (Ok x) P Q h f = tt
@@ -54,6 +60,13 @@ if_err (Err e) P Q h f = f e h
 pub on_ok : {T E : Type 0} (r : Result T E) (P : Type 0) → P → OnOk r P
 on_ok (Ok x) P h = h
 on_ok (Err e) P h = tt
+
+-- definitions that were read are those of the bytes that were told
+pub defs_are_told : (told left : Option (List ℕ)) (read : Result (Vec ℕ Global) WholeFault) (r : Result Definitions Fault) → IfOk r (λ d. IsOkAnd read (λ b. reading_of b.items ≡ Ok d))
+    → IfOk read (λ b. told ≡ with_front b.items left) → OnOk read (IfSome left (λ l. l ≡ [])) → IfOk r (AreDefsOf told)
+defs_are_told told left read (Err fault) h whole ends = tt
+defs_are_told told left (Ok b) (Ok d) h whole ends = λ bytes is. subst (λ (bs : List ℕ). reading_of bs ≡ Ok d) (read_whole_is_told told left b.items bytes whole ends is) h
+defs_are_told told left (Err cause) (Ok d) h whole ends = absurd h
 
 stops_at_bytes : (told : Option (List ℕ)) (names : List (List ℕ)) (counts : Counts) (read : List ℕ) → ((bytes : List ℕ) → told ≡ Some bytes → read ≡ bytes) → (fault : Fault) → StopsAtBytes read fault → StopsAtDefs told names counts fault
 stops_at_bytes told names counts read is Usage h = h

@@ -1,4 +1,5 @@
 -- The words of the command line.
+use Rattle.source_feed.specs.declared.made_feed.TheConstants.{MADE_ROWS_MAX}
 use Rattle.emission_text.specs.declared.report_form.ReportForm.{ReportForm}
 use Rattle.emission_text.specs.declared.report_form.ReportForm.TheVariants.{One, Two}
 use Rattle.scotty_run.specs.declared.way.Way.{Way}
@@ -38,6 +39,13 @@ run_word Two = codes "run2"
 abbrev pub IsRunWord : List ℕ → Type 0
 IsRunWord word = (form : ReportForm) × (word ≡ run_word form)
 
+-- 1 to 16 sources and shards
+pub record AreFew (sources shards : ℕ) : Type 0 where
+  pub some_sources : 1 ≤ sources
+  pub few_sources : sources ≤ 16
+  pub some_shards : 1 ≤ shards
+  pub few_shards : shards ≤ 16
+
 -- a run: the form of its report, the name of its definitions, how many shards, how feeds hand on, and the names of its sources
 pub record Run : Type 0 where
   pub form : ReportForm
@@ -75,6 +83,12 @@ pub record Made : Type 0 where
 -- how a made run is spelled
 abbrev pub made_words_of : Made → List (List ℕ)
 made_words_of m = codes "made" ∷ decimal m.seed ∷ decimal m.rows ∷ decimal m.sources ∷ decimal m.shards ∷ way_word m.way ∷ []
+
+-- 1 to 1,000,000 tuples, and 1 to 16 sources and shards
+pub record IsWithinLimits (m : Made) : Type 0 where
+  pub some_rows : 1 ≤ m.rows
+  pub few_rows : m.rows ≤ MADE_ROWS_MAX
+  pub few : AreFew m.sources m.shards
 
 -- the words are those of this made run: the seed has 64 bits, and there are 1 to 1,000,000 tuples and 1 to 16 sources and shards
 pub record IsMadeOf (words : List (List ℕ)) (m : Made) : Type 0 where

@@ -1,14 +1,13 @@
 //! The top call.
-ghost use Rattle.std.specs.Prelude.{◌≡◌, ◌≢◌, ◌≤◌, ◌↔◌, ◌⊎◌, ◌∷◌, ℕ, [], length, map, string_bytes, IfOk, IfErr, OnOk};
+ghost use Rattle.std.specs.Prelude.{◌≡◌, ◌↔◌, ◌⊎◌, ◌∷◌, map, string_bytes};
 ghost use Rattle.emission_text.specs.Findings.{finding_line};
 ghost use Rattle.emission_text.specs.Report.{form_of, report_text};
 ghost use Rattle.emission_text.specs.Sending.{Appends, Fails};
-ghost use Rattle.source_feed.specs.declared.made_feed.TheConstants.{MADE_ROWS_MAX};
 ghost use Rattle.scotty_run.specs.Answer.{IsAnswer, IsCheckAnswer, IsMadeAnswer, Says};
 ghost use Rattle.scotty_run.specs.Causes.{AreShardsOfFiles, StopsAtFiles};
-ghost use Rattle.scotty_run.specs.Outside.{counts_of};
+ghost use Rattle.scotty_run.specs.Outside.{Ends, counts_of};
 ghost use Rattle.scotty_run.specs.Statuses.{finding_status, status_of};
-ghost use Rattle.scotty_run.specs.Words.{Check, IsCheck, IsCheckOf, IsCommand, IsMadeOf, IsRun, IsRunOf, Made, Run, check_of, made_of, run_of};
+ghost use Rattle.scotty_run.specs.Words.{Check, IsCheck, IsCheckOf, IsCommand, IsMadeOf, IsRun, IsRunOf, Made, Run};
 
 use crate::definitions::read_definitions;
 use crate::gathering::gather_sources;
@@ -68,7 +67,7 @@ pub fn scotty<F: Files, K: Sink, G: Gate, R: Threads + Wait + Sync>(
     match run_of(words) {
         Some(command) => run(alloc, rt, &command, files, sink, gate),
         None => match made_of(words) {
-            Some(command) => make(alloc, rt, command, sink, gate),
+            Some(command) => make(alloc, rt, &command, sink, gate),
             None => match check_of(words) {
                 Some(command) => check(alloc, rt, &command, files, sink),
                 None => print_fault(&Fault::Usage, sink),
@@ -85,15 +84,8 @@ fn run<F: Files, K: Sink, G: Gate, R: Threads + Wait + Sync>(
     sink: &mut K,
     gate: &G,
 ) -> Status
-    requires some_sources { 1 ≤ length command.now.sources.now }
-    requires few_sources { length command.now.sources.now ≤ 16 }
-    requires some_shards { 1 ≤ command.now.shards }
-    requires few_shards { command.now.shards ≤ 16 }
-    requires planned { F.may_open files.old (command.now.defs.now
-        ∷ map string_bytes command.now.sources.now) }
-    ensures answer { IsAnswer K.written K.faults
-        (run_of command.now.form command.now.defs.now command.now.shards command.now.way
-        (map string_bytes command.now.sources.now)) (F.told files.old)
+    requires planned { F.may_open files.old (command.now.defs ∷ command.now.sources) }
+    ensures answer { IsAnswer K.written K.faults command.now (F.told files.old)
         (counts_of F.failed_opens F.failed_reads F.may_open files.old files.new)
         sink.old sink.new result }
     ensures out { F.out files.new ≡ F.out files.old }
@@ -122,19 +114,11 @@ fn print_report<K: Sink>(form: ReportForm, shards: &[Shard], sink: &mut K) -> St
 fn make<K: Sink, G: Gate, R: Threads + Wait + Sync>(
     alloc: Global,
     rt: &R,
-    command: MadeWords,
+    command: &MadeWords,
     sink: &mut K,
     gate: &G,
 ) -> Status
-    requires some_rows { 1 ≤ command.rows }
-    requires few_rows { command.rows ≤ MADE_ROWS_MAX }
-    requires some_sources { 1 ≤ command.sources }
-    requires few_sources { command.sources ≤ 16 }
-    requires some_shards { 1 ≤ command.shards }
-    requires few_shards { command.shards ≤ 16 }
-    ensures answer { IsMadeAnswer K.written K.faults
-        (made_of command.seed command.rows command.sources command.shards command.way)
-        sink.old sink.new result }
+    ensures answer { IsMadeAnswer K.written K.faults command.now sink.old sink.new result }
 {
     match make_rows(alloc, rt, command, gate) {
         Ok(rows) => print_summary(command.rows, &rows, sink),
@@ -150,13 +134,9 @@ fn check<F: Files, K: Sink, R: Threads>(
     files: &mut F,
     sink: &mut K,
 ) -> Status
-    requires few_sources { length command.now.sources.now ≤ 16 }
-    requires few_shards { command.now.shards ≤ 16 }
-    requires planned { F.may_open files.old (command.now.defs.now
-        ∷ command.now.report.now ∷ map string_bytes command.now.sources.now) }
-    ensures answer { IsCheckAnswer K.written K.faults
-        (check_of command.now.defs.now command.now.shards command.now.report.now
-        (map string_bytes command.now.sources.now)) (F.told files.old)
+    requires planned { F.may_open files.old
+        (command.now.defs ∷ command.now.report ∷ command.now.sources) }
+    ensures answer { IsCheckAnswer K.written K.faults command.now (F.told files.old)
         (counts_of F.failed_opens F.failed_reads F.may_open files.old files.new)
         sink.old sink.new result }
     ensures out { F.out files.new ≡ F.out files.old }
@@ -196,21 +176,10 @@ fn fill_shards<F: Files, G: Gate, R: Threads + Wait + Sync>(
     files: &mut F,
     gate: &G,
 ) -> Result<Vec<Shard>, Fault>
-    requires some_sources { 1 ≤ length command.now.sources.now }
-    requires few_sources { length command.now.sources.now ≤ 16 }
-    requires some_shards { 1 ≤ command.now.shards }
-    requires few_shards { command.now.shards ≤ 16 }
-    requires planned { F.may_open files.old (command.now.defs.now
-        ∷ map string_bytes command.now.sources.now) }
-    ensures ok { IfOk result (λ shards. AreShardsOfFiles (F.told files.old)
-        (run_of command.now.form command.now.defs.now command.now.shards command.now.way
-        (map string_bytes command.now.sources.now)) shards.items) }
-    ensures opened { OnOk result (F.may_open files.new []) }
-    ensures stopped { IfErr result (StopsAtFiles (F.told files.old)
-        (run_of command.now.form command.now.defs.now command.now.shards command.now.way
-        (map string_bytes command.now.sources.now))
-        (counts_of F.failed_opens F.failed_reads F.may_open files.old files.new)) }
-    ensures out { F.out files.new ≡ F.out files.old }
+    requires planned { F.may_open files.old (command.now.defs ∷ command.now.sources) }
+    ensures { Ends F.failed_opens F.failed_reads F.may_open F.out files.old files.new result
+        (λ shards. AreShardsOfFiles (F.told files.old) command.now shards.items)
+        (StopsAtFiles (F.told files.old) command.now) }
 {
     match read_definitions(alloc, files, command.defs) {
         Err(fault) => Err(fault),

@@ -1,7 +1,7 @@
 //! The definitions file is opened, read and refused or accepted.
-ghost use Rattle.std.specs.Prelude.{◌≡◌, ◌≤◌, ◌∷◌, ℕ, List, Ok, IfOk, IfErr, OnOk, IsOkAnd};
+ghost use Rattle.std.specs.Prelude.{◌≡◌, ◌∷◌, ℕ, List, Ok, IfOk, IfErr, IsOkAnd};
 ghost use Rattle.window_defs.specs.Reading.{reading_of};
-ghost use Rattle.scotty_run.specs.Outside.{counts_of};
+ghost use Rattle.scotty_run.specs.Outside.{ReadsFile};
 ghost use Rattle.scotty_run.specs.Causes.{AreDefsOf, StopsAtBytes, StopsAtDefs, StopsAtReading};
 
 use emission_text::Fault;
@@ -14,16 +14,8 @@ use window_defs::{BYTES_MAX, DefsFault, read_defs};
 /// The definitions in the file of this name, where they are accepted. The file is given back.
 pub fn read_definitions<F: Files>(alloc: Global, files: &mut F, name: &str) -> Result<Defs, Fault>
     requires planned { (rest : List (List ℕ)) × F.may_open files.old (name.now ∷ rest) }
-    ensures ok { IfOk result (AreDefsOf (F.told files.old name.now)) }
-    ensures opened { (rest : List (List ℕ)) → F.may_open files.old (name.now ∷ rest)
-        → OnOk result (F.may_open files.new rest) }
-    ensures stopped { (rest : List (List ℕ)) → F.may_open files.old (name.now ∷ rest)
-        → IfErr result (StopsAtDefs (F.told files.old name.now) (name.now ∷ rest)
-        (counts_of F.failed_opens F.failed_reads F.may_open files.old files.new)) }
-    ensures opens { F.failed_opens files.old ≤ F.failed_opens files.new }
-    ensures reads { F.failed_reads files.old ≤ F.failed_reads files.new }
-    ensures out { F.out files.new ≡ F.out files.old }
-    ensures same { (which : List ℕ) → F.told files.new which ≡ F.told files.old which }
+    ensures { ReadsFile F.failed_opens F.failed_reads F.may_open F.out F.told name.now
+        files.old files.new result AreDefsOf StopsAtDefs }
 {
     match files.open_file(name) {
         Err(_) => Err(Fault::Unopened { place: None }),

@@ -1,10 +1,9 @@
 //! A made run: generated sources are gathered into shards, and what stands there at the end is put
 //! into one order.
-ghost use Rattle.std.specs.Prelude.{◌≡◌, ◌≤◌, ◌⊎◌, ℕ, length, map, IfOk};
+ghost use Rattle.std.specs.Prelude.{◌≡◌, ◌⊎◌, ℕ, length, map, IfOk};
 ghost use Rattle.emission_text.specs.Sending.{Appends, Fails};
 ghost use Rattle.stream_base.specs.Model.Final.{final_rows, summary_of};
 ghost use Rattle.source_feed.specs.Generated.{made_definitions, made_sources};
-ghost use Rattle.source_feed.specs.declared.made_feed.TheConstants.{MADE_ROWS_MAX};
 ghost use Rattle.final_rows.specs.AtEnd.{rows_of_shards};
 ghost use Rattle.scotty_run.specs.Making.{AreMadeFeeds, AreMadeShards, AreOfDefinitions};
 
@@ -31,17 +30,11 @@ struct Standing;
 pub fn make_rows<G: Gate, R: Threads + Wait + Sync>(
     alloc: Global,
     rt: &R,
-    made: MadeWords,
+    made: &MadeWords,
     gate: &G,
 ) -> Result<Vec<Row>, NoMemory>
-    requires some_rows { 1 ≤ made.rows }
-    requires few_rows { made.rows ≤ MADE_ROWS_MAX }
-    requires some_sources { 1 ≤ made.sources }
-    requires few_sources { made.sources ≤ 16 }
-    requires some_shards { 1 ≤ made.shards }
-    requires few_shards { made.shards ≤ 16 }
-    ensures { IfOk result (λ rows. rows.items
-        ≡ final_rows made_definitions (made_sources made.seed made.rows made.sources)) }
+    ensures { IfOk result (λ rows. rows.items ≡ final_rows made_definitions
+        (made_sources made.now.seed made.now.rows made.now.sources)) }
 {
     let shards = make_shards(alloc, rt, made, gate)?;
     let mut steps: Steps<Standing> = Steps::start(rt);
@@ -55,17 +48,10 @@ pub fn make_rows<G: Gate, R: Threads + Wait + Sync>(
 fn make_shards<G: Gate, R: Threads + Wait + Sync>(
     alloc: Global,
     rt: &R,
-    made: MadeWords,
+    made: &MadeWords,
     gate: &G,
 ) -> Result<Vec<Shard>, NoMemory>
-    requires some_rows { 1 ≤ made.rows }
-    requires few_rows { made.rows ≤ MADE_ROWS_MAX }
-    requires some_sources { 1 ≤ made.sources }
-    requires few_sources { made.sources ≤ 16 }
-    requires some_shards { 1 ≤ made.shards }
-    requires few_shards { made.shards ≤ 16 }
-    ensures { IfOk result (λ shards.
-        AreMadeShards made.seed made.rows made.sources made.shards shards.items) }
+    ensures { IfOk result (λ shards. AreMadeShards made.now shards.items) }
 {
     let feeds = make_feeds(alloc, made)?;
     let plan = Plan {
@@ -83,14 +69,9 @@ fn make_shards<G: Gate, R: Threads + Wait + Sync>(
 }
 
 // The feeds of the generated sources, in their order.
-fn make_feeds(alloc: Global, made: MadeWords) -> Result<Vec<MadeFeed>, NoMemory>
-    requires some_rows { 1 ≤ made.rows }
-    requires few_rows { made.rows ≤ MADE_ROWS_MAX }
-    requires some_sources { 1 ≤ made.sources }
-    requires few_sources { made.sources ≤ 16 }
-    ensures many { IfOk result (λ feeds. length feeds.items ≡ made.sources) }
-    ensures feeds { IfOk result (λ feeds.
-        AreMadeFeeds made.seed made.rows made.sources feeds.items) }
+fn make_feeds(alloc: Global, made: &MadeWords) -> Result<Vec<MadeFeed>, NoMemory>
+    ensures many { IfOk result (λ feeds. length feeds.items ≡ made.now.sources) }
+    ensures feeds { IfOk result (λ feeds. AreMadeFeeds made.now feeds.items) }
 {
     let mut feeds = Vec::with_capacity(alloc, usize::from(made.sources))?;
     for source in 0..made.sources {

@@ -1,9 +1,8 @@
 //! All sources of a run are opened before one is read, and are given back.
-ghost use Rattle.std.specs.Prelude.{◌≡◌, ◌≤◌, ◌<◌, ◌+◌, ◌++◌, [], ◌∷◌, ℕ, List, length, map, string_bytes, IfOk, IfErr, OnOk, OnErr, slice_index_or};
-ghost use Rattle.std.specs.Vec.{vec_capacity};
+ghost use Rattle.std.specs.Prelude.{◌≡◌, ◌≤◌, ◌+◌, [], ◌∷◌, ℕ, List, length, map, string_bytes, IfOk, IfErr, OnOk, OnErr};
 ghost use Rattle.outside.specs.Outside.{Rose};
 ghost use Rattle.scotty_run.specs.Opening.{AreUnread, IsUnread, StopsAtOpening};
-ghost use Rattle.scotty_run.specs.Outside.{counts_of};
+ghost use Rattle.scotty_run.specs.Outside.{GivesBack, counts_of};
 
 use emission_text::Fault;
 use outside::{Failed, Files};
@@ -82,15 +81,8 @@ fn open_source<F: Files>(
 /// Gives the sources of these feeds back.
 pub fn close_feeds<F: Files>(files: &mut F, mut feeds: Vec<FileFeed<F::Input>>)
     requires { length feeds.items ≤ F.out files.old }
-    ensures out { F.out files.new + length feeds.items ≡ F.out files.old }
-    ensures planned { (names : List (List ℕ)) → F.may_open files.old names
-        → F.may_open files.new names }
-    ensures opens { F.failed_opens files.new ≡ F.failed_opens files.old }
-    ensures reads { F.failed_reads files.old ≤ F.failed_reads files.new }
-    ensures failed { (i : ℕ) (f : _) → i < length feeds.items
-        → 0 < F.Input.faults (slice_index_or feeds.items i f).from
-        → Rose (F.failed_reads files.old) (F.failed_reads files.new) }
-    ensures same { (which : List ℕ) → F.told files.new which ≡ F.told files.old which }
+    ensures { GivesBack F.failed_opens F.failed_reads F.may_open F.out F.told
+        feeds.items (λ f. F.Input.faults f.from) files.old files.new }
 {
     while let Some(feed) = feeds.pop() {
         files.give_back(feed.into_source());

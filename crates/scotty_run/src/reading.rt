@@ -1,12 +1,11 @@
 //! The sources of a check are read whole, one after another.
-ghost use Rattle.std.specs.Prelude.{◌≡◌, ◌≤◌, ◌<◌, ℕ, List, [], length, map, string_bytes, IfOk, IfErr, IfSome, IsErrOf, OnOk};
+ghost use Rattle.std.specs.Prelude.{◌≡◌, ◌≤◌, length, IfOk, IfErr, IfSome, IsErrOf};
 ghost use Rattle.outside.specs.Outside.{Rose};
 ghost use Rattle.report_check.specs.Findings.{lists_of};
 ghost use Rattle.scotty_run.specs.Called.{reading_run};
 ghost use Rattle.scotty_run.specs.Causes.{StopsAtSources};
-ghost use Rattle.scotty_run.specs.Outside.{counts_of};
+ghost use Rattle.scotty_run.specs.Outside.{Ends};
 ghost use Rattle.scotty_run.specs.Reading.{AreDrained, AreFresh, AreReadOf, IsAllOf, IsFirstTrouble, IsFresh, ShowsRefusal};
-ghost use Rattle.scotty_run.specs.Words.{check_of};
 
 use crate::opening::{close_feeds, open_sources};
 use crate::settling::fault_of;
@@ -25,16 +24,10 @@ pub fn read_sources<F: Files>(
     files: &mut F,
     defs: &Defs,
 ) -> Result<Vec<Vec<Entry>>, Fault>
-    requires few { length command.now.sources.now ≤ 16 }
-    requires planned { F.may_open files.old (map string_bytes command.now.sources.now) }
-    ensures ok { IfOk result (λ all. AreReadOf (F.told files.old) defs.now
-        (map string_bytes command.now.sources.now) (lists_of all.items)) }
-    ensures opened { OnOk result (F.may_open files.new []) }
-    ensures stopped { IfErr result (StopsAtSources (F.told files.old)
-        (reading_run (check_of command.now.defs.now command.now.shards command.now.report.now
-        (map string_bytes command.now.sources.now))) defs.now
-        (counts_of F.failed_opens F.failed_reads F.may_open files.old files.new)) }
-    ensures out { F.out files.new ≡ F.out files.old }
+    requires planned { F.may_open files.old command.now.sources }
+    ensures { Ends F.failed_opens F.failed_reads F.may_open F.out files.old files.new result
+        (λ all. AreReadOf (F.told files.old) defs.now command.now.sources (lists_of all.items))
+        (StopsAtSources (F.told files.old) (reading_run command.now) defs.now) }
 {
     match open_sources(alloc, files, command.sources, defs) {
         Err(fault) => Err(fault),

@@ -1,14 +1,15 @@
 //! The words of the command line, those after the program's name: which command they are.
 ghost use Rattle.std.specs.Prelude.{◌≡◌, ◌≤◌, ◌↔◌, ◌⊎◌, ℕ, List, map, decimal, string_bytes, All, IsTrue, IfSome, IfNone};
-ghost use Rattle.scotty_run.specs.Words.{AreSources, Check, IsCheck, IsCheckOf, IsMade, IsMadeOf, IsName, IsNumberWithin, IsRun, IsRunOf, IsRunWord, IsWay, Made, Run, check_of, made_of, run_of, run_word, way_word};
+ghost use Rattle.scotty_run.specs.Words.{AreSources, Check, IsCheck, IsCheckOf, IsMade, IsMadeOf, IsName, IsNumberWithin, IsRun, IsRunOf, IsRunWord, IsWay, Made, Run, run_word, way_word};
 
 use crate::way::Way;
 use emission_text::ReportForm;
 use itoa::Buffer;
+use std::marker::Model;
 
 /// A run: the form of its report, the name of its definitions, how many shards there are, how feeds
-/// hand on, and the names of its sources.
-#[derive(Clone, Copy)]
+/// hand on, and the names of its sources. There are 1 to 16 shards and sources.
+#[derive(Drop)]
 pub struct RunWords<'a> {
     pub form: ReportForm,
     pub defs: &'a str,
@@ -17,8 +18,20 @@ pub struct RunWords<'a> {
     pub sources: &'a [String],
 }
 
-/// A made run: its seed, how many tuples, sources and shards there are, and how feeds hand on.
-#[derive(Clone, Copy, Debug, PartialEq, Eq)]
+impl<'a> Model for RunWords<'a> {
+    ghost use Rattle.std.specs.Prelude.{length, map, string_bytes};
+    ghost use Rattle.scotty_run.specs.Words.{AreFew, Run, run_of};
+
+    ghost Value = { Run };
+
+    ghost view = { λ w. run_of w.form w.defs.now w.shards w.way (map string_bytes w.sources.now) };
+
+    ghost invariant = { λ w. AreFew (length w.sources.now) w.shards };
+}
+
+/// A made run: its seed, how many tuples, sources and shards there are, and how feeds hand on. There
+/// are 1 to 1,000,000 tuples, and 1 to 16 sources and shards.
+#[derive(Debug, Drop)]
 pub struct MadeWords {
     pub seed: u64,
     pub rows: u64,
@@ -27,9 +40,19 @@ pub struct MadeWords {
     pub way: Way,
 }
 
+impl Model for MadeWords {
+    ghost use Rattle.scotty_run.specs.Words.{IsWithinLimits, Made, made_of};
+
+    ghost Value = { Made };
+
+    ghost view = { λ w. made_of w.seed w.rows w.sources w.shards w.way };
+
+    ghost invariant = { λ w. IsWithinLimits (made_of w.seed w.rows w.sources w.shards w.way) };
+}
+
 /// A check of a report: the name of the definitions, how many shards there are, the name of the
-/// report, and the names of the sources.
-#[derive(Clone, Copy)]
+/// report, and the names of the sources. There are 1 to 16 shards and sources.
+#[derive(Drop)]
 pub struct CheckWords<'a> {
     pub defs: &'a str,
     pub shards: u16,
@@ -37,11 +60,21 @@ pub struct CheckWords<'a> {
     pub sources: &'a [String],
 }
 
+impl<'a> Model for CheckWords<'a> {
+    ghost use Rattle.std.specs.Prelude.{length, map, string_bytes};
+    ghost use Rattle.scotty_run.specs.Words.{AreFew, Check, check_of};
+
+    ghost Value = { Check };
+
+    ghost view = { λ w. check_of w.defs.now w.shards w.report.now (map string_bytes w.sources.now) };
+
+    ghost invariant = { λ w. AreFew (length w.sources.now) w.shards };
+}
+
 /// The run of these words, if they are those of one: `run DEFS SHARDS FEED SOURCE..`, or the same
 /// with `run2`, with 1 to 16 shards and sources.
 pub fn run_of(words: &[String]) -> Option<RunWords<'_>>
-    ensures found { IfSome result (λ r. IsRunOf (map string_bytes words.now)
-        (run_of r.form r.defs.now r.shards r.way (map string_bytes r.sources.now))) }
+    ensures found { IfSome result (IsRunOf (map string_bytes words.now)) }
     ensures none { IfNone result (¬ (IsRun (map string_bytes words.now))) }
 {
     match words {
@@ -68,8 +101,7 @@ pub fn run_of(words: &[String]) -> Option<RunWords<'_>>
 /// The made run of these words, if they are those of one: `made SEED ROWS SOURCES SHARDS FEED`, with
 /// 1 to 1,000,000 tuples and 1 to 16 sources and shards.
 pub fn made_of(words: &[String]) -> Option<MadeWords>
-    ensures found { IfSome result (λ m. IsMadeOf (map string_bytes words.now)
-        (made_of m.seed m.rows m.sources m.shards m.way)) }
+    ensures found { IfSome result (IsMadeOf (map string_bytes words.now)) }
     ensures none { IfNone result (¬ (IsMade (map string_bytes words.now))) }
 {
     match words {
@@ -98,8 +130,7 @@ pub fn made_of(words: &[String]) -> Option<MadeWords>
 /// The check of these words, if they are those of one: `check DEFS SHARDS REPORT SOURCE..`, with 1 to
 /// 16 shards and sources.
 pub fn check_of(words: &[String]) -> Option<CheckWords<'_>>
-    ensures found { IfSome result (λ c. IsCheckOf (map string_bytes words.now)
-        (check_of c.defs.now c.shards c.report.now (map string_bytes c.sources.now))) }
+    ensures found { IfSome result (IsCheckOf (map string_bytes words.now)) }
     ensures none { IfNone result (¬ (IsCheck (map string_bytes words.now))) }
 {
     match words {

@@ -43,7 +43,8 @@ impl Call<Pairs> for Append {
 
     ghost may_run = { λ call fixed. Unit {0} };
 
-    ghost does = { λ call before after number reply. IfOk reply (λ _. after.items.items ≡ before.items.items ++ (number, call.value) ∷ []) };
+    ghost does = { λ call before after number reply.
+        IfOk reply (λ _. after.items.items ≡ before.items.items ++ (number, call.value) ∷ []) };
 
     fn run(self, value: &mut Pairs, number: u64) -> Result<(), AllocError> {
         let Append { value: item } = self;

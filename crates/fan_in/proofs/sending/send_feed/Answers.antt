@@ -1,11 +1,12 @@
+use Rattle.std.proofs.Common.{rules}
 use Rattle.fan_in.proofs.Sent.{begin, fault_of, last, more, still_on}
 use Rattle.fan_in.proofs.sending.send_feed.Goals as goal
 
 pub entries-init : goal.entries-init
 entries-init g c = (tt, tt, begin _ _ _ _ _ c.requires.ready)
 
-pub pass_on-requires-clause-own : goal.pass_on-requires-clause-own
-pass_on-requires-clause-own g c κs within = still_on _ _ _ _ _ _ _ _ c.entries.invariant.2
+pub pass_on-requires : goal.pass_on-requires
+pass_on-requires g c = (search rules, still_on _ _ _ _ _ _ _ _ c.entries.invariant.2)
 
 pub entries-preserved : goal.entries-preserved
 entries-preserved g c =

@@ -31,9 +31,9 @@ loop-k-preserved g c =
     let owners : c.remove.new.self.items ≡ drop (k + 1) c.args.owners.items = c.remove.ensures.by_index.2 ∙ ap (drop 1) h.settling.owners_left ∙ drop-drop 1 k c.args.owners.items in
     record {
       room = grind (arith, common_steps);
-      feeds = λ i e l. c.take_notes.ensures.feeds i e (omega (arith, h.settling.many_olds, h.settling.many_news)) ∙ h.feeds i e l;
+      feeds = λ i e l. c.take_notes.ensures.same.feeds i e (omega (arith, h.settling.many_olds, h.settling.many_news)) ∙ h.feeds i e l;
       settling = rw (w, c.push_reserved.ensures.items) (settle_more (λ e. e.outcome) _ _ _ _ _ _ _ _ _ _ _ _ c.remove-mail.result c.remove.result h.settling c.requires.owned c.requires.rows lk c.remove-mail.ensures.value c.remove.ensures.value
-          _ _ _ c.settle_lane-owner.result _ lanes owners lose c.settle_lane-owner.ensures.settled c.settle_lane-owner.ensures.about held c.take_notes.ensures.many c.take_notes.ensures.outcomes);
+          _ _ _ c.settle_lane-owner.result _ lanes owners lose c.settle_lane-owner.ensures.settled c.settle_lane-owner.ensures.about held c.take_notes.ensures.same.many c.take_notes.ensures.outcomes);
     }
 
 pub returns-clause-held : goal.returns-clause-held

@@ -2,42 +2,29 @@
 use Rattle.std.proofs.Common.{map, string_bytes, subst}
 use Rattle.scotty_run.specs.Answer.{IsAnswer, IsCheckAnswer, IsMadeAnswer}
 use Rattle.scotty_run.specs.Outside.{counts_of}
-use Rattle.scotty_run.specs.Words.{Check, Made, Run, check_of, made_of, run_of}
+use Rattle.scotty_run.specs.Words.{Check, Made, Run}
 use Rattle.scotty_run.proofs.WordFacts.{one_check, one_made, one_run}
 use Rattle.scotty_run.proofs.command.scotty.Goals as goal
 
 pub run-requires-clause-planned : goal.run-requires-clause-planned
-run-requires-clause-planned g c lives bounds =
-    let command = c.in-Some.command in
-    let own = run_of command.form command.defs.now command.shards command.way (map string_bytes command.sources.now) in
-    c.requires.opens_run own c.in-Some.ensures.found
+run-requires-clause-planned g c lives bounds = c.requires.opens_run c.in-Some.command c.in-Some.ensures.found
 
 pub check-requires-clause-planned : goal.check-requires-clause-planned
-check-requires-clause-planned g c lives bounds =
-    let command = c.in-Some-check_of.command in
-    let own = check_of command.defs.now command.shards command.report.now (map string_bytes command.sources.now) in
-    c.requires.opens_check own c.in-Some-check_of.ensures.found
+check-requires-clause-planned g c lives bounds = c.requires.opens_check c.in-Some-check_of.command c.in-Some-check_of.ensures.found
 
 pub returns-in-Some-clause-answer : goal.returns-in-Some-clause-answer
 returns-in-Some-clause-answer g c run is =
-    let words = map string_bytes c.args.words.now in
-    let command = c.in-Some.command in
-    let own = run_of command.form command.defs.now command.shards command.way (map string_bytes command.sources.now) in
     let counts = counts_of g.F.Files.failed_opens g.F.Files.failed_reads g.F.Files.may_open c.args.files.now c.run.new.files in
     subst (λ (r : Run). IsAnswer g.K.Sink.written g.K.Sink.faults r (g.F.Files.told c.args.files.now) counts c.args.sink.now c.run.new.sink c.run.result)
-    (one_run words own run c.in-Some.ensures.found is) c.run.ensures.answer
+    (one_run (map string_bytes c.args.words.now) c.in-Some.command run c.in-Some.ensures.found is) c.run.ensures.answer
 
 pub returns-in-Some-made_of-clause-made : goal.returns-in-Some-made_of-clause-made
 returns-in-Some-made_of-clause-made g c m is =
-    let command = c.in-Some-made_of.command in
-    let own = made_of command.seed command.rows command.sources command.shards command.way in
     subst (λ (x : Made). IsMadeAnswer g.K.Sink.written g.K.Sink.faults x c.args.sink.now c.make.new.sink c.make.result)
-    (one_made (map string_bytes c.args.words.now) own m c.in-Some-made_of.ensures.found is) c.make.ensures.answer
+    (one_made (map string_bytes c.args.words.now) c.in-Some-made_of.command m c.in-Some-made_of.ensures.found is) c.make.ensures.answer
 
 pub returns-in-Some-check_of-clause-check : goal.returns-in-Some-check_of-clause-check
 returns-in-Some-check_of-clause-check g c k is =
-    let command = c.in-Some-check_of.command in
-    let own = check_of command.defs.now command.shards command.report.now (map string_bytes command.sources.now) in
     let counts = counts_of g.F.Files.failed_opens g.F.Files.failed_reads g.F.Files.may_open c.args.files.now c.check.new.files in
     subst (λ (x : Check). IsCheckAnswer g.K.Sink.written g.K.Sink.faults x (g.F.Files.told c.args.files.now) counts c.args.sink.now c.check.new.sink c.check.result)
-    (one_check (map string_bytes c.args.words.now) own k c.in-Some-check_of.ensures.found is) c.check.ensures.answer
+    (one_check (map string_bytes c.args.words.now) c.in-Some-check_of.command k c.in-Some-check_of.ensures.found is) c.check.ensures.answer

@@ -1,36 +1,43 @@
-use Rattle.std.proofs.Common.{◌∷◌, map, string_bytes, refl, inl}
+-- The definitions are read, and behind them the report and the sources.
+use Rattle.std.proofs.Common.{◌∷◌, ap, inl}
+use Rattle.scotty_run.specs.Causes.{AreDefsOf, StopsAtDefs}
 use Rattle.scotty_run.specs.Judging.{IsFindingOfFiles, IsFoundBehind, StopsAtCheck, StopsBehindDefs}
 use Rattle.scotty_run.specs.Outside.{counts_of}
-use Rattle.scotty_run.specs.Words.{check_of}
-use Rattle.scotty_run.proofs.Judged.{found_of_files, if_ok, stops_behind_defs}
-use Rattle.scotty_run.proofs.Told.{if_err}
+use Rattle.scotty_run.specs.Words.{Check}
+use Rattle.scotty_run.proofs.Endings.{ends_at, ends_behind, may_open_as}
+use Rattle.scotty_run.proofs.Judged.{found_of_files, stops_behind_defs}
 use Rattle.scotty_run.proofs.judging.find.Goals as goal
 
 pub read_definitions-requires-clause-planned : goal.read_definitions-requires-clause-planned
-read_definitions-requires-clause-planned g c lives bounds = (c.args.command.now.report.now ∷ map string_bytes c.args.command.now.sources.now, c.requires.planned)
+read_definitions-requires-clause-planned g c lives bounds =
+    let own = c.args.command.now in
+    (own.report ∷ own.sources, may_open_as g.F.Files.may_open c.args.files.now c.command.inside.defs.now own.defs (own.report ∷ own.sources) (ap (λ (k : Check). k.defs) c.command.view_is) c.requires.planned)
 
 pub find_behind-requires-clause-planned : goal.find_behind-requires-clause-planned
-find_behind-requires-clause-planned g c lives bounds = c.in-Ok.ensures.opened (c.args.command.now.report.now ∷ map string_bytes c.args.command.now.sources.now) c.requires.planned
+find_behind-requires-clause-planned g c lives bounds =
+    let own = c.args.command.now in
+    c.in-Ok.ensures.opened (own.report ∷ own.sources) (may_open_as g.F.Files.may_open c.args.files.now c.command.inside.defs.now own.defs (own.report ∷ own.sources) (ap (λ (k : Check). k.defs) c.command.view_is) c.requires.planned)
 
-pub returns-in-Err-clause-stopped : goal.returns-in-Err-clause-stopped
-returns-in-Err-clause-stopped g c = inl (c.in-Err.ensures.stopped (c.args.command.now.report.now ∷ map string_bytes c.args.command.now.sources.now) c.requires.planned)
-
-pub returns-in-Ok-clause-ok : goal.returns-in-Ok-clause-ok
-returns-in-Ok-clause-ok g c =
+pub returns-in-Err : goal.returns-in-Err
+returns-in-Err g c =
     let f = g.F.Files in
+    let own = c.args.command.now in
     let told = f.told c.args.files.now in
-    let mid = f.told c.read_definitions.new.files in
-    let own = check_of c.args.command.now.defs.now c.args.command.now.shards c.args.command.now.report.now (map string_bytes c.args.command.now.sources.now) in
-    if_ok c.find_behind.result (IsFoundBehind mid own c.in-Ok.defs) (IsFindingOfFiles told own) c.find_behind.ensures.ok
-    (found_of_files told mid own c.read_definitions.ensures.same c.in-Ok.defs c.in-Ok.ensures.ok)
+    ends_at f.failed_opens f.failed_reads f.may_open f.out f.told AreDefsOf StopsAtDefs (IsFindingOfFiles told own) (StopsAtCheck told own)
+    c.command.inside.defs.now own.defs (ap (λ (k : Check). k.defs) c.command.view_is) c.args.files.now c.read_definitions.new.files (own.report ∷ own.sources) c.in-Err.fault c.requires.planned c.in-Err.ensures inl
 
-pub returns-in-Ok-clause-stopped : goal.returns-in-Ok-clause-stopped
-returns-in-Ok-clause-stopped g c =
+pub returns-in-Ok : goal.returns-in-Ok
+returns-in-Ok g c =
     let f = g.F.Files in
-    let told = f.told c.args.files.now in
-    let mid = f.told c.read_definitions.new.files in
-    let own = check_of c.args.command.now.defs.now c.args.command.now.shards c.args.command.now.report.now (map string_bytes c.args.command.now.sources.now) in
-    let old = counts_of f.failed_opens f.failed_reads f.may_open c.args.files.now c.find_behind.new.files in
-    let now = counts_of f.failed_opens f.failed_reads f.may_open c.read_definitions.new.files c.find_behind.new.files in
-    if_err c.find_behind.result (StopsBehindDefs mid own c.in-Ok.defs now) (StopsAtCheck told own old) c.find_behind.ensures.stopped
-    (stops_behind_defs told mid own c.read_definitions.ensures.same old now refl refl c.read_definitions.ensures.opens c.read_definitions.ensures.reads (λ names left. left) c.in-Ok.defs c.in-Ok.ensures.ok)
+    let own = c.args.command.now in
+    let old = c.args.files.now in
+    let mid = c.read_definitions.new.files in
+    let new = c.find_behind.new.files in
+    let told = f.told old in
+    let defs = c.in-Ok.defs in
+    let same = c.in-Ok.ensures.same in
+    ends_behind f.failed_opens f.failed_reads f.may_open f.out f.told AreDefsOf StopsAtDefs (IsFindingOfFiles told own) (StopsAtCheck told own)
+    c.command.inside.defs.now own.defs (ap (λ (k : Check). k.defs) c.command.view_is) old mid new defs c.find_behind.result (IsFoundBehind (f.told mid) own defs) (StopsBehindDefs (f.told mid) own defs)
+    c.in-Ok.ensures c.find_behind.ensures
+    (found_of_files told (f.told mid) own same defs)
+    (λ read began. stops_behind_defs told (f.told mid) own same (counts_of f.failed_opens f.failed_reads f.may_open old new) (counts_of f.failed_opens f.failed_reads f.may_open mid new) began defs read)

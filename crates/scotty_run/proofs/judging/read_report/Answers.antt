@@ -1,5 +1,5 @@
 -- What stops the reading of the report is told by the bytes that were read and by the counts.
-use Rattle.std.proofs.Common.{◌≡◌, ◌<◌, ◌∷◌, ℕ, List, Option, subst}
+use Rattle.std.proofs.Common.{◌≡◌, ◌∙◌, ◌<◌, ◌∷◌, ℕ, List, Option, subst, arith}
 use Rattle.std.specs.Prelude.{IfOk, IsErrOf}
 use Rattle.source_feed.specs.Whole.{PassesLimit}
 use Rattle.source_feed.specs.declared.whole_fault.WholeFault.TheVariants.{Read, TooLong}
@@ -10,32 +10,41 @@ use Rattle.scotty_run.proofs.Judged.{report_stops, text_is_told}
 use Rattle.scotty_run.proofs.Told.{on_ok}
 use Rattle.scotty_run.proofs.judging.read_report.Goals as goal
 
-pub returns-in-Err-clause-stopped : goal.returns-in-Err-clause-stopped
-returns-in-Err-clause-stopped g c rest planned = (c.in-Err.ensures.failed, c.in-Err.ensures.unopened (c.args.name.now ∷ rest) planned)
+pub returns-in-Err : goal.returns-in-Err
+returns-in-Err g c =
+    let opened = c.open_file.ensures in
+    record {
+      ok = tt;
+      opened = λ rest planned. tt;
+      stopped = λ rest planned. (c.in-Err.ensures.failed, c.in-Err.ensures.unopened (c.args.name.now ∷ rest) planned);
+      opens = opened.never_falls;
+      reads = let a = opened.reads in omega (arith, a);
+      out = c.in-Err.ensures.none_out;
+      same = opened.same;
+    }
 
-pub returns-in-Ok-clause-opened : goal.returns-in-Ok-clause-opened
-returns-in-Ok-clause-opened g c rest planned =
-    on_ok c.text_of.result (g.F.Files.may_open c.give_back.new.self rest) (c.give_back.ensures.planned rest (c.in-Ok.ensures.opened rest planned))
-
-pub returns-in-Ok-clause-ok : goal.returns-in-Ok-clause-ok
-returns-in-Ok-clause-ok g c =
-    let told = g.F.Files.told c.args.files.now c.args.name.now in
-    let read = c.read_whole-bytes in
-    let left = g.F.Input.Source.rest read.new.source in
-    let from : g.F.Input.Source.rest c.in-Ok.source ≡ told = c.in-Ok.ensures.content in
-    let whole = subst (λ (o : Option (List ℕ)). IfOk read.result (λ b. o ≡ with_front b.items left)) from read.ensures.whole in
-    text_is_told told left read.result c.text_of.result c.text_of.ensures.ok whole read.ensures.ends read.ensures.within
-
-pub returns-in-Ok-clause-stopped : goal.returns-in-Ok-clause-stopped
-returns-in-Ok-clause-stopped g c rest planned =
+pub returns-in-Ok : goal.returns-in-Ok
+returns-in-Ok g c =
     let f = g.F.Files in
+    let opened = c.open_file.ensures in
+    let given = c.give_back.ensures in
     let told = f.told c.args.files.now c.args.name.now in
     let read = c.read_whole-bytes in
     let left = g.F.Input.Source.rest read.new.source in
     let faults = g.F.Input.Source.faults read.new.source in
+    let new = c.give_back.new.self in
     let from : g.F.Input.Source.rest c.in-Ok.source ≡ told = c.in-Ok.ensures.content in
-    let counts = counts_of f.failed_opens f.failed_reads f.may_open c.args.files.now c.give_back.new.self in
+    let counts = counts_of f.failed_opens f.failed_reads f.may_open c.args.files.now new in
+    let whole = subst (λ (o : Option (List ℕ)). IfOk read.result (λ b. o ≡ with_front b.items left)) from read.ensures.whole in
     let long = subst (λ (o : Option (List ℕ)). IsErrOf read.result TooLong → PassesLimit SOURCE_MAX o left) from read.ensures.too_long in
     let failed = subst (λ (n : ℕ). IsErrOf read.result Read → Rose n faults) c.in-Ok.ensures.fresh read.ensures.read in
-    let rose = subst (λ (n : ℕ). 0 < faults → Rose n counts.reads.after) c.in-Ok.ensures.reads c.give_back.ensures.failed in
-    report_stops told left (c.args.name.now ∷ rest) counts faults read.result c.text_of.result c.text_of.ensures.stopped long failed rose
+    let rose = subst (λ (n : ℕ). 0 < faults → Rose n counts.reads.after) opened.reads given.failed in
+    record {
+      ok = text_is_told told left read.result c.text_of.result c.text_of.ensures.ok whole read.ensures.ends read.ensures.within;
+      opened = λ rest planned. on_ok c.text_of.result (f.may_open new rest) (given.planned rest (c.in-Ok.ensures.opened rest planned));
+      stopped = λ rest planned. report_stops told left (c.args.name.now ∷ rest) counts faults read.result c.text_of.result c.text_of.ensures.stopped long failed rose;
+      opens = let a = opened.never_falls in let b = given.opens in omega (arith, a, b);
+      reads = let a = opened.reads in let b = given.never_falls in omega (arith, a, b);
+      out = let a = c.in-Ok.ensures.one_more in let b = given.one_less in omega (arith, a, b);
+      same = λ which. given.same which ∙ opened.same which;
+    }

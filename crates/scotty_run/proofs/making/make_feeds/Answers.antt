@@ -1,18 +1,21 @@
 -- One feed more.
 use Rattle.std.proofs.Common.{◌∙◌, [], ◌∷◌, length, length-append, ap, arith, sym, subst}
-use Rattle.scotty_run.specs.Making.{AreMadeFeeds}
+use Rattle.scotty_run.specs.Making.{AreMadeFeeds, IsMadeFeed}
+use Rattle.scotty_run.specs.Words.{Made}
 use Rattle.scotty_run.proofs.Makings.{made_more}
 use Rattle.scotty_run.proofs.making.make_feeds.Goals as goal
 
 pub loop-source-preserved : goal.loop-source-preserved
 loop-source-preserved c =
-    let m = c.args.made in
+    let m = c.args.made.now in
     let feeds = c.loop-source.feeds.items in
     let feed = c.new.result in
     let inv = c.loop-source.invariant in
+    let source = c.loop-source.source in
+    let unread = subst (λ (r : Made). IsMadeFeed r.seed r.rows r.sources source feed) c.made.view_is record { state = c.new.ensures.value; closes = c.new.ensures.whole } in
     let items = c.push_reserved.ensures.items in
     record {
       many = let n = inv.many in let size = ap length items in omega (arith, n, size, length-append feeds (feed ∷ []));
       room = c.push_reserved.ensures.capacity ∙ inv.room;
-      feeds = subst (AreMadeFeeds m.seed m.rows m.sources) (sym items) (made_more m.seed m.rows m.sources feeds feed c.loop-source.source inv.many inv.feeds record { state = c.new.ensures.value; closes = c.new.ensures.whole });
+      feeds = subst (AreMadeFeeds m) (sym items) (made_more m feeds feed source inv.many inv.feeds unread);
     }

@@ -8,5 +8,5 @@ abbrev pub invariant-loop-source : goal.invariant-loop-source
 invariant-loop-source l = record {
   many : length l.feeds.items ≡ l.source;
   room : vec_capacity l.feeds ≡ (l.made).sources;
-  feeds : AreMadeFeeds (l.made).seed (l.made).rows (l.made).sources l.feeds.items;
+  feeds : AreMadeFeeds l.made l.feeds.items;
 }

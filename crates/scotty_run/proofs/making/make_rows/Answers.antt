@@ -10,7 +10,7 @@ use Rattle.scotty_run.proofs.making.make_rows.Goals as goal
 
 pub returns : goal.returns
 returns g c =
-    let m = c.args.made in
+    let m = c.args.made.now in
     let sorted = c.sort_rows.new.rows in
     let rows = c.in_ok-rows.rows in
     let shards = c.in_ok-shards.shards.items in
@@ -19,6 +19,6 @@ returns g c =
     let stand = c.in_ok-rows.ensures m.sources alike in
     let journals = map (λ (s : Sharded). s.journal) shards in
     let given = c.as_mut_slice.ensures.value ∙ stand ∙ ap (λ (l : List Sharded). rows_of_shards made_definitions m.sources (map (λ (s : Sharded). s.journal) l)) c.deref.ensures.value in
-    let ordered = c.sort_rows.ensures.generated m.seed m.rows m.sources m.shards journals c.requires.few_rows c.requires.some_shards made.lawful given in
+    let ordered = c.sort_rows.ensures.generated m.seed m.rows m.sources m.shards journals (made.limits).few_rows ((made.limits).few).some_shards made.lawful given in
     let size = length_permutation c.as_mut_slice.result.now sorted c.sort_rows.ensures.moved ∙ c.as_mut_slice.ensures.len in
     take_at sorted (drop (length sorted) rows.items) rows.len size ∙ ordered

@@ -1,19 +1,12 @@
--- The last feeds are given back, and the count of failed reads rose where one of them had failed.
-use Rattle.std.proofs.Common.{◌≡◌, ◌≤◌, ◌<◌, ◌+◌, ℕ, List, length, slice_index_or, vec_len}
-use Rattle.outside.specs.Outside.{Rose}
+-- The last feeds are given back.
+use Rattle.std.proofs.Common.{vec_len}
+use Rattle.scotty_run.proofs.Opened.{AreGivenDownTo}
 use Rattle.scotty_run.proofs.opening.close_feeds.Given as goal
 
 abbrev pub invariant-loop-feed : goal.invariant-loop-feed
-invariant-loop-feed g l = let f = g.F.Files in record {
-  out : f.out l.files + length l.initial.feeds.items ≡ f.out l.initial.files + length l.feeds.items;
-  planned : (names : List (List ℕ)) → f.may_open l.initial.files names → f.may_open l.files names;
-  opens : f.failed_opens l.files ≡ f.failed_opens l.initial.files;
-  reads : f.failed_reads l.initial.files ≤ f.failed_reads l.files;
-  same : (which : List ℕ) → f.told l.files which ≡ f.told l.initial.files which;
-  front : (i : ℕ) (e : _) → i < length l.feeds.items → slice_index_or l.feeds.items i e ≡ slice_index_or l.initial.feeds.items i e;
-  failed : (i : ℕ) (e : _) → length l.feeds.items ≤ i → i < length l.initial.feeds.items → 0 < g.F.Input.Source.faults (slice_index_or l.initial.feeds.items i e).from
-      → Rose (f.failed_reads l.initial.files) (f.failed_reads l.files);
-}
+invariant-loop-feed g l =
+    let f = g.F.Files in
+    AreGivenDownTo f.failed_opens f.failed_reads f.may_open f.out f.told (λ x. g.F.Input.Source.faults x.from) l.feeds.items l.initial.feeds.items l.initial.files l.files
 
 abbrev pub decreases-loop-feed : goal.decreases-loop-feed
 decreases-loop-feed g l = vec_len l.feeds
