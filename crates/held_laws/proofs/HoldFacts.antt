@@ -22,7 +22,7 @@ use Rattle.window_laws.specs.After.{at_water, with_mark, with_tuple}
 use Rattle.window_laws.specs.Positions.{AreKept}
 use Rattle.window_laws.proofs.KeptFacts.{put_is_kept}
 use Rattle.window_laws.proofs.LeaveChanges.{may_leave_after_mark, may_leave_after_move, may_leave_after_tuple, tuple_enters_the_rest}
-use Rattle.window_laws.proofs.Order.{nd_nil}
+use Rattle.run_laws.proofs.Order.{nd_nil}
 use Rattle.window_laws.proofs.SettledFacts.{all_from, all_member, not_all}
 use Rattle.slice_lists.specs.Slices.{joined}
 use Rattle.agg_store.specs.Stored.{IsSliced, Stored, tuples_of}

@@ -16,10 +16,10 @@ use Rattle.stream_base.proofs.Distinct.{All_from_members}
 use Rattle.stream_base.proofs.Members.{Contains-insert_cases, filter_members, filter_same}
 use Rattle.window_laws.specs.After.{at_water, with_mark, with_tuple}
 use Rattle.window_laws.specs.Positions.{AreKept}
-use Rattle.window_laws.specs.Runs.{IsRun}
+use Rattle.run_laws.specs.Runs.{IsRun}
 use Rattle.window_laws.specs.Settled.{without_first}
 use Rattle.stream_base.proofs.Filters.{filter_all}
-use Rattle.window_laws.proofs.Order.{runs_are_runs}
+use Rattle.run_laws.proofs.Order.{runs_are_runs}
 use Rattle.window_laws.proofs.SettledFacts.{not_all}
 use Rattle.window_laws.proofs.SettledMoves.{mark_settles_none, move_keeps_settled, new_tuple_is_unsettled, tuple_settles_no_other}
 use Rattle.slice_lists.specs.Touched.{is_near, slices_from}

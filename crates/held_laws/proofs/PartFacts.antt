@@ -13,7 +13,7 @@ use Rattle.stream_base.specs.Limits.{Definitions, IsKindWithin}
 use Rattle.stream_base.specs.Model.Changes.{Moment}
 use Rattle.stream_base.specs.Model.Windows.{Instance, instances_of, is_within, sessions, stretches, within}
 use Rattle.window_laws.specs.Positions.{AreKept}
-use Rattle.window_laws.specs.Runs.{IsAligned}
+use Rattle.run_laws.specs.Runs.{IsAligned}
 use Rattle.window_laws.proofs.InstanceFacts.{sessions_select, spans_hold_selections}
 use Rattle.agg_store.specs.Stored.{IsStore, Stored, tuples_of}
 use Rattle.window_spans.proofs.Parts.{fewer_pass}

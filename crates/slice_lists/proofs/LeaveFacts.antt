@@ -16,10 +16,10 @@ use Rattle.stream_base.specs.Model.Cuts.{cuts_between, has_cut}
 use Rattle.stream_base.specs.Model.Slices.{runs_of}
 use Rattle.stream_base.specs.Model.Windows.{first_time, last_time}
 use Rattle.stream_base.proofs.Members.{filter_map_of}
-use Rattle.window_laws.specs.Runs.{AreInOrder, AreRuns, IsAligned, IsPartFrom, IsRun}
+use Rattle.run_laws.specs.Runs.{AreInOrder, AreRuns, IsAligned, IsPartFrom, IsRun}
 use Rattle.stream_base.proofs.Filters.{filter_all, filter_none}
-use Rattle.window_laws.proofs.Order.{All-split}
-use Rattle.window_laws.proofs.RunEdits.{parted}
+use Rattle.run_laws.proofs.Order.{All-split}
+use Rattle.run_laws.proofs.RunEdits.{parted}
 use Rattle.slice_lists.specs.declared.slice.Slice.{Slice}
 use Rattle.slice_lists.specs.Touched.{marks_left, slices_from}
 use Rattle.slice_lists.specs.Places.{IsPlaceOf}

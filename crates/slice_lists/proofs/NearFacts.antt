@@ -13,10 +13,10 @@ use Rattle.stream_base.specs.declared.kind.Kind.TheVariants.{Tumbling, Sliding, 
 use Rattle.stream_base.specs.Limits.{IsKindWithin}
 use Rattle.stream_base.specs.Model.Cuts.{has_cut, cuts_between}
 use Rattle.stream_base.specs.Model.Windows.{first_time, last_time}
-use Rattle.window_laws.specs.Runs.{AreInOrder, AreParted, ArePartFrom, AreRuns, IsPartFrom}
-use Rattle.window_laws.proofs.MarkRuns.{earlier_cut, later_cut}
+use Rattle.run_laws.specs.Runs.{AreInOrder, AreParted, ArePartFrom, AreRuns, IsPartFrom}
+use Rattle.run_laws.proofs.MarkRuns.{earlier_cut, later_cut}
 use Rattle.stream_base.proofs.Filters.{filter_all, filter_none}
-use Rattle.window_laws.proofs.RunEdits.{added, entered, extended, fronted, merged}
+use Rattle.run_laws.proofs.RunEdits.{added, entered, extended, fronted, merged}
 use Rattle.slice_lists.specs.Touched.{is_near}
 use Rattle.slice_lists.specs.Places.{IsPlaceOf}
 use Rattle.slice_lists.specs.Sides.{IsApartBefore, IsApartBehind, IsFirstEntered, IsLastEntered, IsNearBefore, IsNearBehind}

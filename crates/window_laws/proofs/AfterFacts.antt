@@ -37,7 +37,7 @@ use Rattle.window_laws.specs.Stretches.{if_selecting}
 use Rattle.window_laws.proofs.CountFacts.{same_chosen, standing_of_counts, upper_put_passes, upper_rises}
 use Rattle.window_laws.proofs.InstanceFacts.{bounds_are_ends, sessions_select}
 use Rattle.stream_base.proofs.Filters.{filter_none}
-use Rattle.window_laws.proofs.Order.{All-split}
+use Rattle.run_laws.proofs.Order.{All-split}
 use Rattle.window_laws.proofs.SessionFacts.{put_times, sessions_after_put}
 use Rattle.window_laws.proofs.StretchFacts.{stretches_after_mark, stretches_after_put}
 

@@ -20,7 +20,7 @@ use Rattle.stream_base.proofs.Rising.{none_in_nil, Contains-cons_cases}
 use Rattle.window_laws.specs.After.{at_water}
 use Rattle.window_laws.specs.Due.{completed_of, first_open, next_bound, open_bounds}
 use Rattle.window_laws.proofs.InstanceFacts.{bounds_do_not_fall}
-use Rattle.window_laws.proofs.Order.{All-map_of, nd_head, nd_tail}
+use Rattle.run_laws.proofs.Order.{All-map_of, nd_head, nd_tail}
 
 pub least_below : (start : ℕ) (xs : List ℕ) → fold min start xs ≤ start
 least_below start [] = omega arith

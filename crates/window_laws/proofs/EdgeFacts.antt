@@ -24,11 +24,11 @@ use Rattle.stream_base.proofs.Pieces.{pieces_joined}
 use Rattle.stream_base.proofs.Rising.{nat_rising_is_sorted, Contains-cons_cases, Contains-from_rising, Contains-head, Contains-tail, none_in_nil}
 use Rattle.stream_base.proofs.Spans.{starts_of_members}
 use Rattle.window_laws.specs.Late.{length_of, slide_of}
-use Rattle.window_laws.specs.Runs.{AreParted, IsAligned, IsRun, runs_within}
+use Rattle.run_laws.specs.Runs.{AreParted, IsAligned, IsRun, runs_within}
 use Rattle.window_laws.specs.Walk.{IsFirstFrom}
 use Rattle.window_laws.proofs.InstanceFacts.{All-joined, above_span, below_span, between_ends, gap_cut, inside_span, session_far, session_near, session_runs, spans_hold_selections}
 use Rattle.stream_base.proofs.Filters.{filter_all, filter_none}
-use Rattle.window_laws.proofs.Order.{All-split, IsApart, IsNear, amid, pieces_in_order, run_spans, runs_are_runs, runs_before, runs_behind}
+use Rattle.run_laws.proofs.Order.{All-split, IsApart, IsNear, amid, pieces_in_order, run_spans, runs_are_runs, runs_before, runs_behind}
 
 -- ---- the sides of a session
 -- a tuple lies at least the gap in front of a session, in it, or at or behind its end

@@ -27,9 +27,9 @@ use Rattle.stream_base.proofs.Spans.{starts_of_is_sorted}
 use Rattle.std.proofs.lemmas.Cmp.{nat_cmp_total}
 use Rattle.std.proofs.lemmas.Nat.{div-add-mod'}
 use Rattle.window_laws.specs.Instances.{completed, incomplete}
-use Rattle.window_laws.specs.Runs.{AreParted, IsRun}
+use Rattle.run_laws.specs.Runs.{AreParted, IsRun}
 use Rattle.stream_base.proofs.Filters.{filter_all, filter_none}
-use Rattle.window_laws.proofs.Order.{All-map_of, All-split, IsApart, IsNear, amid, ends_rise, nd_cons, nd_head, nd_map, nd_nil, nd_sorted, nd_tail, pieces_in_order, run_spans, runs_are_runs, runs_before, runs_behind}
+use Rattle.run_laws.proofs.Order.{All-map_of, All-split, IsApart, IsNear, amid, ends_rise, nd_cons, nd_head, nd_map, nd_nil, nd_sorted, nd_tail, pieces_in_order, run_spans, runs_are_runs, runs_before, runs_behind}
 
 -- ---- bounds don't fall
 spans_bounds : (length slide : ℕ) (kept : List Kept) → IsNonDecreasingBy (λ (i : Instance). i.bound) (spans length slide kept)

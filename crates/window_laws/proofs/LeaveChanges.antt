@@ -35,7 +35,7 @@ use Rattle.window_laws.proofs.InstanceFacts.{bounds_do_not_fall, split_at_water}
 use Rattle.window_laws.proofs.LeaveFacts.{EndBy, firsts_leave, not_within}
 use Rattle.window_laws.proofs.MiddleFacts.{complete_come, complete_gone}
 use Rattle.stream_base.proofs.Filters.{filter_none}
-use Rattle.window_laws.proofs.RunFacts.{put_behind}
+use Rattle.run_laws.proofs.RunFacts.{put_behind}
 use Rattle.window_laws.proofs.SessionFacts.{put_times}
 use Rattle.window_laws.proofs.SettledFacts.{all_member, settled_by_times, settled_first}
 use Rattle.window_laws.proofs.SettledMoves.{has_interval, mark_keeps_settled, move_keeps_settled, settled_lies_before, stays_at_put, tuple_keeps_settled}

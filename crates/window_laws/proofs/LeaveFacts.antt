@@ -21,10 +21,10 @@ use Rattle.stream_base.proofs.Members.{filter_has, filter_map_of, filter_members
 use Rattle.stream_base.proofs.Rising.{nat_rising_is_sorted, same_members_same_list, Contains-cons_cases, Contains-head, Contains-tail, none_in_nil}
 use Rattle.stream_base.proofs.Spans.{starts_of_has, starts_of_is_sorted, starts_of_members}
 use Rattle.window_laws.specs.Instances.{incomplete}
-use Rattle.window_laws.specs.Runs.{AreParted}
+use Rattle.run_laws.specs.Runs.{AreParted}
 use Rattle.window_laws.proofs.InstanceFacts.{below_span, above_span, between_ends, gap_cut, inside_span, session_far, session_near, session_runs}
 use Rattle.window_laws.proofs.LateFacts.{some_of_member}
-use Rattle.window_laws.proofs.Order.{IsApart, IsNear, nd_tail, run_spans}
+use Rattle.run_laws.proofs.Order.{IsApart, IsNear, nd_tail, run_spans}
 use Rattle.window_laws.proofs.SettledMoves.{span_of_other}
 
 -- every instance of a window whose span holds the time ends at or before another time

@@ -1,11 +1,7 @@
-pub mod RunFacts
 pub mod WalkFacts
-pub mod RunEdits
-pub mod SliceFacts
 pub mod DueFacts
 pub mod LateFacts
 pub mod MiddleFacts
-pub mod Order
 pub mod InstanceFacts
 pub mod TimesFacts
 pub mod SessionFacts
@@ -13,7 +9,6 @@ pub mod StretchFacts
 pub mod CountFacts
 pub mod AfterFacts
 pub mod PartFacts
-pub mod MarkRuns
 pub mod EdgeFacts
 pub mod SettledFacts
 pub mod SettledMoves

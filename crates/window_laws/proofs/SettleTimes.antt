@@ -21,7 +21,7 @@ use Rattle.window_laws.specs.Settled.{IsSettledAt, last_end_of}
 use Rattle.window_laws.specs.Stretches.{next_mark}
 use Rattle.window_laws.proofs.InstanceFacts.{session_runs}
 use Rattle.window_laws.proofs.NextMarks.{stretch_span}
-use Rattle.window_laws.proofs.Order.{amid}
+use Rattle.run_laws.proofs.Order.{amid}
 use Rattle.window_laws.proofs.SettledFacts.{settled_by_times, span_at, times_settle}
 use Rattle.window_laws.proofs.SettledMoves.{sessions_apart, span_low}
 use Rattle.window_laws.proofs.StretchFacts.{stretch_holding}

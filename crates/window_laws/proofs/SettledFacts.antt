@@ -24,12 +24,12 @@ use Rattle.stream_base.proofs.Pieces.{pieces_joined}
 use Rattle.stream_base.proofs.Rising.{Contains-cons_cases, Contains-head, Contains-tail, none_in_nil}
 use Rattle.stream_base.proofs.Spans.{starts_of_has}
 use Rattle.window_laws.specs.Positions.{AreKept, HaveDistinctPositions}
-use Rattle.window_laws.specs.Runs.{IsRun}
+use Rattle.run_laws.specs.Runs.{IsRun}
 use Rattle.window_laws.specs.Settled.{IsSettledAt, settled}
 use Rattle.window_laws.proofs.EdgeFacts.{edge_is_cut}
 use Rattle.window_laws.proofs.InstanceFacts.{gap_cut, inside_span, session_far, session_near, session_runs, spans_hold_selections}
 use Rattle.stream_base.proofs.Filters.{filter_all, filter_none}
-use Rattle.window_laws.proofs.Order.{IsApart, IsNear, nd_head, nd_tail, run_spans, runs_are_runs}
+use Rattle.run_laws.proofs.Order.{IsApart, IsNear, nd_head, nd_tail, run_spans, runs_are_runs}
 use Rattle.window_laws.proofs.StretchFacts.{stretch_holding}
 
 -- ---- members and tests

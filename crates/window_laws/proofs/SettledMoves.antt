@@ -22,14 +22,14 @@ use Rattle.stream_base.proofs.Rising.{Contains-cons_cases, Contains-head, Contai
 use Rattle.stream_base.proofs.Spans.{starts_of_has, starts_of_members}
 use Rattle.window_laws.specs.After.{at_water, with_mark, with_tuple}
 use Rattle.window_laws.specs.Positions.{AreKept}
-use Rattle.window_laws.specs.Runs.{AreParted, IsRun}
+use Rattle.run_laws.specs.Runs.{AreParted, IsRun}
 use Rattle.window_laws.specs.Sessions.{IsPutInSessions, joined_session}
 use Rattle.window_laws.specs.Settled.{IsSettledAt}
 use Rattle.window_laws.specs.Stretches.{IsMarkedInStretches, IsPutInStretches, if_selecting}
 use Rattle.window_laws.proofs.EdgeFacts.{session_sides}
 use Rattle.window_laws.proofs.InstanceFacts.{gap_cut, inside_span, session_far, session_near, session_runs, sessions_select}
 use Rattle.window_laws.proofs.LateFacts.{some_of_member}
-use Rattle.window_laws.proofs.Order.{All-map_of, All-split, IsApart, IsNear, run_spans, runs_are_runs, runs_behind}
+use Rattle.run_laws.proofs.Order.{All-map_of, All-split, IsApart, IsNear, run_spans, runs_are_runs, runs_behind}
 use Rattle.window_laws.proofs.SessionFacts.{put_times, sessions_after_put}
 use Rattle.window_laws.proofs.SettledFacts.{all_from, all_member, holding, settled_by_times, times_settle}
 use Rattle.window_laws.proofs.StretchFacts.{stretches_after_mark, stretches_after_put}

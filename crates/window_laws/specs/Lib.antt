@@ -1,4 +1,3 @@
-pub mod Runs
 pub mod Walk
 pub mod Due
 pub mod Late

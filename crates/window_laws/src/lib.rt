@@ -1,9 +1,10 @@
-//! Laws of windows over plain lists: what becomes of instances, slices and changes where a tuple, a
+//! Laws of windows over plain lists: what becomes of instances and changes where a tuple, a
 //! mark or a move of the watermark comes. What is kept of a key and its marks are lists, and no law
 //! knows how an engine stores them.
 //!
-//! *Stands on* the definitions of `stream_base` alone. *Promise*: each law is the contract of a
-//! function that does nothing, and asks nothing of tuples and marks that a key's don't meet.
+//! *Stands on* the definitions of `stream_base`, and on `run_laws` for what becomes of slices.
+//! *Promise*: each law is the contract of a function that does nothing, and asks nothing of tuples and
+//! marks that a key's don't meet.
 //!
 //! - `moments`: what is known of a key after one entry more.
 //! - `kept`: what a journal keeps of a key has times that don't fall and lie before the final one,
@@ -23,8 +24,8 @@
 //! - `walk`: how a move of the watermark goes over the intervals that it completes, tuple by tuple.
 //! - `due`: a key of which nothing is due waits; its next bound is the least of its windows' own,
 //!   which is said for each kind.
-//! - `slices`: what a tuple and a mark make of slices; slices are told by their neighbours, and part
-//!   at starts, ends and marks; an instance that doesn't count events selects whole slices.
+//! - `slices`: slices part at starts, ends and marks; an instance that doesn't count events selects
+//!   whole slices.
 //! - `settled`: settled tuples come first, with a cut behind them, and stay settled; a tuple settles
 //!   nothing, nor does a mark, but where its time plus the lateness is the watermark; when a tuple
 //!   settles is said for each kind.

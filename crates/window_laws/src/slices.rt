@@ -1,76 +1,16 @@
-//! Slices: what becomes of them where a tuple or a mark comes.
-ghost use Rattle.std.specs.Prelude.{◌≡◌, ◌<◌, ◌≤◌, ◌+◌, ◌*◌, ◌++◌, ◌∷◌, ◌||◌, ◌&&◌, nat_le, nat_lt, [], true, false, List, ℕ, Bool, All};
-ghost use Rattle.std.specs.BTreeSet.{insert_key};
+//! Slices part at the starts and ends of instances, which select whole ones.
+ghost use Rattle.std.specs.Prelude.{◌≡◌, ◌<◌, ◌≤◌, ◌+◌, ◌*◌, true, false, List, ℕ, All};
 ghost use Rattle.std.specs.List.{Contains, flat_map};
-ghost use Rattle.std.specs.Ordering.{nat_cmp};
 ghost use Rattle.stream_base.specs.declared.def.Def.{Def};
 ghost use Rattle.stream_base.specs.declared.kept.Kept.{Kept};
 ghost use Rattle.stream_base.specs.declared.limits.TheConstants.{FINAL};
 ghost use Rattle.stream_base.specs.Laws.{TimesDoNotFall, is_timed};
 ghost use Rattle.stream_base.specs.Limits.{IsKindWithin};
 ghost use Rattle.stream_base.specs.Model.Cuts.{has_cut};
-ghost use Rattle.stream_base.specs.Model.Journal.{put_in_order};
 ghost use Rattle.stream_base.specs.Model.Slices.{is_events, runs_of};
-ghost use Rattle.stream_base.specs.Model.Windows.{Instance, first_time, instances_of, last_time, within};
+ghost use Rattle.stream_base.specs.Model.Windows.{Instance, instances_of, within};
 ghost use Rattle.window_laws.specs.Late.{length_of, slide_of};
-ghost use Rattle.window_laws.specs.Runs.{ArePartFrom, AreRuns, IsAligned, IsPartFrom, IsPutInRuns};
-ghost use Rattle.window_laws.specs.Runs.{parted_at, runs_within};
-
-/// One tuple more becomes a slice of its own, enters one slice, or joins two neighbours into one,
-/// and leaves all other slices.
-#[tactic(auto, using(crate::proofs::RunFacts::runs_after_put))]
-pub fn tuple_enters_the_slices()
-    ensures { (windows : List Def) (marks : List ℕ) (kept : List Kept) (x : Kept)
-        → IsPutInRuns (runs_of windows marks kept) x (runs_of windows marks (put_in_order kept x)) }
-{}
-
-/// Slices without a cut inside and with a cut behind each are the slices of their tuples, and no
-/// others are.
-pub fn slices_are_told_by_their_neighbours()
-    ensures alone { (windows : List Def) (marks : List ℕ) (slices : List (List Kept))
-        → AreRuns (has_cut windows marks) slices
-        → runs_of windows marks (flat_map (λ run. run) slices) ≡ slices }
-    ensures are { (windows : List Def) (marks : List ℕ) (kept : List Kept)
-        → AreRuns (has_cut windows marks) (runs_of windows marks kept) }
-{}
-
-/// What a tuple makes of slices, by the cuts at its sides.
-pub fn cuts_at_the_sides_decide()
-    ensures alone { (cut : ℕ → ℕ → Bool) (before behind : List (List Kept)) (x : Kept)
-        → AreRuns cut (before ++ behind)
-        → ArePartFrom (λ a b. cut a b ≡ true) before ((x ∷ []) ∷ [])
-        → IsPartFrom (λ a b. cut a b ≡ true) (x ∷ []) behind
-        → AreRuns cut (before ++ (x ∷ []) ∷ behind) }
-    ensures fronted { (cut : ℕ → ℕ → Bool) (before : List (List Kept)) (q : List Kept)
-        (behind : List (List Kept)) (x : Kept) → AreRuns cut (before ++ q ∷ behind)
-        → ArePartFrom (λ a b. cut a b ≡ true) before ((x ∷ []) ∷ [])
-        → cut x.time (first_time q) ≡ false → AreRuns cut (before ++ (x ∷ q) ∷ behind) }
-    ensures extended { (cut : ℕ → ℕ → Bool) (before : List (List Kept)) (p : List Kept)
-        (behind : List (List Kept)) (x : Kept) → AreRuns cut (before ++ p ∷ behind)
-        → cut (last_time p) x.time ≡ false → IsPartFrom (λ a b. cut a b ≡ true) (x ∷ []) behind
-        → AreRuns cut (before ++ (p ++ x ∷ []) ∷ behind) }
-    ensures merged { (cut : ℕ → ℕ → Bool) (before : List (List Kept)) (p q : List Kept)
-        (behind : List (List Kept)) (x : Kept) → AreRuns cut (before ++ p ∷ q ∷ behind)
-        → cut (last_time p) x.time ≡ false → cut x.time (first_time q) ≡ false
-        → AreRuns cut (before ++ (p ++ x ∷ q) ∷ behind) }
-{}
-
-/// A tuple whose time lies inside a slice enters it.
-pub fn tuple_inside_a_slice_enters_it()
-    ensures { (windows : List Def) (marks : List ℕ) (before : List (List Kept)) (p : List Kept)
-        (behind : List (List Kept)) (x : Kept)
-        → AreRuns (has_cut windows marks) (before ++ p ∷ behind)
-        → first_time p ≤ x.time → x.time < last_time p
-        → AreRuns (has_cut windows marks) (before ++ put_in_order p x ∷ behind) }
-{}
-
-/// A mark parts each slice that has tuples on both sides of it, and leaves all others.
-pub fn mark_parts_the_slices()
-    ensures { (windows : List Def) (marks : List ℕ) (kept : List Kept) (time : ℕ)
-        → TimesDoNotFall kept
-        → runs_of windows (insert_key nat_cmp marks time) kept
-        ≡ flat_map (parted_at time) (runs_of windows marks kept) }
-{}
+ghost use Rattle.run_laws.specs.Runs.{IsAligned, runs_within};
 
 /// The starts and ends of a window's instances cut between the tuples at their sides, so that an
 /// instance selects whole slices: its fold is that of theirs.
@@ -93,17 +33,6 @@ pub fn instances_select_whole_slices()
         → Contains windows def → is_events def.kind ≡ false
         → Contains (instances_of def.kind kept marks) i → i.chosen
         ≡ flat_map (λ run. run) (runs_within i.low i.high (runs_of windows marks kept)) }
-{}
-
-/// A cut stays where its times move apart, and one mark more cuts exactly across itself.
-pub fn cuts_stay_where_times_move_apart()
-    ensures later { (windows : List Def) (marks : List ℕ) (a b c : ℕ) → a ≤ b → b ≤ c
-        → has_cut windows marks a b ≡ true → has_cut windows marks a c ≡ true }
-    ensures earlier { (windows : List Def) (marks : List ℕ) (a b c : ℕ) → a ≤ b → b ≤ c
-        → has_cut windows marks b c ≡ true → has_cut windows marks a c ≡ true }
-    ensures mark { (windows : List Def) (marks : List ℕ) (time a b : ℕ)
-        → has_cut windows (insert_key nat_cmp marks time) a b
-        ≡ (has_cut windows marks a b || (nat_lt a time && nat_le time b)) }
 {}
 
 /// No slice has tuples on both sides of a start or an end of a tumbling or sliding window, or of a

@@ -1,5 +1,5 @@
-use Rattle.window_laws.proofs.SliceFacts.{extended_slice, fronted_slice, merged_slices, slice_alone}
-use Rattle.window_laws.proofs.slices.cuts_at_the_sides_decide.Goals as goal
+use Rattle.run_laws.proofs.SliceFacts.{extended_slice, fronted_slice, merged_slices, slice_alone}
+use Rattle.run_laws.proofs.runs.cuts_at_the_sides_decide.Goals as goal
 
 pub returns-clause-alone : goal.returns-clause-alone
 returns-clause-alone c = slice_alone

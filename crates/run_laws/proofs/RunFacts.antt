@@ -15,7 +15,7 @@ use Rattle.stream_base.specs.Model.Journal.{put_in_order}
 use Rattle.stream_base.specs.Model.Slices.{runs_of}
 use Rattle.stream_base.specs.Model.Windows.{glued, pieces_of}
 use Rattle.stream_base.proofs.EventOrder.{put_in_order_cons}
-use Rattle.window_laws.specs.Runs.{IsPutInRuns}
+use Rattle.run_laws.specs.Runs.{IsPutInRuns}
 use Rattle.stream_base.proofs.Filters.{cases_of}
 
 -- a tuple stands before the first, or behind it

@@ -6,9 +6,9 @@ use Rattle.stream_base.specs.declared.kept.Kept.{Kept}
 use Rattle.stream_base.specs.Model.Cuts.{has_cut}
 use Rattle.stream_base.specs.Model.Journal.{put_in_order}
 use Rattle.stream_base.specs.Model.Windows.{first_time, last_time}
-use Rattle.window_laws.specs.Runs.{ArePartFrom, AreRuns, IsPartFrom}
-use Rattle.window_laws.proofs.RunFacts.{cut_farther, cut_earlier}
-use Rattle.window_laws.proofs.RunEdits.{added, fronted, entered, extended, merged}
+use Rattle.run_laws.specs.Runs.{ArePartFrom, AreRuns, IsPartFrom}
+use Rattle.run_laws.proofs.RunFacts.{cut_farther, cut_earlier}
+use Rattle.run_laws.proofs.RunEdits.{added, fronted, entered, extended, merged}
 
 -- where there is no cut, there is none between times that lie between
 uncut : (b c : Bool) → (b ≡ true → c ≡ true) → c ≡ false → b ≡ false

@@ -7,9 +7,9 @@ use Rattle.std.proofs.lemmas.Bool.Decides.{nat_tests}
 use Rattle.stream_base.specs.declared.kept.Kept.{Kept}
 use Rattle.stream_base.specs.Model.Journal.{put_in_order}
 use Rattle.stream_base.specs.Model.Windows.{first_time, last_time, glued, pieces_of}
-use Rattle.window_laws.specs.Runs.{IsRun, IsPartFrom, AreParted, ArePartFrom, AreRuns}
+use Rattle.run_laws.specs.Runs.{IsRun, IsPartFrom, AreParted, ArePartFrom, AreRuns}
 use Rattle.stream_base.proofs.Filters.{cases_of}
-use Rattle.window_laws.proofs.RunFacts.{put_first, put_behind}
+use Rattle.run_laws.proofs.RunFacts.{put_first, put_behind}
 
 module _ (cut : ℕ → ℕ → Bool) where
   -- runs are the pieces of their tuples

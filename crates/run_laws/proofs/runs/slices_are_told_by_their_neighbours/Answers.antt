@@ -1,6 +1,6 @@
 use Rattle.stream_base.specs.Model.Cuts.{has_cut}
-use Rattle.window_laws.proofs.RunEdits.{pieces_are_runs, runs_are_pieces}
-use Rattle.window_laws.proofs.slices.slices_are_told_by_their_neighbours.Goals as goal
+use Rattle.run_laws.proofs.RunEdits.{pieces_are_runs, runs_are_pieces}
+use Rattle.run_laws.proofs.runs.slices_are_told_by_their_neighbours.Goals as goal
 
 pub returns-clause-alone : goal.returns-clause-alone
 returns-clause-alone c = λ windows marks slices. runs_are_pieces (has_cut windows marks) slices

@@ -10,7 +10,7 @@ use Rattle.stream_base.specs.declared.kept.Kept.{Kept}
 use Rattle.stream_base.specs.Model.Windows.{first_time, last_time, glued, pieces_of}
 use Rattle.stream_base.proofs.Distinct.{lt_from_less}
 use Rattle.stream_base.proofs.Rising.{Contains-cons_cases, none_in_nil}
-use Rattle.window_laws.specs.Runs.{IsRun, IsPartFrom, AreParted}
+use Rattle.run_laws.specs.Runs.{IsRun, IsPartFrom, AreParted}
 
 -- ---- numbers that don't fall
 module _ {X : Type 0} (n : X → ℕ) where

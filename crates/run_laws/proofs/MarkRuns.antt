@@ -15,11 +15,11 @@ use Rattle.stream_base.specs.Model.Cuts.{cuts_between, has_cut}
 use Rattle.stream_base.specs.Model.Slices.{runs_of}
 use Rattle.stream_base.specs.Model.Windows.{first_time, last_time}
 use Rattle.stream_base.proofs.Pieces.{pieces_joined}
-use Rattle.window_laws.specs.Runs.{AreParted, AreRuns, IsPartFrom, IsRun, parted_at}
+use Rattle.run_laws.specs.Runs.{AreParted, AreRuns, IsPartFrom, IsRun, parted_at}
 use Rattle.stream_base.proofs.Filters.{filter_all, filter_none}
-use Rattle.window_laws.proofs.Order.{IsApart, IsNear, pieces_in_order, run_spans}
-use Rattle.window_laws.proofs.RunEdits.{runs_are_pieces}
-use Rattle.window_laws.proofs.RunFacts.{cut_earlier, cut_farther}
+use Rattle.run_laws.proofs.Order.{IsApart, IsNear, pieces_in_order, run_spans}
+use Rattle.run_laws.proofs.RunEdits.{runs_are_pieces}
+use Rattle.run_laws.proofs.RunFacts.{cut_earlier, cut_farther}
 
 -- a test of some mark, with one mark more
 any_of_more : (p : ℕ → Bool) (marks : List ℕ) (t : ℕ) → list_any p (insert_key nat_cmp marks t) ≡ (list_any p marks || p t)

@@ -1,5 +1,5 @@
-use Rattle.window_laws.proofs.MarkRuns.{cut_of_more, earlier_cut, later_cut}
-use Rattle.window_laws.proofs.slices.cuts_stay_where_times_move_apart.Goals as goal
+use Rattle.run_laws.proofs.MarkRuns.{cut_of_more, earlier_cut, later_cut}
+use Rattle.run_laws.proofs.runs.cuts_stay_where_times_move_apart.Goals as goal
 
 pub returns-clause-later : goal.returns-clause-later
 returns-clause-later c = later_cut

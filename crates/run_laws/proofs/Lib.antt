@@ -1,0 +1,5 @@
+pub mod RunFacts
+pub mod RunEdits
+pub mod SliceFacts
+pub mod Order
+pub mod MarkRuns
