@@ -4,3 +4,4 @@ pub mod Limits
 pub mod Model
 pub mod Examples
 pub mod Laws
+pub mod Vectors
