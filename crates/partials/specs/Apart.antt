@@ -8,6 +8,11 @@ pub record Sums : Type 0 where
   pub spare : ℕ
   pub reach : ℕ
 
+-- no room was used, and the reach didn't grow
+pub record KeepsRoom (old new : Sums) : Type 0 where
+  pub spare : old.spare ≤ new.spare
+  pub reach : new.reach ≤ old.reach
+
 -- all keys are below an edge
 abbrev pub AreBelow : {M : Type 0} → ℕ → List (ℕ × M) → Type 0
 AreBelow edge pairs = All (λ p. p.0 < edge) pairs

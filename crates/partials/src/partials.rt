@@ -1,10 +1,9 @@
 //! The partials of slices.
 ghost use Rattle.std.specs.Prelude.{◌≡◌, ◌≤◌, ◌<◌, ◌+◌, ◌*◌, ◌^◌, ◌++◌, ◌∷◌, ℕ, [], None, Some, length, OnOk, IsTrue, true, false};
-ghost use Rattle.stream_base.specs.declared.limits.TheConstants.{TIME_MAX};
 ghost use Rattle.aggregates.specs.Bundled.{Bundled, IsBundle, bundles_combined, empty_bundle};
 ghost use Rattle.agg_laws.specs.Laws.{total};
 ghost use Rattle.agg_laws.specs.Pairs.{has_key, inserted, least_key, replaced, value_at, values_of, within, without};
-ghost use Rattle.partials.specs.Apart.{AreBelow, AreFrom, IsReachOver};
+ghost use Rattle.partials.specs.Apart.{AreBelow, AreFrom, IsReachOver, KeepsRoom};
 
 use agg_laws::{AggTree, Monoid, Probes, Steps};
 use aggregates::Bundle;
@@ -98,8 +97,7 @@ impl<T: AggTree<Bundle>> Partials<T> {
     pub fn set<L>(&mut self, low: u64, partial: Bundle, steps: &mut Steps<L>)
         requires { IsTrue (has_key low (self.old).pairs) }
         ensures replaced { (self.new).pairs ≡ replaced low partial (self.old).pairs }
-        ensures spare { (self.old).spare ≤ (self.new).spare }
-        ensures reach { (self.new).reach ≤ (self.old).reach }
+        ensures keeps { KeepsRoom self.old self.new }
         ensures cost { steps.new ≤ steps.old + 64 * ((self.old).reach + 2) }
     {
         let mut probes = Probes::new();
@@ -112,12 +110,10 @@ impl<T: AggTree<Bundle>> Partials<T> {
 
     /// Combines the partial under a time with another one behind it.
     pub fn extend<L>(&mut self, low: u64, more: &Bundle, steps: &mut Steps<L>)
-        requires time { low ≤ TIME_MAX }
-        requires there { IsTrue (has_key low (self.old).pairs) }
+        requires { IsTrue (has_key low (self.old).pairs) }
         ensures extended { (b : Bundled) → IsBundle b → value_at low (self.old).pairs ≡ Some b
             → (self.new).pairs ≡ replaced low (bundles_combined b more.now) (self.old).pairs }
-        ensures spare { (self.old).spare ≤ (self.new).spare }
-        ensures reach { (self.new).reach ≤ (self.old).reach }
+        ensures keeps { KeepsRoom self.old self.new }
         ensures cost { steps.new ≤ steps.old + 64 * ((self.old).reach + 3) }
     {
         if low < self.edge {
@@ -131,8 +127,7 @@ impl<T: AggTree<Bundle>> Partials<T> {
     pub fn take<L>(&mut self, low: u64, steps: &mut Steps<L>) -> Bundle
         ensures value { (b : Bundled) → value_at low (self.old).pairs ≡ Some b → result ≡ b }
         ensures pairs { (self.new).pairs ≡ without low (self.old).pairs }
-        ensures spare { (self.old).spare ≤ (self.new).spare }
-        ensures reach { (self.new).reach ≤ (self.old).reach }
+        ensures keeps { KeepsRoom self.old self.new }
         ensures cost { steps.new ≤ steps.old + 64 * ((self.old).reach + 2) }
     {
         if low < self.edge {
@@ -144,7 +139,6 @@ impl<T: AggTree<Bundle>> Partials<T> {
 
     /// The partial under a time, at most one step.
     pub fn read<L>(&self, low: u64, steps: &mut Steps<L>) -> Bundle
-        requires { low ≤ TIME_MAX }
         ensures value { (b : Bundled) → IsBundle b → value_at low (self.now).pairs ≡ Some b
             → result ≡ b }
         ensures cost { steps.new ≤ steps.old + 1 }
@@ -272,9 +266,9 @@ fn fold_below<T: AggTree<Bundle>, L>(
     tree.fold_range(low, high, &mut probes, steps)
 }
 
-// The partial under a time in a tree.
+// The partial under a time in a tree, which isn't the last of all.
 fn read_in<T: AggTree<Bundle>, L>(tree: &T, low: u64, steps: &mut Steps<L>) -> Bundle
-    requires { low ≤ TIME_MAX }
+    requires { low + 1 < 2 ^ 64 }
     ensures value { (b : Bundled) → IsBundle b → value_at low (T.pairs tree.now) ≡ Some b
         → result ≡ b }
     ensures cost { steps.new ≤ steps.old + 1 }
@@ -287,7 +281,7 @@ fn read_in<T: AggTree<Bundle>, L>(tree: &T, low: u64, steps: &mut Steps<L>) -> B
 // inside `extend` its local variables would be cleared for each tuple in order, too.
 #[inline(always)]
 fn extend_in<T: AggTree<Bundle>, L>(tree: &mut T, low: u64, more: &Bundle, steps: &mut Steps<L>)
-    requires time { low ≤ TIME_MAX }
+    requires inner { low + 1 < 2 ^ 64 }
     requires there { IsTrue (has_key low (T.pairs tree.old)) }
     ensures extended { (b : Bundled) → IsBundle b → value_at low (T.pairs tree.old) ≡ Some b
         → T.pairs tree.new ≡ replaced low (bundles_combined b more.now) (T.pairs tree.old) }

@@ -1,8 +1,8 @@
 //! A tuple enters the slices that it is near to, and what becomes of their partials.
-ghost use Rattle.std.specs.Prelude.{◌≡◌, ◌≤◌, ◌<◌, ◌+◌, ◌*◌, [], length, map, slice_index_or};
+ghost use Rattle.std.specs.Prelude.{◌≤◌, ◌<◌, ◌+◌, ◌*◌, [], length, slice_index_or};
 ghost use Rattle.stream_base.specs.Model.Windows.{first_time, last_time};
-ghost use Rattle.slice_lists.specs.Slices.{CanEnter, entered_at, joined, slices_between};
-ghost use Rattle.agg_store.specs.Stored.{partial_of};
+ghost use Rattle.slice_lists.specs.Slices.{entered_at, joined, slices_between};
+ghost use Rattle.slice_partials.specs.Following.{Follow, MayEnter};
 
 use crate::lifting::{folded, lifted};
 use agg_laws::{AggTree, Monoid, Steps};
@@ -19,15 +19,10 @@ fn add<T: AggTree<Bundle>, L>(
     x: Kept,
     steps: &mut Steps<L>,
 )
-    requires can { CanEnter at at x runs.old }
-    requires spare { 1 ≤ (partials.old).spare }
-    requires stand { (partials.old).pairs ≡ map partial_of (runs.old).slices }
-    ensures slices { (runs.new).slices ≡ entered_at at at x (runs.old).slices }
-    ensures stand { (partials.new).pairs ≡ map partial_of (runs.new).slices }
-    ensures room { (runs.old).spare ≤ (runs.new).spare + 1 }
-    ensures spare { (partials.old).spare ≤ (partials.new).spare + 1 }
-    ensures reach { (partials.new).reach ≤ (partials.old).reach + 1 }
-    ensures cost { steps.new ≤ steps.old + 128 * ((partials.old).reach + 3) }
+    requires { MayEnter at at x runs.old partials.old }
+    ensures follow { Follow (entered_at at at x (runs.old).slices)
+        runs.old partials.old runs.new partials.new }
+    ensures cost { steps.new ≤ steps.old + 64 * ((partials.old).reach + 2) }
 {
     let _count = runs.len();
     partials.insert(x.time, lifted(&x), steps);
@@ -42,15 +37,11 @@ fn extend<T: AggTree<Bundle>, L>(
     x: Kept,
     steps: &mut Steps<L>,
 )
-    requires can { CanEnter at (at + 1) x runs.old }
+    requires may { MayEnter at (at + 1) x runs.old partials.old }
     requires late { last_time (slice_index_or (runs.old).slices at []) ≤ x.time }
-    requires stand { (partials.old).pairs ≡ map partial_of (runs.old).slices }
-    ensures slices { (runs.new).slices ≡ entered_at at (at + 1) x (runs.old).slices }
-    ensures stand { (partials.new).pairs ≡ map partial_of (runs.new).slices }
-    ensures room { (runs.old).spare ≤ (runs.new).spare + 1 }
-    ensures spare { (partials.old).spare ≤ (partials.new).spare + 1 }
-    ensures reach { (partials.new).reach ≤ (partials.old).reach + 1 }
-    ensures cost { steps.new ≤ steps.old + 128 * ((partials.old).reach + 3) }
+    ensures follow { Follow (entered_at at (at + 1) x (runs.old).slices)
+        runs.old partials.old runs.new partials.new }
+    ensures cost { steps.new ≤ steps.old + 64 * ((partials.old).reach + 3) }
 {
     let _count = runs.len();
     let low = runs.slice(at).low;
@@ -66,15 +57,10 @@ fn front<T: AggTree<Bundle>, L>(
     x: Kept,
     steps: &mut Steps<L>,
 )
-    requires can { CanEnter at (at + 1) x runs.old }
+    requires may { MayEnter at (at + 1) x runs.old partials.old }
     requires early { x.time < first_time (slice_index_or (runs.old).slices at []) }
-    requires spare { 1 ≤ (partials.old).spare }
-    requires stand { (partials.old).pairs ≡ map partial_of (runs.old).slices }
-    ensures slices { (runs.new).slices ≡ entered_at at (at + 1) x (runs.old).slices }
-    ensures stand { (partials.new).pairs ≡ map partial_of (runs.new).slices }
-    ensures room { (runs.old).spare ≤ (runs.new).spare + 1 }
-    ensures spare { (partials.old).spare ≤ (partials.new).spare + 1 }
-    ensures reach { (partials.new).reach ≤ (partials.old).reach + 1 }
+    ensures follow { Follow (entered_at at (at + 1) x (runs.old).slices)
+        runs.old partials.old runs.new partials.new }
     ensures cost { steps.new ≤ steps.old + 128 * ((partials.old).reach + 3) }
 {
     let _count = runs.len();
@@ -93,14 +79,10 @@ fn refold<T: AggTree<Bundle>, L>(
     x: Kept,
     steps: &mut Steps<L>,
 )
-    requires can { CanEnter at (at + 1) x runs.old }
+    requires may { MayEnter at (at + 1) x runs.old partials.old }
     requires late { first_time (slice_index_or (runs.old).slices at []) ≤ x.time }
-    requires stand { (partials.old).pairs ≡ map partial_of (runs.old).slices }
-    ensures slices { (runs.new).slices ≡ entered_at at (at + 1) x (runs.old).slices }
-    ensures stand { (partials.new).pairs ≡ map partial_of (runs.new).slices }
-    ensures room { (runs.old).spare ≤ (runs.new).spare + 1 }
-    ensures spare { (partials.old).spare ≤ (partials.new).spare + 1 }
-    ensures reach { (partials.new).reach ≤ (partials.old).reach + 1 }
+    ensures follow { Follow (entered_at at (at + 1) x (runs.old).slices)
+        runs.old partials.old runs.new partials.new }
     ensures cost { steps.new ≤ steps.old + (128 * ((partials.old).reach + 3)
         + length (joined (slices_between at (at + 1) (runs.old).slices))) }
 {
@@ -119,13 +101,9 @@ fn merge<T: AggTree<Bundle>, L>(
     x: Kept,
     steps: &mut Steps<L>,
 )
-    requires can { CanEnter at (at + 2) x runs.old }
-    requires stand { (partials.old).pairs ≡ map partial_of (runs.old).slices }
-    ensures slices { (runs.new).slices ≡ entered_at at (at + 2) x (runs.old).slices }
-    ensures stand { (partials.new).pairs ≡ map partial_of (runs.new).slices }
-    ensures room { (runs.old).spare ≤ (runs.new).spare + 1 }
-    ensures spare { (partials.old).spare ≤ (partials.new).spare + 1 }
-    ensures reach { (partials.new).reach ≤ (partials.old).reach + 1 }
+    requires { MayEnter at (at + 2) x runs.old partials.old }
+    ensures follow { Follow (entered_at at (at + 2) x (runs.old).slices)
+        runs.old partials.old runs.new partials.new }
     ensures cost { steps.new ≤ steps.old + 128 * ((partials.old).reach + 3) }
 {
     let _count = runs.len();
@@ -139,37 +117,6 @@ fn merge<T: AggTree<Bundle>, L>(
     runs.enter(at, at + 2, x);
 }
 
-// The tuple enters one slice: behind its tuples, before them, or between two of them.
-fn enter_one<T: AggTree<Bundle>, L>(
-    runs: &mut Runs,
-    partials: &mut Partials<T>,
-    at: usize,
-    x: Kept,
-    steps: &mut Steps<L>,
-)
-    requires can { CanEnter at (at + 1) x runs.old }
-    requires spare { 1 ≤ (partials.old).spare }
-    requires stand { (partials.old).pairs ≡ map partial_of (runs.old).slices }
-    ensures slices { (runs.new).slices ≡ entered_at at (at + 1) x (runs.old).slices }
-    ensures stand { (partials.new).pairs ≡ map partial_of (runs.new).slices }
-    ensures room { (runs.old).spare ≤ (runs.new).spare + 1 }
-    ensures spare { (partials.old).spare ≤ (partials.new).spare + 1 }
-    ensures reach { (partials.new).reach ≤ (partials.old).reach + 1 }
-    ensures cost { steps.new ≤ steps.old + (128 * ((partials.old).reach + 3)
-        + length (joined (slices_between at (at + 1) (runs.old).slices))) }
-    ensures in_order { last_time (joined (runs.old).slices) ≤ x.time
-        → steps.new ≤ steps.old + 128 * ((partials.old).reach + 3) }
-{
-    let slice = runs.slice(at);
-    if slice.high <= x.time {
-        extend(runs, partials, at, x, steps);
-    } else if x.time < slice.low {
-        front(runs, partials, at, x, steps);
-    } else {
-        refold(runs, partials, at, x, steps);
-    }
-}
-
 /// Puts a tuple in its place, where the slices from one place up to another become one with it, and
 /// brings the partials after it.
 pub fn enter<T: AggTree<Bundle>, L>(
@@ -180,14 +127,9 @@ pub fn enter<T: AggTree<Bundle>, L>(
     x: Kept,
     steps: &mut Steps<L>,
 )
-    requires can { CanEnter from to x runs.old }
-    requires spare { 1 ≤ (partials.old).spare }
-    requires stand { (partials.old).pairs ≡ map partial_of (runs.old).slices }
-    ensures slices { (runs.new).slices ≡ entered_at from to x (runs.old).slices }
-    ensures stand { (partials.new).pairs ≡ map partial_of (runs.new).slices }
-    ensures room { (runs.old).spare ≤ (runs.new).spare + 1 }
-    ensures spare { (partials.old).spare ≤ (partials.new).spare + 1 }
-    ensures reach { (partials.new).reach ≤ (partials.old).reach + 1 }
+    requires { MayEnter from to x runs.old partials.old }
+    ensures follow { Follow (entered_at from to x (runs.old).slices)
+        runs.old partials.old runs.new partials.new }
     ensures cost { steps.new ≤ steps.old + (128 * ((partials.old).reach + 3)
         + length (joined (slices_between from to (runs.old).slices))) }
     ensures in_order { last_time (joined (runs.old).slices) ≤ x.time
@@ -195,10 +137,17 @@ pub fn enter<T: AggTree<Bundle>, L>(
 {
     let count = to - from;
     if count == 0 {
-        add(runs, partials, from, x, steps);
-    } else if count == 1 {
-        enter_one(runs, partials, from, x, steps);
+        return add(runs, partials, from, x, steps);
+    }
+    if count != 1 {
+        return merge(runs, partials, from, x, steps);
+    }
+    let slice = runs.slice(from);
+    if slice.high <= x.time {
+        extend(runs, partials, from, x, steps);
+    } else if x.time < slice.low {
+        front(runs, partials, from, x, steps);
     } else {
-        merge(runs, partials, from, x, steps);
+        refold(runs, partials, from, x, steps);
     }
 }

@@ -1,5 +1,6 @@
 //! The first slices leave.
 ghost use Rattle.std.specs.Prelude.{◌≡◌, ◌≤◌, ◌+◌, ◌*◌, drop, length, map};
+ghost use Rattle.partials.specs.Apart.{KeepsRoom};
 ghost use Rattle.agg_store.specs.Stored.{partial_of};
 
 use agg_laws::{AggTree, Steps};
@@ -17,8 +18,7 @@ pub fn take_first<T: AggTree<Bundle>, L>(
     requires within { count ≤ length (runs.now).slices }
     requires stand { (partials.old).pairs ≡ map partial_of (runs.now).slices }
     ensures stand { (partials.new).pairs ≡ map partial_of (drop count (runs.now).slices) }
-    ensures spare { (partials.old).spare ≤ (partials.new).spare }
-    ensures reach { (partials.new).reach ≤ (partials.old).reach }
+    ensures keeps { KeepsRoom partials.old partials.new }
     ensures cost { steps.new ≤ steps.old + 64 * ((partials.old).reach + 2) * count }
 {
     for at in 0..count {

@@ -2,6 +2,7 @@
 ghost use Rattle.std.specs.Prelude.{◌≡◌, ◌≤◌, ◌+◌, ◌*◌, [], length, map, slice_index_or};
 ghost use Rattle.slice_lists.specs.Slices.{CanSplit, split_at};
 ghost use Rattle.agg_store.specs.Stored.{partial_of};
+ghost use Rattle.slice_partials.specs.Following.{Follow};
 
 use crate::lifting::folded;
 use agg_laws::{AggTree, Steps};
@@ -20,11 +21,8 @@ pub fn split<T: AggTree<Bundle>, L>(
     requires can { CanSplit at time runs.old }
     requires spare { 1 ≤ (partials.old).spare }
     requires stand { (partials.old).pairs ≡ map partial_of (runs.old).slices }
-    ensures slices { (runs.new).slices ≡ split_at at time (runs.old).slices }
-    ensures stand { (partials.new).pairs ≡ map partial_of (runs.new).slices }
-    ensures room { (runs.old).spare ≤ (runs.new).spare + 1 }
-    ensures spare { (partials.old).spare ≤ (partials.new).spare + 1 }
-    ensures reach { (partials.new).reach ≤ (partials.old).reach + 1 }
+    ensures follow { Follow (split_at at time (runs.old).slices)
+        runs.old partials.old runs.new partials.new }
     ensures cost { steps.new ≤ steps.old + (128 * ((partials.old).reach + 3)
         + length (slice_index_or (runs.old).slices at [])) }
 {

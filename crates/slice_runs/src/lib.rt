@@ -14,5 +14,5 @@ mod places;
 mod runs;
 
 pub use cuts::{first_entered, last_entered};
-pub use marks::{add_mark, keep_last};
+pub use marks::Marks;
 pub use runs::Runs;

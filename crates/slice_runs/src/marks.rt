@@ -1,25 +1,91 @@
 //! The marks of a key, rising.
-ghost use Rattle.std.specs.Prelude.{◌≡◌, ◌≤◌, ◌<◌, ◌+◌, ℕ, ◌==◌, ◌&&◌, nat_lt, nat_le, length, slice_index, vec_len, vec_capacity};
+ghost use Rattle.std.specs.Prelude.{◌≡◌, ◌≤◌, ◌+◌, ℕ, [], ◌==◌, ◌&&◌, nat_lt, nat_le, length, slice_index, OnOk};
 ghost use Rattle.std.specs.BTreeSet.{insert_key};
 ghost use Rattle.std.specs.List.{list_any};
 ghost use Rattle.std.specs.List.Sorted.{IsStrictlyIncreasing};
 ghost use Rattle.std.specs.Ordering.{nat_cmp};
-ghost use Rattle.stream_base.specs.declared.limits.TheConstants.{TIME_MAX};
+ghost use Rattle.slice_lists.specs.Places.{IsPlaceOf};
 ghost use Rattle.slice_lists.specs.Touched.{marks_left};
 
-use crate::places::{marks_before, marks_up_to};
+use std::alloc::Global;
+use std::marker::Model;
+use stream_base::NoMemory;
 
-/// Adds a mark among rising ones, unless it is there.
-pub fn add_mark(marks: &mut Vec<u64>, time: u64)
-    requires rising { IsStrictlyIncreasing marks.old.items }
-    requires room { vec_len marks.old < vec_capacity marks.old }
-    ensures added { marks.new.items ≡ insert_key nat_cmp marks.old.items time }
-    ensures capacity { vec_capacity marks.new ≡ vec_capacity marks.old }
-    ensures number { vec_len marks.new ≤ vec_len marks.old + 1 }
-{
-    let place = marks_before(marks, time);
-    if !is_marked(marks, place, time) {
-        marks.insert(place, time).unwrap();
+/// The marks of a key, rising. Contracts see their times, and for how many more there is room.
+#[derive(Drop)]
+pub struct Marks {
+    times: Vec<u64>,
+}
+
+impl Model for Marks {
+    ghost use Rattle.std.specs.Prelude.{vec_len, vec_capacity, ◌-◌};
+    ghost use Rattle.std.specs.List.Sorted.{IsStrictlyIncreasing};
+    ghost use Rattle.slice_runs.specs.Marked.{Marked};
+
+    ghost Value = { Marked };
+
+    ghost view = { λ m. record {
+      times = m.times.items;
+      spare = vec_capacity m.times - vec_len m.times;
+    } };
+
+    ghost invariant = { λ m. IsStrictlyIncreasing m.times.items };
+}
+
+impl Marks {
+    /// No mark.
+    pub fn new(alloc: Global) -> Marks
+        ensures { result.times ≡ [] }
+    {
+        Marks {
+            times: Vec::new(alloc),
+        }
+    }
+
+    /// Makes room for one mark more.
+    pub fn reserve(&mut self) -> Result<(), NoMemory>
+        ensures room { OnOk result (1 ≤ self.new.spare) }
+        ensures spare { self.old.spare ≤ self.new.spare }
+        ensures times { self.new.times ≡ self.old.times }
+    {
+        self.times.reserve(1)?;
+        Ok(())
+    }
+
+    /// Adds a mark, unless it is there.
+    pub fn add(&mut self, time: u64)
+        requires { 1 ≤ self.old.spare }
+        ensures added { self.new.times ≡ insert_key nat_cmp self.old.times time }
+        ensures rising { IsStrictlyIncreasing self.new.times }
+        ensures spare { self.old.spare ≤ self.new.spare + 1 }
+    {
+        let place = before(&self.times, time);
+        if !is_marked(&self.times, place, time) {
+            self.times.insert(place, time).unwrap();
+        }
+    }
+
+    /// Whether a mark lies after the first time and at or before the second.
+    pub fn has_between(&self, low: u64, high: u64) -> bool
+        ensures { result ≡ list_any (λ m. nat_lt low m && nat_le m high) self.now.times }
+    {
+        has_mark(&self.times, low, high)
+    }
+
+    /// Leaves the marks behind a time, and of those up to it the greatest.
+    pub fn keep_last(&mut self, time: u64)
+        ensures left { self.new.times ≡ marks_left time self.old.times }
+        ensures rising { IsStrictlyIncreasing self.new.times }
+        ensures cuts { (a b : ℕ) → time ≤ a
+            → list_any (λ m. nat_lt a m && nat_le m b) self.new.times
+            ≡ list_any (λ m. nat_lt a m && nat_le m b) self.old.times }
+        ensures spare { self.old.spare ≤ self.new.spare }
+    {
+        let count = up_to(&self.times, time);
+        if count > 0 {
+            let last = self.times[count - 1];
+            self.times.retain(|mark| last <= *mark);
+        }
     }
 }
 
@@ -29,30 +95,26 @@ fn is_marked(marks: &[u64], place: usize, time: u64) -> bool
     place < marks.len() && marks[place] == time
 }
 
-/// Whether a mark lies after the first time and at or before the second.
-pub fn has_mark(marks: &[u64], low: u64, high: u64) -> bool
-    requires rising { IsStrictlyIncreasing marks.now }
-    requires low { low ≤ TIME_MAX }
+fn has_mark(marks: &[u64], low: u64, high: u64) -> bool
+    requires { IsStrictlyIncreasing marks.now }
     ensures { result ≡ list_any (λ m. nat_lt low m && nat_le m high) marks.now }
 {
-    let place = marks_before(marks, low + 1);
+    let place = up_to(marks, low);
     place < marks.len() && marks[place] <= high
 }
 
-/// Leaves the marks behind a time, and of those up to it the greatest.
-pub fn keep_last(marks: &mut Vec<u64>, time: u64)
-    requires rising { IsStrictlyIncreasing marks.old.items }
-    ensures left { marks.new.items ≡ marks_left time marks.old.items }
-    ensures rising { IsStrictlyIncreasing marks.new.items }
-    ensures cuts { (a b : ℕ) → time ≤ a
-        → list_any (λ m. nat_lt a m && nat_le m b) marks.new.items
-        ≡ list_any (λ m. nat_lt a m && nat_le m b) marks.old.items }
-    ensures number { vec_len marks.new ≤ vec_len marks.old }
-    ensures capacity { vec_capacity marks.new ≡ vec_capacity marks.old }
+// How many marks lie before a time.
+fn before(marks: &[u64], time: u64) -> usize
+    requires { IsStrictlyIncreasing marks.now }
+    ensures { IsPlaceOf (λ m. m) marks.now time result }
 {
-    let count = marks_up_to(marks, time);
-    if count > 0 {
-        let last = marks[count - 1];
-        marks.retain(|mark| last <= *mark);
-    }
+    marks.partition_point(|mark| *mark < time)
+}
+
+// How many marks lie at or before a time.
+fn up_to(marks: &[u64], time: u64) -> usize
+    requires { IsStrictlyIncreasing marks.now }
+    ensures { IsPlaceOf (λ m. m) marks.now (time + 1) result }
+{
+    marks.partition_point(|mark| *mark <= time)
 }

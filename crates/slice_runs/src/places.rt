@@ -1,8 +1,7 @@
 //! Places in lists that are sorted by time.
 ghost use Rattle.std.specs.Prelude.{◌≡◌, ◌≤◌, ◌+◌, nat_lt, nat_le, length, true};
 ghost use Rattle.std.specs.List.{position_or_len};
-ghost use Rattle.std.specs.List.Sorted.{IsNonDecreasingBy, IsStrictlyIncreasing};
-ghost use Rattle.stream_base.specs.declared.limits.TheConstants.{TIME_MAX};
+ghost use Rattle.std.specs.List.Sorted.{IsNonDecreasingBy};
 ghost use Rattle.stream_base.specs.Laws.{TimesDoNotFall};
 ghost use Rattle.stream_base.specs.Model.Windows.{last_time};
 ghost use Rattle.slice_lists.specs.Places.{IsPlaceOf};
@@ -18,22 +17,6 @@ pub fn tuples_before(tuples: &[Kept], time: u64) -> usize
     tuples.partition_point(|x| x.time < time)
 }
 
-/// How many marks lie before a time.
-pub fn marks_before(marks: &[u64], time: u64) -> usize
-    requires { IsStrictlyIncreasing marks.now }
-    ensures { IsPlaceOf (λ m. m) marks.now time result }
-{
-    marks.partition_point(|mark| *mark < time)
-}
-
-/// How many marks lie at or before a time.
-pub fn marks_up_to(marks: &[u64], time: u64) -> usize
-    requires { IsStrictlyIncreasing marks.now }
-    ensures { IsPlaceOf (λ m. m) marks.now (time + 1) result }
-{
-    marks.partition_point(|mark| *mark <= time)
-}
-
 /// How many slices begin before a time.
 pub fn slices_before(bounds: &[Slice], time: u64) -> usize
     requires { IsNonDecreasingBy (λ s. s.low) bounds.now }
@@ -44,14 +27,13 @@ pub fn slices_before(bounds: &[Slice], time: u64) -> usize
 
 /// How many slices begin at or before a time. A time in the last slice or behind it takes one look.
 pub fn slices_up_to(bounds: &[Slice], time: u64) -> usize
-    requires in_order { IsNonDecreasingBy (λ s. s.low) bounds.now }
-    requires time { time ≤ TIME_MAX }
+    requires { IsNonDecreasingBy (λ s. s.low) bounds.now }
     ensures { IsPlaceOf (λ s. s.low) bounds.now (time + 1) result }
 {
     if begin_by(bounds, time) {
         bounds.len()
     } else {
-        slices_before(bounds, time + 1)
+        bounds.partition_point(|s| s.low <= time)
     }
 }
 
@@ -67,15 +49,14 @@ fn begin_by(bounds: &[Slice], time: u64) -> bool
 /// The place of a tuple at a time in event order: before the first tuple of a later time. A tuple
 /// that comes in order takes one look at the last one.
 pub fn place_of(tuples: &[Kept], time: u64) -> usize
-    requires in_order { TimesDoNotFall tuples.now }
-    requires time { time ≤ TIME_MAX }
+    requires { TimesDoNotFall tuples.now }
     ensures within { result ≤ length tuples.now }
     ensures value { result ≡ position_or_len (λ y. nat_lt time y.time) tuples.now }
 {
     if are_by(tuples, time) {
         tuples.len()
     } else {
-        tuples_before(tuples, time + 1)
+        tuples.partition_point(|x| x.time <= time)
     }
 }
 

@@ -2,13 +2,12 @@
 ghost use Rattle.std.specs.Prelude.{◌≡◌, ◌≤◌, ◌<◌, ◌+◌, ◌-◌, ◌++◌, ◌∷◌, [], length, take, drop, filter, slice_index_or, nat_le, nat_lt, OnOk, IfSome, IfNone, All, FitsSigned, false, vec_len, vec_capacity};
 ghost use Rattle.std.specs.List.{insert};
 ghost use Rattle.std.specs.Int.{w64};
-ghost use Rattle.stream_base.specs.declared.limits.TheConstants.{TIME_MAX};
-ghost use Rattle.stream_base.specs.Laws.{TimesDoNotFall};
 ghost use Rattle.stream_base.specs.Model.Windows.{first_time, last_time};
-ghost use Rattle.window_laws.specs.Runs.{AreInOrder, IsAligned};
+ghost use Rattle.run_laws.specs.Runs.{AreInOrder, IsAligned};
 ghost use Rattle.slice_lists.specs.Touched.{is_across};
 ghost use Rattle.slice_lists.specs.Sides.{IsAcrossAt};
 ghost use Rattle.slice_lists.specs.Places.{IsPlaceOf};
+ghost use Rattle.slice_runs.specs.Begun.{AreAcross, AreBefore};
 ghost use Rattle.slice_lists.specs.Slices.{AreSlices, CanEnter, CanSplit, entered_at, joined, slice_of, split_at};
 
 use crate::bounds::{enter_bounds, split_bounds};
@@ -70,17 +69,14 @@ impl Runs {
 
     /// How many slices begin at or before a time.
     pub fn up_to(&self, time: u64) -> usize
-        requires { time ≤ TIME_MAX }
-        ensures place { IsPlaceOf first_time (self.now).slices (time + 1) result }
-        ensures holds { AreSlices (self.now).slices }
+        ensures { AreBefore (self.now).slices (time + 1) result }
     {
         slices_up_to(&self.bounds, time)
     }
 
     /// How many slices begin before a time.
     pub fn before(&self, time: u64) -> usize
-        ensures place { IsPlaceOf first_time (self.now).slices time result }
-        ensures holds { AreSlices (self.now).slices }
+        ensures { AreBefore (self.now).slices time result }
     {
         slices_before(&self.bounds, time)
     }
@@ -188,9 +184,7 @@ fn part(tuples: &[Kept], start: usize, number: usize) -> &[Kept]
 
 // How the tuples of a slice before a time show, and those from it on.
 fn parts_at(tuples: &[Kept], time: u64) -> (Slice, Slice)
-    requires in_order { TimesDoNotFall tuples.now }
-    requires before { first_time tuples.now < time }
-    requires behind { time ≤ last_time tuples.now }
+    requires { AreAcross time tuples.now }
     ensures front { result.0 ≡ slice_of (filter (λ x. nat_lt x.time time) tuples.now) }
     ensures back { result.1 ≡ slice_of (filter (λ x. nat_le time x.time) tuples.now) }
     ensures some_before { 0 < result.0.number }

@@ -9,13 +9,13 @@ ghost use Rattle.stream_base.specs.declared.kept.Kept.{Kept};
 ghost use Rattle.stream_base.specs.declared.limits.TheConstants.{TIME_MAX};
 ghost use Rattle.stream_base.specs.Model.Journal.{put_in_order};
 ghost use Rattle.stream_base.specs.Model.Windows.{first_time, last_time};
-ghost use Rattle.window_laws.specs.Runs.{IsAligned, parted_at};
+ghost use Rattle.run_laws.specs.Runs.{IsAligned, parted_at};
 ghost use Rattle.partials.specs.Apart.{IsReachOver};
 ghost use Rattle.slice_lists.specs.Slices.{joined, kept_at};
 ghost use Rattle.slice_lists.specs.Touched.{is_across, marks_left, slices_from};
 ghost use Rattle.agg_store.specs.Entered.{IsPut, slices_near};
 ghost use Rattle.agg_store.specs.Stored.{IsAsBefore, IsSliced, IsStore, tuples_of};
-ghost use Rattle.slice_store.specs.Placing.{is_last, placed_in};
+ghost use Rattle.slice_store.specs.Placing.{MayTake, is_last, placed_in};
 
 use crate::placed::Placed;
 use agg_laws::{AggTree, Steps};
@@ -24,7 +24,7 @@ use aggregates::Bundle;
 use partials::Partials;
 use slice_lists::Slice;
 use slice_partials::{enter, split, take_first};
-use slice_runs::{Runs, add_mark, first_entered, keep_last, last_entered};
+use slice_runs::{Marks, Runs, first_entered, last_entered};
 use std::alloc::Global;
 use std::marker::Model;
 use stream_base::{Defs, Kept, NoMemory};
@@ -40,13 +40,13 @@ use stream_base::{Defs, Kept, NoMemory};
 #[derive(Drop)]
 pub struct SliceStore<T: AggTree<Bundle>> {
     runs: Runs,
-    marks: Vec<u64>,
+    marks: Marks,
     dropped: u64,
     partials: Partials<T>,
 }
 
 impl<T: AggTree<Bundle>> Model for SliceStore<T> {
-    ghost use Rattle.std.specs.Prelude.{◌-◌, min, vec_len, vec_capacity};
+    ghost use Rattle.std.specs.Prelude.{min};
     ghost use Rattle.agg_store.specs.Stored.{Stored};
     ghost use Rattle.slice_store.specs.Inside.{AreInside};
 
@@ -54,13 +54,13 @@ impl<T: AggTree<Bundle>> Model for SliceStore<T> {
 
     ghost view = { λ s. record {
       slices = s.runs.slices;
-      marks = s.marks.items;
+      marks = s.marks.times;
       dropped = s.dropped;
-      spare = min (min s.runs.spare (vec_capacity s.marks - vec_len s.marks)) s.partials.spare;
+      spare = min (min s.runs.spare s.marks.spare) s.partials.spare;
       reach = s.partials.reach;
     } };
 
-    ghost invariant = { λ s. AreInside s.runs.slices s.marks.items s.partials.pairs };
+    ghost invariant = { λ s. AreInside s.runs.slices s.marks.times s.partials.pairs };
 }
 
 impl<T: AggTree<Bundle>> SliceStore<T> {
@@ -74,7 +74,7 @@ impl<T: AggTree<Bundle>> SliceStore<T> {
     {
         SliceStore {
             runs: Runs::new(alloc),
-            marks: Vec::new(alloc),
+            marks: Marks::new(alloc),
             dropped: 0,
             partials: Partials::new(alloc),
         }
@@ -87,7 +87,7 @@ impl<T: AggTree<Bundle>> SliceStore<T> {
         ensures kept { IsAsBefore self.old self.new }
     {
         self.runs.reserve()?;
-        self.marks.reserve(1)?;
+        self.marks.reserve()?;
         self.partials.reserve()?;
         Ok(())
     }
@@ -104,9 +104,7 @@ impl<T: AggTree<Bundle>> SliceStore<T> {
         value: i64,
         steps: &mut Steps<L>,
     ) -> Placed
-        requires room { 1 ≤ self.old.spare }
-        requires time { time ≤ TIME_MAX }
-        requires sliced { IsSliced defs.now.windows self.old }
+        requires { MayTake defs.now.windows time self.old }
         ensures sliced { IsSliced defs.now.windows self.new }
         ensures tuples { tuples_of self.new
             ≡ put_in_order (tuples_of self.old) (kept_at pos time value) }
@@ -137,9 +135,7 @@ impl<T: AggTree<Bundle>> SliceStore<T> {
     /// Marks a time: the slice that has tuples on both sides of it, if there is one, is split in
     /// two. A tuple of the very time lies behind the mark. Answers whether a slice was split.
     pub fn mark<L>(&mut self, defs: &Defs, time: u64, steps: &mut Steps<L>) -> bool
-        requires room { 1 ≤ self.old.spare }
-        requires time { time ≤ TIME_MAX }
-        requires sliced { IsSliced defs.now.windows self.old }
+        requires { MayTake defs.now.windows time self.old }
         ensures sliced { IsSliced defs.now.windows self.new }
         ensures tuples { tuples_of self.new ≡ tuples_of self.old }
         ensures slices { self.new.slices ≡ flat_map (parted_at time) self.old.slices }
@@ -151,7 +147,7 @@ impl<T: AggTree<Bundle>> SliceStore<T> {
         ensures cost { steps.new ≤ steps.old + (128 * (self.old.reach + 3)
             + length (joined (filter (is_across time) self.old.slices))) }
     {
-        add_mark(&mut self.marks, time);
+        self.marks.add(time);
         match self.runs.across(time) {
             Some(at) => {
                 split(&mut self.runs, &mut self.partials, at, time, steps);
@@ -186,7 +182,7 @@ impl<T: AggTree<Bundle>> SliceStore<T> {
         let count = self.runs.before(time);
         take_first(&self.runs, &mut self.partials, count, steps);
         self.runs.drop_first(count, time);
-        keep_last(&mut self.marks, time);
+        self.marks.keep_last(time);
         self.dropped = self.dropped.max(time);
     }
 }

@@ -1,12 +1,19 @@
--- By how many slices the tuple enters.
-use Rattle.slice_partials.proofs.EnterFacts.{can_alone, can_one, can_two}
+-- A tuple that is the last of all isn't before the end of its slice.
+use Rattle.std.proofs.Common.{◌<◌, ap, arith, length}
+use Rattle.slice_lists.specs.declared.slice.Slice.{Slice}
+use Rattle.slice_lists.proofs.SliceParts.{slice_ends}
+use Rattle.slice_partials.proofs.EnterFacts.{can_alone}
 use Rattle.slice_partials.proofs.entering.enter.Goals as goal
 
-pub add-requires-clause-can : goal.add-requires-clause-can
-add-requires-clause-can g c = can_alone c.args.from c.args.to c.args.x c.args.runs.now c.requires.can c.if-count-eq0.true
+pub add-requires : goal.add-requires
+add-requires g c = record {
+  can = can_alone c.args.from c.args.to c.args.x c.args.runs.now c.requires.can c.if-count-eq0.true;
+  spare = c.requires.spare;
+  stand = c.requires.stand;
+}
 
-pub enter_one-requires-clause-can : goal.enter_one-requires-clause-can
-enter_one-requires-clause-can g c = can_one c.args.from c.args.to c.args.x c.args.runs.now c.requires.can c.if-count-eq1.true
-
-pub merge-requires-clause-can : goal.merge-requires-clause-can
-merge-requires-clause-can g c = can_two c.args.from c.args.to c.args.x c.args.runs.now c.requires.can c.if-count-eq0.false c.if-count-eq1.false
+pub returns-else-x-slice-clause-in_order : goal.returns-else-x-slice-clause-in_order
+returns-else-x-slice-clause-in_order g c = λ h.
+    let runs = c.args.runs.now.slices in
+    let l : c.args.from < length runs = omega (arith, c.requires.can.within) in
+    absurd (omega (arith, h, slice_ends runs c.args.from l c.slice-slice.ensures.holds.ordered, ap (λ (s : Slice). s.high) c.slice-slice.ensures.shown, c.if-slice-x.false))

@@ -10,14 +10,9 @@ use Rattle.agg_laws.specs.Pairs.{has_key, replaced, value_at, without}
 use Rattle.slice_lists.specs.declared.slice.Slice.{Slice}
 use Rattle.slice_lists.specs.Slices.{slice_of, values_of}
 use Rattle.agg_store.specs.Stored.{partial_of}
-use Rattle.slice_lists.proofs.SliceFacts.{ends_in_time, values_at}
+use Rattle.slice_lists.proofs.SliceFacts.{values_at}
 use Rattle.slice_partials.proofs.PartialFacts.{merged_is, merged_there, partial_found, partial_is_value}
 use Rattle.slice_partials.proofs.entering.merge.Goals as goal
-
-pub read-left-requires : goal.read-left-requires
-read-left-requires g c =
-    let l : c.args.at < length c.args.runs.now.slices = omega (arith, c.requires.can.within) in
-    omega (arith, ap (λ (s : Slice). s.low) c.slice-low.ensures.shown, (ends_in_time c.args.runs.now.slices c.args.at l c.slice-low.ensures.holds).0)
 
 pub set-requires : goal.set-requires
 set-requires g c =
@@ -28,8 +23,8 @@ set-requires g c =
     ∙ (λ i. has_key (ap (λ (s : Slice). s.low) c.slice-low.ensures.shown i) (without (ap (λ (s : Slice). s.low) next i) (c.requires.stand i)))
     ∙ merged_there runs c.args.at (c.args.at + 2) c.args.x c.slice-low.ensures.holds.ordered c.requires.can.ordered refl l
 
-pub returns-clause-stand : goal.returns-clause-stand
-returns-clause-stand g c =
+pub returns-clause-follow : goal.returns-clause-follow
+returns-clause-follow g c =
     let runs = c.args.runs.now.slices in
     let p = get_or runs c.args.at [] in
     let q = get_or runs (suc c.args.at) [] in
@@ -53,8 +48,14 @@ returns-clause-stand g c =
     let both : c.combine-bundle.result ≡ bundle_of ((values_of p ++ (c.args.x).value ∷ []) ++ values_of q) =
     c.combine-bundle.ensures.joined (values_of p ++ (c.args.x).value ∷ []) (values_of q) (All-append (FitsSigned w64) (values_of p) ((c.args.x).value ∷ []) (values_at runs c.args.at m holds) fits_x) (values_at runs (suc c.args.at) l holds) longer right in
     let between = c.requires.can.between refl in
-    c.set.ensures.replaced
-    ∙ ap (replaced c.slice-low.result.low c.combine-bundle.result) c.take-right.ensures.pairs
-    ∙ (λ i. replaced (ap (λ (s : Slice). s.low) c.slice-low.ensures.shown i) c.combine-bundle.result (without (ap (λ (s : Slice). s.low) next i) (c.requires.stand i)))
-    ∙ merged_is runs c.args.at (c.args.at + 2) c.args.x holds.ordered c.requires.can.ordered refl l between.0 between.1 c.combine-bundle.result both
-    ∙ ap (map partial_of) (sym c.enter.ensures.slices)
+    record {
+      slices = c.enter.ensures.slices;
+      stand = c.set.ensures.replaced
+          ∙ ap (replaced c.slice-low.result.low c.combine-bundle.result) c.take-right.ensures.pairs
+          ∙ (λ i. replaced (ap (λ (s : Slice). s.low) c.slice-low.ensures.shown i) c.combine-bundle.result (without (ap (λ (s : Slice). s.low) next i) (c.requires.stand i)))
+          ∙ merged_is runs c.args.at (c.args.at + 2) c.args.x holds.ordered c.requires.can.ordered refl l between.0 between.1 c.combine-bundle.result both
+          ∙ ap (map partial_of) (sym c.enter.ensures.slices);
+      room = c.enter.ensures.spare;
+      spare = omega (arith, c.take-right.ensures.keeps.spare, c.set.ensures.keeps.spare);
+      reach = omega (arith, c.take-right.ensures.keeps.reach, c.set.ensures.keeps.reach);
+    }

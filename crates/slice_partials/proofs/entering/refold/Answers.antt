@@ -13,26 +13,32 @@ use Rattle.slice_partials.proofs.entering.refold.Goals as goal
 
 pub set-requires : goal.set-requires
 set-requires g c =
-    let l : c.args.at < length c.args.runs.now.slices = omega (arith, c.requires.can.within) in
+    let l : c.args.at < length c.args.runs.now.slices = omega (arith, c.requires.may.can.within) in
     ap (λ (s : Slice). has_key s.low c.args.partials.now.pairs) c.slice-low.ensures.shown
-    ∙ ap (has_key (first_time (get_or c.args.runs.now.slices c.args.at []))) c.requires.stand
+    ∙ ap (has_key (first_time (get_or c.args.runs.now.slices c.args.at []))) c.requires.may.stand
     ∙ partial_there c.args.runs.now.slices c.args.at l c.slice-low.ensures.holds.ordered
 
-pub returns-clause-stand : goal.returns-clause-stand
-returns-clause-stand g c =
+pub returns-clause-follow : goal.returns-clause-follow
+returns-clause-follow g c =
     let runs = c.args.runs.now.slices in
-    let l : c.args.at < length runs = omega (arith, c.requires.can.within) in
+    let l : c.args.at < length runs = omega (arith, c.requires.may.can.within) in
     let own : c.tuples_of.result.now ≡ put_in_order (get_or runs c.args.at []) c.args.x =
     c.tuples_of.ensures ∙ ap (λ rs. get_or rs c.args.at []) c.enter.ensures.slices ∙ entered_there runs c.args.at (c.args.at + 1) c.args.x refl l in
-    c.set.ensures.replaced
-    ∙ (λ i. replaced (ap (λ (s : Slice). s.low) c.slice-low.ensures.shown i) c.folded-bundle.result (c.requires.stand i))
-    ∙ refolded_there runs c.args.at (c.args.at + 1) c.args.x c.slice-low.ensures.holds.ordered c.requires.can.ordered refl l c.requires.late c.folded-bundle.result (c.folded-bundle.ensures.value ∙ ap (λ ts. bundle_of (values_of ts)) own)
-    ∙ ap (map partial_of) (sym c.enter.ensures.slices)
+    record {
+      slices = c.enter.ensures.slices;
+      stand = c.set.ensures.replaced
+          ∙ (λ i. replaced (ap (λ (s : Slice). s.low) c.slice-low.ensures.shown i) c.folded-bundle.result (c.requires.may.stand i))
+          ∙ refolded_there runs c.args.at (c.args.at + 1) c.args.x c.slice-low.ensures.holds.ordered c.requires.may.can.ordered refl l c.requires.late c.folded-bundle.result (c.folded-bundle.ensures.value ∙ ap (λ ts. bundle_of (values_of ts)) own)
+          ∙ ap (map partial_of) (sym c.enter.ensures.slices);
+      room = c.enter.ensures.spare;
+      spare = omega (arith, c.set.ensures.keeps.spare);
+      reach = omega (arith, c.set.ensures.keeps.reach);
+    }
 
 pub returns-clause-cost : goal.returns-clause-cost
 returns-clause-cost g c =
     let runs = c.args.runs.now.slices in
-    let l : c.args.at < length runs = omega (arith, c.requires.can.within) in
+    let l : c.args.at < length runs = omega (arith, c.requires.may.can.within) in
     let own : c.tuples_of.result.now ≡ put_in_order (get_or runs c.args.at []) c.args.x =
     c.tuples_of.ensures ∙ ap (λ rs. get_or rs c.args.at []) c.enter.ensures.slices ∙ entered_there runs c.args.at (c.args.at + 1) c.args.x refl l in
     omega (arith, c.folded-bundle.ensures.cost, ap length own, refolded_length runs c.args.at (c.args.at + 1) c.args.x refl l, c.set.ensures.cost)

@@ -6,7 +6,7 @@ use Rattle.stream_base.specs.declared.kept.Kept.{Kept}
 use Rattle.stream_base.specs.Model.Windows.{first_time}
 use Rattle.aggregates.specs.Bundled.{bundle_of}
 use Rattle.agg_laws.specs.Pairs.{has_key, inserted, replaced}
-use Rattle.window_laws.specs.Runs.{AreInOrder}
+use Rattle.run_laws.specs.Runs.{AreInOrder}
 use Rattle.slice_lists.specs.declared.slice.Slice.{Slice}
 use Rattle.slice_lists.specs.Slices.{slice_of, split_at, values_of}
 use Rattle.agg_store.specs.Stored.{partial_of}
@@ -39,8 +39,8 @@ insert-requires-clause-absent g c =
     ∙ (λ i. has_key (first_time (filter (λ (x : Kept). nat_le time x.time) (get_or runs at []))) (replaced (ap (λ (s : Slice). s.low) c.slice-low.ensures.shown i) c.folded-front.result (c.requires.stand i)))
     ∙ split_absent runs at time c.requires.can.within c.slice-low.ensures.holds.ordered order c.requires.can.before c.folded-front.result front
 
-pub returns-clause-stand : goal.returns-clause-stand
-returns-clause-stand g c =
+pub returns-clause-follow : goal.returns-clause-follow
+returns-clause-follow g c =
     let runs = c.args.runs.now.slices in
     let at = c.args.at in
     let time = c.args.time in
@@ -49,11 +49,17 @@ returns-clause-stand g c =
     let order : AreInOrder (split_at at time runs) = subst AreInOrder c.split.ensures.slices c.slice-next.ensures.holds.ordered in
     let front = c.folded-front.ensures.value ∙ ap (λ ts. bundle_of (values_of ts)) (c.tuples_of.ensures ∙ ap (λ rs. get_or rs at []) c.split.ensures.slices ∙ split_first runs at time c.requires.can.within) in
     let back = c.folded-back.ensures.value ∙ ap (λ ts. bundle_of (values_of ts)) (c.tuples_of-2.ensures ∙ ap (λ rs. get_or rs (at + 1) []) c.split.ensures.slices ∙ split_second runs at time c.requires.can.within) in
-    c.insert.ensures.inserted
-    ∙ (λ i. inserted (ap (λ (s : Slice). s.low) next i) c.folded-back.result (c.set.ensures.replaced i))
-    ∙ (λ i. inserted (first_time (filter (λ (x : Kept). nat_le time x.time) (get_or runs at []))) c.folded-back.result (replaced (ap (λ (s : Slice). s.low) c.slice-low.ensures.shown i) c.folded-front.result (c.requires.stand i)))
-    ∙ split_there runs at time c.requires.can.within c.slice-low.ensures.holds.ordered order c.requires.can.before c.folded-front.result front c.folded-back.result back
-    ∙ ap (map partial_of) (sym c.split.ensures.slices)
+    record {
+      slices = c.split.ensures.slices;
+      stand = c.insert.ensures.inserted
+          ∙ (λ i. inserted (ap (λ (s : Slice). s.low) next i) c.folded-back.result (c.set.ensures.replaced i))
+          ∙ (λ i. inserted (first_time (filter (λ (x : Kept). nat_le time x.time) (get_or runs at []))) c.folded-back.result (replaced (ap (λ (s : Slice). s.low) c.slice-low.ensures.shown i) c.folded-front.result (c.requires.stand i)))
+          ∙ split_there runs at time c.requires.can.within c.slice-low.ensures.holds.ordered order c.requires.can.before c.folded-front.result front c.folded-back.result back
+          ∙ ap (map partial_of) (sym c.split.ensures.slices);
+      room = c.split.ensures.spare;
+      spare = omega (arith, c.set.ensures.keeps.spare, c.insert.ensures.spare);
+      reach = omega (arith, c.set.ensures.keeps.reach, c.insert.ensures.reach);
+    }
 
 pub returns-clause-cost : goal.returns-clause-cost
 returns-clause-cost g c =
@@ -62,4 +68,4 @@ returns-clause-cost g c =
     let time = c.args.time in
     let front = c.tuples_of.ensures ∙ ap (λ rs. get_or rs at []) c.split.ensures.slices ∙ split_first runs at time c.requires.can.within in
     let back = c.tuples_of-2.ensures ∙ ap (λ rs. get_or rs (at + 1) []) c.split.ensures.slices ∙ split_second runs at time c.requires.can.within in
-    omega (arith, c.folded-front.ensures.cost, c.folded-back.ensures.cost, ap length front, ap length back, parts_length time (get_or runs at []), c.set.ensures.cost, c.set.ensures.reach, c.insert.ensures.cost)
+    omega (arith, c.folded-front.ensures.cost, c.folded-back.ensures.cost, ap length front, ap length back, parts_length time (get_or runs at []), c.set.ensures.cost, c.set.ensures.keeps.reach, c.insert.ensures.cost)

@@ -8,7 +8,7 @@ use Rattle.partials.proofs.partials.Partials.extend.Goals as goal
 pub extend_in-requires-clause-there : goal.extend_in-requires-clause-there
 extend_in-requires-clause-there g c =
     let s = c.self.inside in
-    there_inside c.args.low (g.T.AggTree.pairs s.tree) s.near.pairs (rw (← c.self.view_is) at c.requires.there) (absent_before s.edge c.args.low s.near.pairs c.if-low-self.true c.self.invariant.from)
+    there_inside c.args.low (g.T.AggTree.pairs s.tree) s.near.pairs (rw (← c.self.view_is) at c.requires) (absent_before s.edge c.args.low s.near.pairs c.if-low-self.true c.self.invariant.from)
 
 pub invariant_of-self : goal.invariant_of-self
 invariant_of-self g c =
@@ -32,13 +32,13 @@ pub extend-requires : goal.extend-requires
 extend-requires g c =
     let s = c.self.inside in
     let xs = g.T.AggTree.pairs s.tree in
-    there_near c.args.low xs s.near.pairs (rw (← c.self.view_is) at c.requires.there) (absent_behind s.edge c.args.low xs c.if-low-self.false c.self.invariant.below)
+    there_near c.args.low xs s.near.pairs (rw (← c.self.view_is) at c.requires) (absent_behind s.edge c.args.low xs c.if-low-self.false c.self.invariant.below)
 
 pub invariant_of-self-else-low-self : goal.invariant_of-self-else-low-self
 invariant_of-self-else-low-self g c =
     let s = c.self.inside in
     let xs = g.T.AggTree.pairs s.tree in
-    let there = value_there c.args.low s.near.pairs (there_near c.args.low xs s.near.pairs (rw (← c.self.view_is) at c.requires.there) (absent_behind s.edge c.args.low xs c.if-low-self.false c.self.invariant.below)) in
+    let there = value_there c.args.low s.near.pairs (there_near c.args.low xs s.near.pairs (rw (← c.self.view_is) at c.requires) (absent_behind s.edge c.args.low xs c.if-low-self.false c.self.invariant.below)) in
     record {
       below = c.self.invariant.below;
       from = subst (AreFrom s.edge) (sym (c.extend.ensures.extended there.0 there.1)) (from_replaced s.edge c.args.low (bundles_combined there.0 c.args.more.now) s.near.pairs c.self.invariant.from);

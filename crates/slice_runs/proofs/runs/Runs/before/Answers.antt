@@ -13,8 +13,11 @@ slices_before-requires c =
     let a = c.self.inside in
     subst (IsNonDecreasingBy (λ (s : Slice). s.low)) (sym c.self.invariant.shown ∙ sym c.deref.ensures.value) (lows_rise (parted_by a.bounds.items a.tuples.items) c.self.invariant.hold.ordered)
 
-pub returns-clause-place : goal.returns-clause-place
-returns-clause-place c =
+pub returns : goal.returns
+returns c =
     let a = c.self.inside in
     rw (← c.self.view_is)
-    (place_of_map (λ (s : Slice). s.low) slice_of (parted_by a.bounds.items a.tuples.items) c.deref.result.now c.args.time c.slices_before.result (c.deref.ensures.value ∙ c.self.invariant.shown) c.slices_before.ensures)
+    (record {
+      place = place_of_map (λ (s : Slice). s.low) slice_of (parted_by a.bounds.items a.tuples.items) c.deref.result.now c.args.time c.slices_before.result (c.deref.ensures.value ∙ c.self.invariant.shown) c.slices_before.ensures;
+      holds = c.self.invariant.hold;
+    })

@@ -3,15 +3,15 @@ use Rattle.std.proofs.Common.{◌≡◌, ◌∙◌, ◌+◌, ap, arith, sym, sub
 use Rattle.std.proofs.lemmas.List.Edits.{length-insert}
 use Rattle.stream_base.specs.Model.Journal.{put_in_order}
 use Rattle.stream_base.specs.Laws.{TimesDoNotFall}
-use Rattle.window_laws.specs.Runs.{AreInOrder}
+use Rattle.run_laws.specs.Runs.{AreInOrder}
 use Rattle.slice_lists.specs.Parted.{parted_by}
 use Rattle.slice_lists.specs.Slices.{entered_at, joined, slice_of}
 use Rattle.slice_lists.proofs.SliceOrder.{times_of_order}
 use Rattle.slice_lists.proofs.SliceEdits.{entered_all, entered_hold, entered_number, entered_tuples, kept_again, parted_again}
 use Rattle.slice_runs.proofs.runs.Runs.enter.Goals as goal
 
-pub place_of-place-requires-clause-in_order : goal.place_of-place-requires-clause-in_order
-place_of-place-requires-clause-in_order c = subst TimesDoNotFall (c.self.invariant.together ∙ sym c.deref.ensures.value) (times_of_order _ c.self.invariant.hold.ordered)
+pub place_of-place-requires : goal.place_of-place-requires
+place_of-place-requires c = subst TimesDoNotFall (c.self.invariant.together ∙ sym c.deref.ensures.value) (times_of_order _ c.self.invariant.hold.ordered)
 
 pub enter_bounds-requires-clause-number : goal.enter_bounds-requires-clause-number
 enter_bounds-requires-clause-number c =

@@ -3,18 +3,24 @@ use Rattle.std.proofs.Common.{◌≡◌, ◌∙◌, ◌<◌, ◌++◌, [], ap, a
 use Rattle.std.specs.Prelude.{nat_lt, nat_le}
 use Rattle.std.specs.List.{filter}
 use Rattle.stream_base.specs.declared.kept.Kept.{Kept}
-use Rattle.stream_base.specs.Laws.{TimesDoNotFall}
 use Rattle.slice_lists.specs.declared.slice.Slice.{Slice}
 use Rattle.slice_lists.specs.Parted.{parted_by}
 use Rattle.slice_lists.specs.Slices.{joined, slice_of, split_at}
 use Rattle.slice_lists.proofs.SliceFacts.{run_of}
 use Rattle.slice_lists.proofs.SliceEdits.{kept_again, parted_again}
 use Rattle.slice_lists.proofs.SplitFacts.{run_in_order, split_hold, split_shown, split_tuples}
+use Rattle.slice_runs.specs.Begun.{AreAcross}
 use Rattle.slice_runs.proofs.runs.Runs.split.Goals as goal
 
-pub parts_at-requires-clause-in_order : goal.parts_at-requires-clause-in_order
-parts_at-requires-clause-in_order c =
-    subst TimesDoNotFall (sym c.tuples_of.ensures) (run_in_order (get_or c.args.self.now.slices c.args.at []) (run_of c.args.self.now.slices c.args.at c.requires.within c.len-count.ensures.holds.ordered))
+pub parts_at-requires : goal.parts_at-requires
+parts_at-requires c =
+    let run = get_or c.args.self.now.slices c.args.at [] in
+    subst (AreAcross c.args.time) (sym c.tuples_of.ensures)
+    (record {
+      in_order = run_in_order run (run_of c.args.self.now.slices c.args.at c.requires.within c.len-count.ensures.holds.ordered);
+      before = c.requires.before;
+      behind = c.requires.behind;
+    })
 
 pub invariant_of-self : goal.invariant_of-self
 invariant_of-self c =

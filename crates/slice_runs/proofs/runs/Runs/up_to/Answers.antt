@@ -8,13 +8,16 @@ use Rattle.slice_lists.proofs.PlaceFacts.{place_of_map}
 use Rattle.slice_lists.proofs.SliceEdits.{lows_rise}
 use Rattle.slice_runs.proofs.runs.Runs.up_to.Goals as goal
 
-pub slices_up_to-requires-clause-in_order : goal.slices_up_to-requires-clause-in_order
-slices_up_to-requires-clause-in_order c =
+pub slices_up_to-requires : goal.slices_up_to-requires
+slices_up_to-requires c =
     let a = c.self.inside in
     subst (IsNonDecreasingBy (λ (s : Slice). s.low)) (sym c.self.invariant.shown ∙ sym c.deref.ensures.value) (lows_rise (parted_by a.bounds.items a.tuples.items) c.self.invariant.hold.ordered)
 
-pub returns-clause-place : goal.returns-clause-place
-returns-clause-place c =
+pub returns : goal.returns
+returns c =
     let a = c.self.inside in
     rw (← c.self.view_is)
-    (place_of_map (λ (s : Slice). s.low) slice_of (parted_by a.bounds.items a.tuples.items) c.deref.result.now (c.args.time + 1) c.slices_up_to.result (c.deref.ensures.value ∙ c.self.invariant.shown) c.slices_up_to.ensures)
+    (record {
+      place = place_of_map (λ (s : Slice). s.low) slice_of (parted_by a.bounds.items a.tuples.items) c.deref.result.now (c.args.time + 1) c.slices_up_to.result (c.deref.ensures.value ∙ c.self.invariant.shown) c.slices_up_to.ensures;
+      holds = c.self.invariant.hold;
+    })

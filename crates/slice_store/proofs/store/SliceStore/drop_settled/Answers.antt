@@ -16,8 +16,8 @@ returns-clause-sliced g c =
     rw (← c.self.view_is)
     (λ windows e.
     c.drop_first.ensures.slices
-    ∙ left_sliced windows s.marks.items c.keep_last.new.marks.items s.runs.slices c.args.time count c.before-count.ensures.place c.before-count.ensures.holds.ordered (rw (← c.self.view_is) at c.requires) c.keep_last.ensures.cuts e
-    ∙ ap (λ l. runs_of windows c.keep_last.new.marks.items (joined l)) (sym c.drop_first.ensures.slices))
+    ∙ left_sliced windows s.marks.times c.keep_last.new.self.times s.runs.slices c.args.time count c.before-count.ensures.place c.before-count.ensures.holds.ordered (rw (← c.self.view_is) at c.requires) c.keep_last.ensures.cuts e
+    ∙ ap (λ l. runs_of windows c.keep_last.new.self.times (joined l)) (sym c.drop_first.ensures.slices))
 
 pub returns-clause-cost : goal.returns-clause-cost
 returns-clause-cost g c =

@@ -1,5 +1,5 @@
 -- The slices that the tuple is near to become one with it.
-use Rattle.std.proofs.Common.{◌≡◌, ◌∙◌, ap, arith, sym, subst, take, drop}
+use Rattle.std.proofs.Common.{◌≡◌, ◌∙◌, ap, arith, refl, sym, subst, take, drop}
 use Rattle.std.specs.Int.{w64}
 use Rattle.std.proofs.lemmas.Int.{to_z-of_z}
 use Rattle.stream_base.specs.declared.kept.Kept.{Kept}
@@ -9,20 +9,24 @@ use Rattle.slice_lists.proofs.NearFacts.{IsEdit}
 use Rattle.slice_lists.proofs.PutFacts.{can_enter, edit_at, is_then, near_joined, near_length, sliced_again, tuples_with, was_before}
 use Rattle.slice_store.proofs.store.SliceStore.put.Goals as goal
 
-pub enter-requires-clause-can : goal.enter-requires-clause-can
-enter-requires-clause-can g c =
+pub enter-requires : goal.enter-requires
+enter-requires g c =
     let s = c.self.inside in
     let from = c.first_entered-from.result in
     let to = c.last_entered-to.result in
     let x : Kept = kept_at c.args.pos c.args.time c.args.value in
     let same : c.kept_at-x.result ≡ x = c.kept_at-x.ensures.kept ∙ ap (kept_at c.args.pos c.args.time) (to_z-of_z w64 c.args.value c.ranges.value) in
-    let e : IsEdit c.args.defs.now.windows s.marks.items s.runs.slices from to x =
-    edit_at c.args.defs.now s.marks.items c.deref.result.now c.deref-2.result.now s.runs.slices x c.up_to-at.result from to c.windows-windows.ensures.limits c.up_to-at.ensures.holds (rw (← c.self.view_is) at c.requires.sliced) c.up_to-at.ensures.place c.deref.ensures.value c.deref-2.ensures.value c.first_entered-from.ensures c.last_entered-to.ensures in
-    can_enter c.args.defs.now.windows s.marks.items s.runs c.kept_at-x.result from to
-    (subst (λ (y : Kept). IsEdit c.args.defs.now.windows s.marks.items s.runs.slices from to y) (sym same) e)
-    (let room = rw (← c.self.view_is) at c.requires.room in omega arith)
-    (omega (arith, ap (λ (y : Kept). y.time) same, c.requires.time))
-    c.kept_at-x.ensures.fits
+    let e : IsEdit c.args.defs.now.windows s.marks.times s.runs.slices from to x =
+    edit_at c.args.defs.now s.marks.times s.marks.times s.marks.times s.runs.slices x c.up_to-at.result from to c.windows-windows.ensures.limits c.up_to-at.ensures.holds ((rw (← c.self.view_is) at c.requires).sliced) c.up_to-at.ensures.place refl refl c.first_entered-from.ensures c.last_entered-to.ensures in
+    record {
+      can = can_enter c.args.defs.now.windows s.marks.times s.runs c.kept_at-x.result from to
+          (subst (λ (y : Kept). IsEdit c.args.defs.now.windows s.marks.times s.runs.slices from to y) (sym same) e)
+          (let may = rw (← c.self.view_is) at c.requires in omega (arith, may.room))
+          (omega (arith, ap (λ (y : Kept). y.time) same, c.requires.time))
+          c.kept_at-x.ensures.fits;
+      spare = (let may = rw (← c.self.view_is) at c.requires in omega (arith, may.room));
+      stand = c.self.invariant.partials;
+    }
 
 pub returns-clause-sliced : goal.returns-clause-sliced
 returns-clause-sliced g c =
@@ -31,9 +35,9 @@ returns-clause-sliced g c =
     let to = c.last_entered-to.result in
     let x : Kept = kept_at c.args.pos c.args.time c.args.value in
     let same : c.kept_at-x.result ≡ x = c.kept_at-x.ensures.kept ∙ ap (kept_at c.args.pos c.args.time) (to_z-of_z w64 c.args.value c.ranges.value) in
-    let e : IsEdit c.args.defs.now.windows s.marks.items s.runs.slices from to x =
-    edit_at c.args.defs.now s.marks.items c.deref.result.now c.deref-2.result.now s.runs.slices x c.up_to-at.result from to c.windows-windows.ensures.limits c.up_to-at.ensures.holds (rw (← c.self.view_is) at c.requires.sliced) c.up_to-at.ensures.place c.deref.ensures.value c.deref-2.ensures.value c.first_entered-from.ensures c.last_entered-to.ensures in
-    sliced_again c.args.defs.now.windows s.marks.items s.runs.slices c.enter.new.runs.slices x c.kept_at-x.result from to e same c.enter.ensures.slices
+    let e : IsEdit c.args.defs.now.windows s.marks.times s.runs.slices from to x =
+    edit_at c.args.defs.now s.marks.times s.marks.times s.marks.times s.runs.slices x c.up_to-at.result from to c.windows-windows.ensures.limits c.up_to-at.ensures.holds ((rw (← c.self.view_is) at c.requires).sliced) c.up_to-at.ensures.place refl refl c.first_entered-from.ensures c.last_entered-to.ensures in
+    sliced_again c.args.defs.now.windows s.marks.times s.runs.slices c.enter.new.runs.slices x c.kept_at-x.result from to e same c.enter.ensures.follow.slices
 
 pub returns-clause-tuples : goal.returns-clause-tuples
 returns-clause-tuples g c =
@@ -42,9 +46,9 @@ returns-clause-tuples g c =
     let to = c.last_entered-to.result in
     let x : Kept = kept_at c.args.pos c.args.time c.args.value in
     let same : c.kept_at-x.result ≡ x = c.kept_at-x.ensures.kept ∙ ap (kept_at c.args.pos c.args.time) (to_z-of_z w64 c.args.value c.ranges.value) in
-    let e : IsEdit c.args.defs.now.windows s.marks.items s.runs.slices from to x =
-    edit_at c.args.defs.now s.marks.items c.deref.result.now c.deref-2.result.now s.runs.slices x c.up_to-at.result from to c.windows-windows.ensures.limits c.up_to-at.ensures.holds (rw (← c.self.view_is) at c.requires.sliced) c.up_to-at.ensures.place c.deref.ensures.value c.deref-2.ensures.value c.first_entered-from.ensures c.last_entered-to.ensures in
-    rw (← c.self.view_is) (tuples_with c.args.defs.now.windows s.marks.items s.runs.slices c.enter.new.runs.slices x c.kept_at-x.result from to e same c.enter.ensures.slices)
+    let e : IsEdit c.args.defs.now.windows s.marks.times s.runs.slices from to x =
+    edit_at c.args.defs.now s.marks.times s.marks.times s.marks.times s.runs.slices x c.up_to-at.result from to c.windows-windows.ensures.limits c.up_to-at.ensures.holds ((rw (← c.self.view_is) at c.requires).sliced) c.up_to-at.ensures.place refl refl c.first_entered-from.ensures c.last_entered-to.ensures in
+    rw (← c.self.view_is) (tuples_with c.args.defs.now.windows s.marks.times s.runs.slices c.enter.new.runs.slices x c.kept_at-x.result from to e same c.enter.ensures.follow.slices)
 
 pub returns-clause-put : goal.returns-clause-put
 returns-clause-put g c =
@@ -53,14 +57,14 @@ returns-clause-put g c =
     let to = c.last_entered-to.result in
     let x : Kept = kept_at c.args.pos c.args.time c.args.value in
     let same : c.kept_at-x.result ≡ x = c.kept_at-x.ensures.kept ∙ ap (kept_at c.args.pos c.args.time) (to_z-of_z w64 c.args.value c.ranges.value) in
-    let e : IsEdit c.args.defs.now.windows s.marks.items s.runs.slices from to x =
-    edit_at c.args.defs.now s.marks.items c.deref.result.now c.deref-2.result.now s.runs.slices x c.up_to-at.result from to c.windows-windows.ensures.limits c.up_to-at.ensures.holds (rw (← c.self.view_is) at c.requires.sliced) c.up_to-at.ensures.place c.deref.ensures.value c.deref-2.ensures.value c.first_entered-from.ensures c.last_entered-to.ensures in
+    let e : IsEdit c.args.defs.now.windows s.marks.times s.runs.slices from to x =
+    edit_at c.args.defs.now s.marks.times s.marks.times s.marks.times s.runs.slices x c.up_to-at.result from to c.windows-windows.ensures.limits c.up_to-at.ensures.holds ((rw (← c.self.view_is) at c.requires).sliced) c.up_to-at.ensures.place refl refl c.first_entered-from.ensures c.last_entered-to.ensures in
     rw (← c.self.view_is)
     (record {
       before = take from s.runs.slices;
       behind = drop to s.runs.slices;
-      was = was_before c.args.defs.now.windows s.marks.items s.runs.slices c.enter.new.runs.slices x c.kept_at-x.result from to e same c.enter.ensures.slices;
-      is = is_then c.args.defs.now.windows s.marks.items s.runs.slices c.enter.new.runs.slices x c.kept_at-x.result from to e same c.enter.ensures.slices;
+      was = was_before c.args.defs.now.windows s.marks.times s.runs.slices c.enter.new.runs.slices x c.kept_at-x.result from to e same c.enter.ensures.follow.slices;
+      is = is_then c.args.defs.now.windows s.marks.times s.runs.slices c.enter.new.runs.slices x c.kept_at-x.result from to e same c.enter.ensures.follow.slices;
     })
 
 pub returns-clause-answer : goal.returns-clause-answer
@@ -70,10 +74,10 @@ returns-clause-answer g c =
     let to = c.last_entered-to.result in
     let x : Kept = kept_at c.args.pos c.args.time c.args.value in
     let same : c.kept_at-x.result ≡ x = c.kept_at-x.ensures.kept ∙ ap (kept_at c.args.pos c.args.time) (to_z-of_z w64 c.args.value c.ranges.value) in
-    let e : IsEdit c.args.defs.now.windows s.marks.items s.runs.slices from to x =
-    edit_at c.args.defs.now s.marks.items c.deref.result.now c.deref-2.result.now s.runs.slices x c.up_to-at.result from to c.windows-windows.ensures.limits c.up_to-at.ensures.holds (rw (← c.self.view_is) at c.requires.sliced) c.up_to-at.ensures.place c.deref.ensures.value c.deref-2.ensures.value c.first_entered-from.ensures c.last_entered-to.ensures in
+    let e : IsEdit c.args.defs.now.windows s.marks.times s.runs.slices from to x =
+    edit_at c.args.defs.now s.marks.times s.marks.times s.marks.times s.runs.slices x c.up_to-at.result from to c.windows-windows.ensures.limits c.up_to-at.ensures.holds ((rw (← c.self.view_is) at c.requires).sliced) c.up_to-at.ensures.place refl refl c.first_entered-from.ensures c.last_entered-to.ensures in
     rw (← c.self.view_is)
-    (c.placed_in.ensures _ (near_length c.args.defs.now.windows s.marks.items s.runs.slices x from to e)
+    (c.placed_in.ensures _ (near_length c.args.defs.now.windows s.marks.times s.runs.slices x from to e)
     ∙ ap (placed_in _) c.are_by-last.ensures)
 
 pub returns-clause-cost : goal.returns-clause-cost
@@ -83,7 +87,7 @@ returns-clause-cost g c =
     let to = c.last_entered-to.result in
     let x : Kept = kept_at c.args.pos c.args.time c.args.value in
     let same : c.kept_at-x.result ≡ x = c.kept_at-x.ensures.kept ∙ ap (kept_at c.args.pos c.args.time) (to_z-of_z w64 c.args.value c.ranges.value) in
-    let e : IsEdit c.args.defs.now.windows s.marks.items s.runs.slices from to x =
-    edit_at c.args.defs.now s.marks.items c.deref.result.now c.deref-2.result.now s.runs.slices x c.up_to-at.result from to c.windows-windows.ensures.limits c.up_to-at.ensures.holds (rw (← c.self.view_is) at c.requires.sliced) c.up_to-at.ensures.place c.deref.ensures.value c.deref-2.ensures.value c.first_entered-from.ensures c.last_entered-to.ensures in
+    let e : IsEdit c.args.defs.now.windows s.marks.times s.runs.slices from to x =
+    edit_at c.args.defs.now s.marks.times s.marks.times s.marks.times s.runs.slices x c.up_to-at.result from to c.windows-windows.ensures.limits c.up_to-at.ensures.holds ((rw (← c.self.view_is) at c.requires).sliced) c.up_to-at.ensures.place refl refl c.first_entered-from.ensures c.last_entered-to.ensures in
     rw (← c.self.view_is)
-    (omega (arith, c.enter.ensures.cost, near_joined c.args.defs.now.windows s.marks.items s.runs.slices x from to e))
+    (omega (arith, c.enter.ensures.cost, near_joined c.args.defs.now.windows s.marks.times s.runs.slices x from to e))

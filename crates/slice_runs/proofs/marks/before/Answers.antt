@@ -3,7 +3,7 @@ use Rattle.std.proofs.Common.{ℕ, rules}
 use Rattle.std.specs.Prelude.{nat_lt}
 use Rattle.std.proofs.lemmas.List.Sorted.{IsPartitionPoint-from_clause, IsPartitionedBy-ltb}
 use Rattle.slice_lists.proofs.PlaceFacts.{place_from_point, marks_do_not_fall}
-use Rattle.slice_runs.proofs.places.marks_before.Goals as goal
+use Rattle.slice_runs.proofs.marks.before.Goals as goal
 
 pub returns : goal.returns
 returns c =

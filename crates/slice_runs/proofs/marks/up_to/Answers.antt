@@ -1,10 +1,10 @@
 -- The marks rise, so the test of the search turns once.
-use Rattle.std.proofs.Common.{ℕ, ◌<◌, ◌≤◌, arith, get_or, rules}
+use Rattle.std.proofs.Common.{ℕ, rules}
 use Rattle.std.specs.Prelude.{nat_le}
-use Rattle.std.proofs.lemmas.Bool.{leb-false, leb-true}
 use Rattle.std.proofs.lemmas.List.Sorted.{IsPartitionPoint-from_clause, IsPartitionedBy-leb}
 use Rattle.slice_lists.proofs.PlaceFacts.{marks_do_not_fall}
-use Rattle.slice_runs.proofs.places.marks_up_to.Goals as goal
+use Rattle.slice_runs.proofs.UpTo.{place_up_to}
+use Rattle.slice_runs.proofs.marks.up_to.Goals as goal
 
 pub returns : goal.returns
 returns c =
@@ -13,8 +13,4 @@ returns c =
     let at = c.partition_point.result in
     let parted = IsPartitionedBy-leb (λ (m : ℕ). m) marks time (marks_do_not_fall marks c.requires) in
     let point = IsPartitionPoint-from_clause (λ (m : ℕ). nat_le m time) marks at c.partition_point.ensures.partitioned parted (λ a r q k. search rules) in
-    record {
-      within = c.partition_point.ensures.bound;
-      before = λ k d low high. (let l : get_or marks k d ≤ time = leb-true (get_or marks k d) time (point.0 k d low high) in omega arith);
-      behind = λ k d low high. (let l : time < get_or marks k d = leb-false (get_or marks k d) time (point.1 k d low high) in omega arith);
-    }
+    place_up_to (λ (m : ℕ). m) marks time at c.partition_point.ensures.bound point
