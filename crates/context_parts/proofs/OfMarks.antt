@@ -22,7 +22,7 @@ use Rattle.stream_base.proofs.Rising.{Contains-cons_cases, Contains-from_rising,
 use Rattle.window_laws.specs.After.{at_water}
 use Rattle.window_laws.specs.Settled.{MayLeave, without_first}
 use Rattle.window_laws.proofs.InstanceFacts.{between_ends}
-use Rattle.window_laws.proofs.Order.{All-map_of}
+use Rattle.run_laws.proofs.Order.{All-map_of}
 use Rattle.agg_store.specs.Stored.{Stored, tuples_of}
 use Rattle.window_spans.specs.declared.span.Span.{Span}
 use Rattle.window_spans.specs.Ahead.{start_after}

@@ -24,7 +24,7 @@ use Rattle.window_laws.proofs.InstanceFacts.{bounds_are_ends, spans_hold_selecti
 use Rattle.window_laws.proofs.KeptFacts.{put_is_kept}
 use Rattle.window_laws.proofs.LeaveChanges.{may_leave_after_tuple, tuple_enters_the_rest}
 use Rattle.window_laws.proofs.LeaveFacts.{EndBy, firsts_leave}
-use Rattle.window_laws.proofs.RunFacts.{put_behind, put_first}
+use Rattle.run_laws.proofs.RunFacts.{put_behind, put_first}
 use Rattle.window_laws.proofs.SettledFacts.{all_member, settled_by_times}
 use Rattle.agg_store.specs.Stored.{IsSliced, Stored, tuples_of}
 use Rattle.window_spans.proofs.Parts.{fewer_pass, filter_alike}

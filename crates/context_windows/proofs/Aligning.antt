@@ -15,9 +15,9 @@ use Rattle.stream_base.specs.Model.Windows.{Instance, instances_of, sessions}
 use Rattle.stream_base.proofs.Distinct.{All_from_members}
 use Rattle.stream_base.proofs.Members.{filter_members}
 use Rattle.stream_base.proofs.Rising.{Contains-head}
-use Rattle.window_laws.specs.Runs.{IsAligned}
+use Rattle.run_laws.specs.Runs.{IsAligned}
 use Rattle.window_laws.proofs.EdgeFacts.{aligned, end_is_cut, marks_align, start_is_cut}
-use Rattle.window_laws.proofs.Order.{All-map_of}
+use Rattle.run_laws.proofs.Order.{All-map_of}
 use Rattle.agg_store.specs.Stored.{Stored, tuples_of}
 use Rattle.window_spans.specs.declared.span.Span.{Span}
 use Rattle.window_spans.specs.Held.{AreAlignedWith, IsAlignedWith}

@@ -17,12 +17,12 @@ use Rattle.stream_base.specs.Model.Journal.{put_in_order}
 use Rattle.stream_base.specs.Model.Windows.{Instance, first_time, instances_of, last_time, pieces_of, session, sessions}
 use Rattle.stream_base.proofs.Members.{filter_map_of}
 use Rattle.window_laws.specs.After.{complete_at}
-use Rattle.window_laws.specs.Runs.{AreInOrder, AreParted, IsPartFrom, IsRun}
+use Rattle.run_laws.specs.Runs.{AreInOrder, AreParted, IsPartFrom, IsRun}
 use Rattle.window_laws.specs.Sessions.{IsPutInSessions, joined_session}
 use Rattle.window_laws.proofs.InstanceFacts.{gap_cut, session_far, session_near, session_runs}
 use Rattle.stream_base.proofs.Filters.{filter_all}
-use Rattle.window_laws.proofs.Order.{All-map_of, All-split, IsApart, IsNear, run_spans, runs_are_runs}
-use Rattle.window_laws.proofs.RunEdits.{parted}
+use Rattle.run_laws.proofs.Order.{All-map_of, All-split, IsApart, IsNear, run_spans, runs_are_runs}
+use Rattle.run_laws.proofs.RunEdits.{parted}
 use Rattle.slice_lists.specs.declared.slice.Slice.{Slice}
 use Rattle.slice_lists.specs.Slices.{joined}
 use Rattle.slice_lists.proofs.SliceEdits.{entered_shown}

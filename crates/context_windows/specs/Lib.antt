@@ -1,3 +1,4 @@
 pub mod Spanned
 pub mod Marked
 pub mod Aligned
+pub mod Calls

@@ -1,5 +1,5 @@
 -- What the intervals between the marks of a key are in contracts.
-use Rattle.std.specs.Prelude.{◌≡◌, ◌≤◌, ◌<◌, ◌^◌, ◌⊎◌, ℕ, List, [], ◌∷◌, filter, length, map, nat_lt, nat_le, All, Option, None, Some, option_to_list, if◌then◌else◌}
+use Rattle.std.specs.Prelude.{◌≡◌, ◌≤◌, ◌<◌, ◌^◌, ◌⊎◌, ℕ, List, [], ◌∷◌, filter, length, map, max, nat_lt, nat_le, All, Option, None, Some, option_to_list, if◌then◌else◌}
 use Rattle.std.specs.List.{Contains}
 use Rattle.std.specs.List.Sorted.{IsStrictlyIncreasing}
 use Rattle.stream_base.specs.declared.def.Def.{Def}
@@ -25,12 +25,23 @@ pub record Marked : Type 0 where
   pub forgotten : ℕ
   pub spare : ℕ
 
--- only room differs
+-- only room differs, and there is no less of it
 pub record IsMarkedAsBefore (old new : Marked) : Type 0 where
   pub spans : new.spans ≡ old.spans
   pub marks : new.marks ≡ old.marks
   pub stood : new.stood ≡ old.stood
   pub forgotten : new.forgotten ≡ old.forgotten
+  pub spare : old.spare ≤ new.spare
+
+-- those that end by a time are forgotten
+abbrev pub marked_open_after : ℕ → Marked → Marked
+marked_open_after time s = record {
+  spans = filter (λ i. nat_lt time i.high) s.spans;
+  marks = s.marks;
+  stood = s.stood;
+  forgotten = max s.forgotten time;
+  spare = s.spare;
+}
 
 -- an interval may start or end here: at 0, at a mark, or at the final time
 abbrev pub IsEdge : List ℕ → ℕ → Type 0

@@ -1,5 +1,5 @@
 -- What the sessions of a key are in contracts.
-use Rattle.std.specs.Prelude.{◌≡◌, ◌<◌, ◌^◌, ◌++◌, ℕ, List, filter, length, map, nat_lt, slice_index_or, All}
+use Rattle.std.specs.Prelude.{◌≡◌, ◌≤◌, ◌<◌, ◌^◌, ◌++◌, ℕ, List, filter, length, map, max, nat_lt, slice_index_or, All}
 use Rattle.stream_base.specs.declared.change.Change.{Change}
 use Rattle.stream_base.specs.declared.def.Def.{Def}
 use Rattle.stream_base.specs.declared.func.Func.TheVariants.{Count}
@@ -24,11 +24,21 @@ pub record Spanned : Type 0 where
   pub forgotten : ℕ
   pub spare : ℕ
 
--- only room differs
+-- only room differs, and there is no less of it
 pub record IsAsBefore (old new : Spanned) : Type 0 where
   pub spans : new.spans ≡ old.spans
   pub stood : new.stood ≡ old.stood
   pub forgotten : new.forgotten ≡ old.forgotten
+  pub spare : old.spare ≤ new.spare
+
+-- those that end by a time are forgotten
+abbrev pub open_after : ℕ → Spanned → Spanned
+open_after time s = record {
+  spans = filter (λ i. nat_lt time i.high) s.spans;
+  stood = s.stood;
+  forgotten = max s.forgotten time;
+  spare = s.spare;
+}
 
 -- the window at a place of the definitions
 abbrev pub window_at : Definitions → ℕ → Def

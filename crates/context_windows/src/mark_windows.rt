@@ -1,17 +1,20 @@
 //! The intervals between the marks of one key.
-ghost use Rattle.std.specs.Prelude.{◌≡◌, ◌≤◌, ◌<◌, ◌+◌, ◌-◌, ◌*◌, ◌++◌, ℕ, List, [], filter, length, max, nat_lt, OnOk, IfOk, vec_len, vec_capacity, Some, option_to_list};
+ghost use Rattle.std.specs.Prelude.{◌≡◌, ◌≤◌, ◌<◌, ◌+◌, ◌-◌, ◌*◌, ◌++◌, ℕ, List, [], length, vec_len, Some, option_to_list};
 ghost use Rattle.std.specs.BTreeSet.{insert_key};
 ghost use Rattle.std.specs.Ordering.{nat_cmp};
 ghost use Rattle.stream_base.specs.declared.kept.Kept.{Kept};
-ghost use Rattle.stream_base.specs.declared.limits.TheConstants.{TIME_MAX};
+ghost use Rattle.stream_base.specs.declared.limits.TheConstants.{FINAL};
 ghost use Rattle.stream_base.specs.Laws.{completions};
 ghost use Rattle.stream_base.specs.Model.Changes.{Moment};
 ghost use Rattle.stream_base.specs.Model.Journal.{put_in_order};
+ghost use Rattle.stream_base.specs.Vectors.{room};
 ghost use Rattle.window_laws.specs.After.{with_mark, with_tuple};
 ghost use Rattle.window_spans.specs.Ahead.{end_after, end_of_last_begun, start_after};
 ghost use Rattle.window_spans.specs.Held.{AreAlignedWith};
 ghost use Rattle.window_spans.specs.Spans.{due_of};
-ghost use Rattle.context_windows.specs.Marked.{FollowsMarks, HoldsStretches, IsMarkedAsBefore, RemembersHolder, asked_at, entered_at, holder_in, marks_window, most_changes, parted_of, with_parts};
+ghost use Rattle.window_spans.specs.Telling.{Tells};
+ghost use Rattle.context_windows.specs.Calls.{DiffersInStood, MayTake, Promises, TakesOne, spanned_of};
+ghost use Rattle.context_windows.specs.Marked.{FollowsMarks, HoldsStretches, IsMarkedAsBefore, RemembersHolder, asked_at, entered_at, holder_in, marked_open_after, marks_window, most_changes, parted_of, with_parts};
 ghost use Rattle.context_windows.specs.Spanned.{changes_of};
 
 use agg_laws::Steps;
@@ -70,12 +73,10 @@ impl MarkWindows {
     /// Makes room for a tuple or a mark at a time under a watermark, and answers a number that is at
     /// least how many changes its `put` or `mark` will append.
     pub fn reserve(&mut self, window: u32, time: u64, water: u64) -> Result<u64, NoMemory>
-        requires { time ≤ TIME_MAX }
-        ensures room { OnOk result (1 ≤ self.new.spare) }
-        ensures spare { self.old.spare ≤ self.new.spare }
+        requires { time < u64.MAX }
+        ensures promises { Promises (most_changes time water
+            (holder_in time self.old.spans self.old.marks)) result self.new.spare }
         ensures kept { IsMarkedAsBefore self.old self.new }
-        ensures number { IfOk result (λ n. n
-            ≡ most_changes time water (holder_in time self.old.spans self.old.marks)) }
     {
         self.spans.reserve(1)?;
         self.marks.reserve(1)?;
@@ -95,13 +96,11 @@ impl MarkWindows {
         water: u64,
         steps: &mut Steps<L>,
     )
-        requires time { time ≤ TIME_MAX }
+        requires time { time < FINAL }
         requires aligned { AreAlignedWith (S.stored store.now).slices
             (asked_at time water self.old.spans) }
-        ensures spans { self.new.spans ≡ self.old.spans }
+        ensures kept { DiffersInStood (spanned_of self.old) (spanned_of self.new) }
         ensures marks { self.new.marks ≡ self.old.marks }
-        ensures forgotten { self.new.forgotten ≡ self.old.forgotten }
-        ensures spare { self.new.spare ≡ self.old.spare }
         ensures remembers { (marks : List ℕ) (kept : List Kept) → FollowsMarks marks kept self.old
             → self.old.forgotten ≤ time → HoldsStretches time marks kept (S.stored store.now)
             → RemembersHolder func time water marks kept self.new }
@@ -125,12 +124,10 @@ impl MarkWindows {
         out: &mut Vec<Change>,
         steps: &mut Steps<L>,
     )
-        requires time { time ≤ TIME_MAX }
-        requires room { 1 ≤ self.old.spare }
+        requires takes { MayTake time self.old.spare }
         requires aligned { AreAlignedWith (S.stored store.now).slices
             (entered_at time water self.old) }
-        requires spare { length (entered_at time water self.old)
-            ≤ vec_capacity out.old - vec_len out.old }
+        requires spare { length (entered_at time water self.old) ≤ room out.old }
         ensures follows { (marks : List ℕ) (kept : List Kept) (x : Kept)
             → FollowsMarks marks kept self.old → self.old.forgotten ≤ time → x.time ≡ time
             → FollowsMarks marks (put_in_order kept x) self.new }
@@ -140,17 +137,13 @@ impl MarkWindows {
             → HoldsStretches time m.marks (put_in_order m.kept x) (S.stored store.now)
             → out.new.items ≡ out.old.items
             ++ changes_of key.now m (with_tuple m x) (window, marks_window func) }
-        ensures number { vec_len out.new
-            ≡ vec_len out.old + length (entered_at time water self.old) }
+        ensures tells { Tells (length (entered_at time water self.old))
+            (S.stored store.now).reach out.old out.new steps.old steps.new }
         ensures owed { (marks : List ℕ) (kept : List Kept) → FollowsMarks marks kept self.old
             → self.old.forgotten ≤ time → RemembersHolder func time water marks kept self.old
             → length self.old.stood ≤ vec_len out.new - vec_len out.old }
+        ensures takes { TakesOne (spanned_of self.old) (spanned_of self.new) }
         ensures marks { self.new.marks ≡ self.old.marks }
-        ensures forgotten { self.new.forgotten ≡ self.old.forgotten }
-        ensures room_left { self.old.spare ≤ self.new.spare + 1 }
-        ensures capacity { vec_capacity out.new ≡ vec_capacity out.old }
-        ensures cost { steps.new ≤ steps.old + 64 * ((S.stored store.now).reach + 2)
-            * (vec_len out.new - vec_len out.old) }
     {
         let places = near(&self.spans, 1, time);
         let span = first_or(&self.spans, places, holder(&self.marks, time));
@@ -175,12 +168,11 @@ impl MarkWindows {
         out: &mut Vec<Change>,
         steps: &mut Steps<L>,
     )
-        requires time { time ≤ TIME_MAX }
-        requires room { 1 ≤ self.old.spare }
+        requires takes { MayTake time self.old.spare }
         requires aligned { AreAlignedWith (S.stored store.now).slices
             (with_parts time (parted_of time self.old.spans)) }
         requires spare { most_changes time water (holder_in time self.old.spans self.old.marks)
-            ≤ vec_capacity out.old - vec_len out.old }
+            ≤ room out.old }
         ensures follows { (marks : List ℕ) (kept : List Kept) → FollowsMarks marks kept self.old
             → self.old.forgotten ≤ time → HoldsStretches time marks kept (S.stored store.now)
             → FollowsMarks (insert_key nat_cmp marks time) kept self.new }
@@ -191,12 +183,10 @@ impl MarkWindows {
             ++ changes_of key.now m (with_mark m time) (window, marks_window func) }
         ensures number { vec_len out.new ≤ vec_len out.old
             + most_changes time water (holder_in time self.old.spans self.old.marks) }
+        ensures tells { Tells (vec_len out.new - vec_len out.old)
+            (S.stored store.now).reach out.old out.new steps.old steps.new }
+        ensures takes { TakesOne (spanned_of self.old) (spanned_of self.new) }
         ensures marks { self.new.marks ≡ insert_key nat_cmp self.old.marks time }
-        ensures forgotten { self.new.forgotten ≡ self.old.forgotten }
-        ensures room_left { self.old.spare ≤ self.new.spare + 1 }
-        ensures capacity { vec_capacity out.new ≡ vec_capacity out.old }
-        ensures cost { steps.new ≤ steps.old + 64 * ((S.stored store.now).reach + 2)
-            * (vec_len out.new - vec_len out.old) }
     {
         let places = near(&self.spans, 1, time);
         let parted = first_before(&self.spans, places, time);
@@ -259,18 +249,14 @@ impl MarkWindows {
     )
         requires aligned { AreAlignedWith (S.stored store.now).slices
             (due_of old new self.now.spans) }
-        requires spare { length (due_of old new self.now.spans)
-            ≤ vec_capacity out.old - vec_len out.old }
+        requires spare { length (due_of old new self.now.spans) ≤ room out.old }
         ensures changes { (m : Moment) → FollowsMarks m.marks m.kept self.now
             → self.now.forgotten ≤ old → m.water ≡ old
             → HoldsStretches old m.marks m.kept (S.stored store.now)
             → out.new.items ≡ out.old.items
             ++ completions key.now m new (window, marks_window func) }
-        ensures number { vec_len out.new
-            ≡ vec_len out.old + length (due_of old new self.now.spans) }
-        ensures capacity { vec_capacity out.new ≡ vec_capacity out.old }
-        ensures cost { steps.new ≤ steps.old + 64 * ((S.stored store.now).reach + 2)
-            * (vec_len out.new - vec_len out.old) }
+        ensures tells { Tells (length (due_of old new self.now.spans))
+            (S.stored store.now).reach out.old out.new steps.old steps.new }
     {
         let places = due(&self.spans, old, new);
         let teller = Teller { window, key };
@@ -310,11 +296,7 @@ impl MarkWindows {
     /// Forgets the intervals that end at or before a time. No tuple and no mark comes at an earlier
     /// time.
     pub fn drop_settled(&mut self, time: u64)
-        ensures spans { self.new.spans ≡ filter (λ s. nat_lt time s.high) self.old.spans }
-        ensures marks { self.new.marks ≡ self.old.marks }
-        ensures stood { self.new.stood ≡ self.old.stood }
-        ensures forgotten { self.new.forgotten ≡ max self.old.forgotten time }
-        ensures spare { self.old.spare ≤ self.new.spare }
+        ensures kept { IsMarkedAsBefore (marked_open_after time self.old) self.new }
         ensures follows { (marks : List ℕ) (kept : List Kept) → FollowsMarks marks kept self.old
             → FollowsMarks marks kept self.new }
     {

@@ -1,15 +1,17 @@
 //! The sessions of one key.
-ghost use Rattle.std.specs.Prelude.{◌≡◌, ◌≤◌, ◌<◌, ◌+◌, ◌-◌, ◌*◌, ◌++◌, ℕ, List, [], filter, length, max, nat_lt, OnOk, IfOk, vec_len, vec_capacity};
+ghost use Rattle.std.specs.Prelude.{◌≡◌, ◌≤◌, ◌<◌, ◌+◌, ◌-◌, ◌*◌, ◌++◌, ℕ, List, [], length, vec_len};
 ghost use Rattle.stream_base.specs.declared.kept.Kept.{Kept};
-ghost use Rattle.stream_base.specs.declared.limits.TheConstants.{TIME_MAX};
 ghost use Rattle.stream_base.specs.Laws.{completions};
 ghost use Rattle.stream_base.specs.Model.Changes.{Moment};
 ghost use Rattle.stream_base.specs.Model.Journal.{put_in_order};
+ghost use Rattle.stream_base.specs.Vectors.{Adds, room};
 ghost use Rattle.window_laws.specs.After.{with_tuple};
 ghost use Rattle.window_spans.specs.Ahead.{end_after, end_of_last_begun, start_after};
 ghost use Rattle.window_spans.specs.Held.{AreAlignedWith};
 ghost use Rattle.window_spans.specs.Spans.{asked_of, due_of, put_changes, spans_with, told_at};
-ghost use Rattle.context_windows.specs.Spanned.{Follows, HasAsked, HoldsSessions, IsAsBefore, IsSessionAt, Remembers, changes_of, gap_at, window_at};
+ghost use Rattle.window_spans.specs.Telling.{Tells};
+ghost use Rattle.context_windows.specs.Calls.{DiffersInStood, MayComeAt, MayTake, Promises, TakesOne};
+ghost use Rattle.context_windows.specs.Spanned.{Follows, HasAsked, HoldsSessions, IsAsBefore, IsSessionAt, Remembers, changes_of, gap_at, open_after, window_at};
 
 use crate::windows::{gap_of, window_at};
 use agg_laws::Steps;
@@ -78,13 +80,10 @@ impl Sessions {
         time: u64,
         water: u64,
     ) -> Result<u64, NoMemory>
-        requires session { IsSessionAt defs.now window }
-        requires time { time ≤ TIME_MAX }
-        ensures room { OnOk result (1 ≤ self.new.spare) }
-        ensures spare { self.old.spare ≤ self.new.spare }
+        requires { MayComeAt defs.now window time }
+        ensures promises { Promises (put_changes (gap_at defs.now window) time water
+            self.old.spans) result self.new.spare }
         ensures kept { IsAsBefore self.old self.new }
-        ensures number { IfOk result
-            (λ n. n ≡ put_changes (gap_at defs.now window) time water self.old.spans) }
     {
         self.spans.reserve(1)?;
         let gap = gap_of(&window_at(defs, window).kind);
@@ -105,13 +104,10 @@ impl Sessions {
         water: u64,
         steps: &mut Steps<L>,
     )
-        requires session { IsSessionAt defs.now window }
-        requires time { time ≤ TIME_MAX }
+        requires comes { MayComeAt defs.now window time }
         requires aligned { AreAlignedWith (S.stored store.now).slices
             (asked_of (gap_at defs.now window) time water self.old.spans) }
-        ensures spans { self.new.spans ≡ self.old.spans }
-        ensures forgotten { self.new.forgotten ≡ self.old.forgotten }
-        ensures spare { self.new.spare ≡ self.old.spare }
+        ensures kept { DiffersInStood self.old self.new }
         ensures asked { HasAsked (gap_at defs.now window) time water self.new }
         ensures remembers { (kept : List Kept) → Follows (gap_at defs.now window) kept self.old
             → self.old.forgotten ≤ time
@@ -143,13 +139,12 @@ impl Sessions {
         steps: &mut Steps<L>,
     )
         requires session { IsSessionAt defs.now window }
-        requires time { time ≤ TIME_MAX }
-        requires room { 1 ≤ self.old.spare }
+        requires takes { MayTake time self.old.spare }
         requires asked { HasAsked (gap_at defs.now window) time water self.old }
         requires aligned { AreAlignedWith (S.stored store.now).slices
             (told_at (gap_at defs.now window) time water self.old.spans) }
         requires spare { put_changes (gap_at defs.now window) time water self.old.spans
-            ≤ vec_capacity out.old - vec_len out.old }
+            ≤ room out.old }
         ensures follows { (kept : List Kept) (x : Kept)
             → Follows (gap_at defs.now window) kept self.old
             → self.old.forgotten ≤ time → x.time ≡ time
@@ -163,12 +158,10 @@ impl Sessions {
             ++ changes_of key.now m (with_tuple m x) (window, window_at defs.now window) }
         ensures spans { self.new.spans
             ≡ spans_with (gap_at defs.now window) time self.old.spans }
-        ensures number { vec_len out.new ≡ vec_len out.old
-            + put_changes (gap_at defs.now window) time water self.old.spans }
+        ensures adds { Adds (put_changes (gap_at defs.now window) time water self.old.spans)
+            out.old out.new }
         ensures owed { length self.old.stood ≤ vec_len out.new - vec_len out.old }
-        ensures forgotten { self.new.forgotten ≡ self.old.forgotten }
-        ensures room_left { self.old.spare ≤ self.new.spare + 1 }
-        ensures capacity { vec_capacity out.new ≡ vec_capacity out.old }
+        ensures takes { TakesOne self.old self.new }
         ensures cost { steps.new ≤ steps.old + 64 * ((S.stored store.now).reach + 2)
             * length (told_at (gap_at defs.now window) time water self.old.spans) }
     {
@@ -222,18 +215,14 @@ impl Sessions {
         requires session { IsSessionAt defs.now window }
         requires aligned { AreAlignedWith (S.stored store.now).slices
             (due_of old new self.now.spans) }
-        requires spare { length (due_of old new self.now.spans)
-            ≤ vec_capacity out.old - vec_len out.old }
+        requires spare { length (due_of old new self.now.spans) ≤ room out.old }
         ensures changes { (m : Moment) → Follows (gap_at defs.now window) m.kept self.now
             → self.now.forgotten ≤ old → m.water ≡ old
             → HoldsSessions (gap_at defs.now window) old m.kept (S.stored store.now)
             → out.new.items ≡ out.old.items
             ++ completions key.now m new (window, window_at defs.now window) }
-        ensures number { vec_len out.new
-            ≡ vec_len out.old + length (due_of old new self.now.spans) }
-        ensures capacity { vec_capacity out.new ≡ vec_capacity out.old }
-        ensures cost { steps.new ≤ steps.old + 64 * ((S.stored store.now).reach + 2)
-            * (vec_len out.new - vec_len out.old) }
+        ensures tells { Tells (length (due_of old new self.now.spans))
+            (S.stored store.now).reach out.old out.new steps.old steps.new }
     {
         let def = window_at(defs, window);
         let places = due(&self.spans, old, new);
@@ -267,10 +256,7 @@ impl Sessions {
 
     /// Forgets the sessions that end at or before a time. No tuple comes at an earlier time.
     pub fn drop_settled(&mut self, time: u64)
-        ensures spans { self.new.spans ≡ filter (λ s. nat_lt time s.high) self.old.spans }
-        ensures stood { self.new.stood ≡ self.old.stood }
-        ensures forgotten { self.new.forgotten ≡ max self.old.forgotten time }
-        ensures spare { self.old.spare ≤ self.new.spare }
+        ensures kept { IsAsBefore (open_after time self.old) self.new }
         ensures follows { (gap : ℕ) (kept : List Kept) → Follows gap kept self.old
             → Follows gap kept self.new }
     {

@@ -1,14 +1,21 @@
 -- The interval between the marks at the sides of a time, and what a mark makes of one.
-use Rattle.std.specs.Prelude.{◌&&◌, ℕ, Bool, List, [], ◌∷◌, map, nat_lt, Option, None, Some, if◌then◌else◌}
+use Rattle.std.specs.Prelude.{◌≤◌, ◌&&◌, ℕ, Bool, List, [], ◌∷◌, map, nat_lt, Option, None, Some, if◌then◌else◌, All}
+use Rattle.std.specs.List.Sorted.{IsStrictlyIncreasing}
 use Rattle.stream_base.specs.declared.change.Change.{Change}
 use Rattle.stream_base.specs.declared.change.Change.TheVariants.{Gone, New}
 use Rattle.stream_base.specs.declared.func.Func.{Func}
+use Rattle.stream_base.specs.declared.limits.TheConstants.{TIME_MAX}
 use Rattle.stream_base.specs.Model.Changes.{row_of}
 use Rattle.stream_base.specs.Model.Windows.{Instance}
 use Rattle.window_laws.specs.After.{complete_at}
 use Rattle.window_laws.specs.Stretches.{last_mark, next_mark}
 use Rattle.window_spans.specs.declared.span.Span.{Span}
 use Rattle.window_spans.specs.Spans.{span_of, stands}
+
+-- marks rise, and lie within the limit of times
+pub record AreMarks (marks : List ℕ) : Type 0 where
+  pub rising : IsStrictlyIncreasing marks
+  pub in_time : All (λ m. m ≤ TIME_MAX) marks
 
 -- the interval between the marks at the sides of a time
 abbrev pub holder_of : List ℕ → ℕ → Span

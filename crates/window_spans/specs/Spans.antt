@@ -1,6 +1,7 @@
 -- Sessions as spans of time.
 use Rattle.std.specs.Prelude.{◌≡◌, ◌≤◌, ◌+◌, ◌-◌, ◌++◌, ◌==◌, ◌&&◌, ℕ, Bool, true, false, List, [], ◌∷◌, filter, fold, length, max, min, not, nat_le, nat_lt, take, drop, Option, None, Some, if◌then◌else◌, All}
 use Rattle.std.specs.List.{AllWithin}
+use Rattle.std.specs.List.Sorted.{IsNonDecreasingBy}
 use Rattle.stream_base.specs.Model.Windows.{Instance}
 use Rattle.window_spans.specs.declared.span.Span.{Span}
 
@@ -16,6 +17,14 @@ is_same_span s t = (s.low == t.low) && (s.high == t.high)
 abbrev pub AreApart : List Span → Type 0
 AreApart [] = Unit {0}
 AreApart (s ∷ ss) = (s.low ≤ s.high) × All (λ t. s.high ≤ t.low) ss × AreApart ss
+
+-- none ends before an earlier one does
+abbrev pub EndInTurn : List Span → Type 0
+EndInTurn spans = IsNonDecreasingBy (λ s. s.high) spans
+
+-- none starts before an earlier one does
+abbrev pub StartInTurn : List Span → Type 0
+StartInTurn spans = IsNonDecreasingBy (λ s. s.low) spans
 
 -- a session lies less than the gap away from a time
 abbrev pub is_near : ℕ → ℕ → Span → Bool
@@ -81,6 +90,11 @@ is_due old new s = nat_lt old s.high && nat_le s.high new
 -- the sessions that become complete
 abbrev pub due_of : ℕ → ℕ → List Span → List Span
 due_of old new spans = filter (is_due old new) spans
+
+-- from one place up to another one, which does not lie before it, among so many elements
+pub record IsRange (from to count : ℕ) : Type 0 where
+  pub order : from ≤ to
+  pub within : to ≤ count
 
 -- so many elements pass a test: those at the front, and none behind them
 pub record IsPlaceOf {X : Type 0} (p : X → Bool) (xs : List X) (place : ℕ) : Type 0 where

@@ -1,5 +1,5 @@
 -- How instances are told.
-use Rattle.std.specs.Prelude.{ℕ, List, [], ◌∷◌, filter, find, map, Option, None, Some, if◌then◌else◌}
+use Rattle.std.specs.Prelude.{◌≡◌, ◌≤◌, ◌+◌, ◌-◌, ◌*◌, ℕ, List, [], ◌∷◌, filter, find, map, Option, None, Some, if◌then◌else◌, Vec, vec_capacity, vec_len}
 use Rattle.stream_base.specs.declared.change.Change.{Change}
 use Rattle.stream_base.specs.declared.change.Change.TheVariants.{Gone, New, Again}
 use Rattle.stream_base.specs.declared.func.Func.{Func}
@@ -41,3 +41,9 @@ come_of window key water stood now =
     if stands water now.span
     then told_as window key now (find (λ s. is_same_span now.span s.span) stood) ∷ []
     else []
+
+-- so many changes more are told in the room of the output, each in at most 64 (reach + 2) steps over a store of this reach
+pub record Tells {Z : Type 0} (count reach : ℕ) (old new : Vec Change Z) (steps_before steps_after : ℕ) : Type 0 where
+  pub number : vec_len new ≡ vec_len old + count
+  pub capacity : vec_capacity new ≡ vec_capacity old
+  pub cost : steps_after ≤ steps_before + 64 * (reach + 2) * (vec_len new - vec_len old)

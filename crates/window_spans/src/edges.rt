@@ -1,21 +1,19 @@
 //! Where intervals between marks start and end.
-ghost use Rattle.std.specs.Prelude.{◌≡◌, ◌≤◌, ◌<◌, ◌+◌, ◌==◌, ◌&&◌, length, slice_index, vec_len, vec_capacity, All, nat_lt};
+ghost use Rattle.std.specs.Prelude.{◌≡◌, ◌≤◌, ◌<◌, ◌+◌, ◌==◌, ◌&&◌, length, slice_index, vec_len, vec_capacity, nat_lt};
 ghost use Rattle.std.specs.BTreeSet.{insert_key};
-ghost use Rattle.std.specs.List.Sorted.{IsStrictlyIncreasing};
+ghost use Rattle.std.specs.List.Sorted.{IsNonDecreasing};
 ghost use Rattle.std.specs.Ordering.{nat_cmp};
-ghost use Rattle.stream_base.specs.declared.limits.TheConstants.{TIME_MAX};
 ghost use Rattle.window_laws.specs.Stretches.{last_mark, next_mark};
 ghost use Rattle.slice_lists.specs.Places.{IsPlaceOf};
-ghost use Rattle.window_spans.specs.Parted.{holder_of};
+ghost use Rattle.window_spans.specs.Parted.{AreMarks, holder_of};
 
 use crate::span::Span;
 use stream_base::FINAL;
 
 /// The interval between the marks at the sides of a time.
 pub fn holder(marks: &[u64], time: u64) -> Span
-    requires rising { IsStrictlyIncreasing marks.now }
-    requires in_time { All (λ m. m ≤ TIME_MAX) marks.now }
-    requires time { time ≤ TIME_MAX }
+    requires marks { AreMarks marks.now }
+    requires time { time < u64.MAX }
     ensures { result ≡ holder_of marks.now time }
 {
     let place = marks_before(marks, time + 1);
@@ -27,7 +25,7 @@ pub fn holder(marks: &[u64], time: u64) -> Span
 
 // The last of so many marks that lie at or before a time.
 fn mark_before(marks: &[u64], place: usize, time: u64) -> u64
-    requires rising { IsStrictlyIncreasing marks.now }
+    requires marks { AreMarks marks.now }
     requires place { IsPlaceOf (λ m. m) marks.now (time + 1) place }
     ensures { result ≡ last_mark marks.now time }
 {
@@ -36,8 +34,7 @@ fn mark_before(marks: &[u64], place: usize, time: u64) -> u64
 
 // The first mark behind those.
 fn mark_behind(marks: &[u64], place: usize, time: u64) -> u64
-    requires rising { IsStrictlyIncreasing marks.now }
-    requires in_time { All (λ m. m ≤ TIME_MAX) marks.now }
+    requires marks { AreMarks marks.now }
     requires place { IsPlaceOf (λ m. m) marks.now (time + 1) place }
     ensures { result ≡ next_mark marks.now time }
 {
@@ -48,9 +45,9 @@ fn mark_behind(marks: &[u64], place: usize, time: u64) -> u64
     }
 }
 
-/// Adds a mark among rising ones, unless it is there.
+/// Adds a mark among marks in order, unless it is there.
 pub fn add_mark(marks: &mut Vec<u64>, time: u64)
-    requires rising { IsStrictlyIncreasing marks.old.items }
+    requires in_order { IsNonDecreasing marks.old.items }
     requires room { vec_len marks.old < vec_capacity marks.old }
     ensures added { marks.new.items ≡ insert_key nat_cmp marks.old.items time }
     ensures capacity { vec_capacity marks.new ≡ vec_capacity marks.old }
@@ -70,7 +67,7 @@ fn is_marked(marks: &[u64], place: usize, time: u64) -> bool
 
 // How many marks lie before a time.
 fn marks_before(marks: &[u64], time: u64) -> usize
-    requires { IsStrictlyIncreasing marks.now }
+    requires { IsNonDecreasing marks.now }
     ensures { IsPlaceOf (λ m. m) marks.now time result }
 {
     marks.partition_point(|mark| *mark < time)

@@ -1,6 +1,6 @@
 //! What a tuple makes of the sessions near it.
 ghost use Rattle.std.specs.Prelude.{◌≡◌, ◌≤◌, ◌<◌, ◌+◌, ◌-◌, ◌++◌, ◌∷◌, take, drop, filter, length, vec_len, vec_capacity, option_to_list};
-ghost use Rattle.window_spans.specs.Spans.{changes_of_joining, goes, joined_span, over_both, span_alone};
+ghost use Rattle.window_spans.specs.Spans.{IsRange, changes_of_joining, goes, joined_span, over_both, span_alone};
 
 use crate::span::Span;
 
@@ -37,8 +37,7 @@ fn over_both(first: Span, second: Span) -> Span
 
 /// Puts one session in the place of those from one place up to another.
 pub fn replace(spans: &mut Vec<Span>, from: usize, to: usize, span: Span)
-    requires order { from ≤ to }
-    requires within { to ≤ vec_len spans.old }
+    requires places { IsRange from to (vec_len spans.old) }
     requires room { vec_len spans.old < vec_capacity spans.old }
     ensures items { spans.new.items ≡ take from spans.old.items ++ span ∷ drop to spans.old.items }
     ensures len { vec_len spans.new + (to - from) ≡ vec_len spans.old + 1 }
@@ -54,8 +53,7 @@ pub fn replace(spans: &mut Vec<Span>, from: usize, to: usize, span: Span)
 
 // Removes the sessions from one place up to another.
 pub fn remove_between(spans: &mut Vec<Span>, from: usize, to: usize)
-    requires order { from ≤ to }
-    requires within { to ≤ vec_len spans.old }
+    requires { IsRange from to (vec_len spans.old) }
     ensures items { spans.new.items ≡ take from spans.old.items ++ drop to spans.old.items }
     ensures len { vec_len spans.new + (to - from) ≡ vec_len spans.old }
     ensures capacity { vec_capacity spans.new ≡ vec_capacity spans.old }

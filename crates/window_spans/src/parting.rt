@@ -1,8 +1,8 @@
 //! What a mark makes of an interval that has a tuple.
 ghost use Rattle.std.specs.Prelude.{◌≡◌, ◌≤◌, ◌<◌, ◌+◌, ◌++◌, length, take, drop, nat_lt, option_to_list, vec_len, vec_capacity};
 ghost use Rattle.stream_base.specs.Model.Windows.{within};
+ghost use Rattle.run_laws.specs.Runs.{IsAligned};
 ghost use Rattle.agg_store.specs.Stored.{tuples_of};
-ghost use Rattle.window_spans.specs.Held.{IsAlignedWith};
 ghost use Rattle.window_spans.specs.Parted.{back_of, front_of, part_if};
 
 use crate::joining::{remove_between, replace};
@@ -31,7 +31,7 @@ pub fn back_of(span: Span, time: u64) -> Span
 
 /// Whether a tuple lies within a span. No slice is folded for it.
 pub fn is_filled<S: AggStore>(store: &S, span: Span) -> bool
-    requires { IsAlignedWith (S.stored store.now).slices span }
+    requires { IsAligned (S.stored store.now).slices span.low }
     ensures { result ≡ nat_lt 0
         (length (within span.low span.high (tuples_of (S.stored store.now)))) }
 {

@@ -1,7 +1,7 @@
 //! Which sessions lie near a time.
 ghost use Rattle.std.specs.Prelude.{◌≡◌, ◌≤◌, ◌+◌, ◌-◌, ◌++◌, length, take, drop, filter, nat_le, nat_lt, option_to_list};
 ghost use Rattle.window_spans.specs.Parted.{first_or, head_before};
-ghost use Rattle.window_spans.specs.Spans.{AreApart, AreNearAt, IsPlaceOf, due_of, head_standing, stands};
+ghost use Rattle.window_spans.specs.Spans.{AreApart, AreNearAt, EndInTurn, IsPlaceOf, IsRange, StartInTurn, due_of, head_standing, stands};
 
 use crate::span::Span;
 
@@ -42,7 +42,7 @@ pub fn due(spans: &[Span], old: u64, new: u64) -> Places
 
 // How many sessions end at or before a time.
 pub fn ended_by(spans: &[Span], time: u64) -> usize
-    requires { AreApart spans.now }
+    requires { EndInTurn spans.now }
     ensures { IsPlaceOf (λ s. nat_le s.high time) spans.now result }
 {
     spans.partition_point(|s| s.high <= time)
@@ -50,7 +50,7 @@ pub fn ended_by(spans: &[Span], time: u64) -> usize
 
 // How many sessions begin before a time.
 fn begun_before(spans: &[Span], time: u64) -> usize
-    requires { AreApart spans.now }
+    requires { StartInTurn spans.now }
     ensures { IsPlaceOf (λ s. nat_lt s.low time) spans.now result }
 {
     spans.partition_point(|s| s.low < time)
@@ -58,7 +58,7 @@ fn begun_before(spans: &[Span], time: u64) -> usize
 
 // How many sessions begin at or before a time.
 pub fn begun_by(spans: &[Span], time: u64) -> usize
-    requires { AreApart spans.now }
+    requires { StartInTurn spans.now }
     ensures { IsPlaceOf (λ s. nat_le s.low time) spans.now result }
 {
     spans.partition_point(|s| s.low <= time)
@@ -86,8 +86,7 @@ fn standing_at(near: &[Span], at: usize, water: u64) -> Option<Span>
 
 /// The sessions from one place up to another.
 pub fn between(spans: &[Span], places: Places) -> &[Span]
-    requires order { places.from ≤ places.to }
-    requires within { places.to ≤ length spans.now }
+    requires { IsRange places.from places.to (length spans.now) }
     ensures { result.now ≡ take (places.to - places.from) (drop places.from spans.now) }
 {
     &spans[places.from..places.to]

@@ -1,14 +1,15 @@
 //! How instances of one window are told from a store of slices.
-ghost use Rattle.std.specs.Prelude.{◌≡◌, ◌≤◌, ◌<◌, ◌+◌, ◌-◌, ◌*◌, ◌^◌, ◌++◌, ◌∷◌, [], ℕ, List, pos, filter, find, length, map, vec_len, vec_capacity, option_to_list};
+ghost use Rattle.std.specs.Prelude.{◌≡◌, ◌≤◌, ◌<◌, ◌+◌, ◌*◌, ◌^◌, ◌++◌, ◌∷◌, [], ℕ, List, pos, filter, find, length, map, option_to_list};
 ghost use Rattle.stream_base.specs.declared.change.Change.TheVariants.{New};
 ghost use Rattle.stream_base.specs.Model.Changes.{former_of, row_of};
 ghost use Rattle.stream_base.specs.Model.Windows.{Instance};
+ghost use Rattle.stream_base.specs.Vectors.{Adds, room};
 ghost use Rattle.aggregates.specs.Bundled.{bundle_of};
 ghost use Rattle.window_spans.specs.declared.standing.Standing.{Standing};
 ghost use Rattle.window_spans.specs.Held.{AreAlignedWith, AreHeld, IsAlignedWith, IsHeld};
 ghost use Rattle.window_spans.specs.Parted.{come_if, gone_if, shown_if};
 ghost use Rattle.window_spans.specs.Spans.{is_same_span, stands};
-ghost use Rattle.window_spans.specs.Telling.{as_standing, come_of, gone_of, row_for, told_as};
+ghost use Rattle.window_spans.specs.Telling.{Tells, as_standing, come_of, gone_of, row_for, told_as};
 
 use crate::joining::goes;
 use crate::span::Span;
@@ -48,13 +49,11 @@ impl Teller<'_> {
         out: &mut Vec<Change>,
     )
         requires spare { length (gone_of self.now.window self.now.key.now water joined
-            (option_to_list stood))
-            ≤ vec_capacity out.old - vec_len out.old }
+            (option_to_list stood)) ≤ room out.old }
         ensures items { out.new.items ≡ out.old.items
             ++ gone_of self.now.window self.now.key.now water joined (option_to_list stood) }
-        ensures len { vec_len out.new ≡ vec_len out.old + length (gone_of self.now.window
-            self.now.key.now water joined (option_to_list stood)) }
-        ensures capacity { vec_capacity out.new ≡ vec_capacity out.old }
+        ensures adds { Adds (length (gone_of self.now.window self.now.key.now water joined
+            (option_to_list stood))) out.old out.new }
     {
         match stood {
             Some(s) if goes(s.span, joined, water) => {
@@ -72,23 +71,21 @@ impl Teller<'_> {
         now: &Standing,
         out: &mut Vec<Change>,
     )
-        requires spare { 1 ≤ vec_capacity out.old - vec_len out.old }
+        requires spare { 1 ≤ room out.old }
         ensures items { out.new.items ≡ out.old.items ++ told_as self.now.window self.now.key.now
             now.now (find (λ s. is_same_span now.now.span s.span)
             (option_to_list first ++ option_to_list second)) ∷ [] }
-        ensures len { vec_len out.new ≡ vec_len out.old + 1 }
-        ensures capacity { vec_capacity out.new ≡ vec_capacity out.old }
+        ensures adds { Adds 1 out.old out.new }
     {
         out.push_reserved(told_as(self.row_for(now), over(first, second, now.span)));
     }
 
     // Tells one that stands as new.
     fn tell_new(&self, now: &Standing, out: &mut Vec<Change>)
-        requires spare { 1 ≤ vec_capacity out.old - vec_len out.old }
+        requires spare { 1 ≤ room out.old }
         ensures items { out.new.items ≡ out.old.items
             ++ New (row_for self.now.window self.now.key.now now.now) ∷ [] }
-        ensures len { vec_len out.new ≡ vec_len out.old + 1 }
-        ensures capacity { vec_capacity out.new ≡ vec_capacity out.old }
+        ensures adds { Adds 1 out.old out.new }
     {
         out.push_reserved(Change::New(self.row_for(now)));
     }
@@ -184,15 +181,12 @@ pub fn tell_joined<S: AggStore, L>(
 )
     requires aligned { AreAlignedWith (S.stored store.now).slices
         (filter (stands water) (joined ∷ [])) }
-    requires spare { length (filter (stands water) (joined ∷ []))
-        ≤ vec_capacity out.old - vec_len out.old }
+    requires spare { length (filter (stands water) (joined ∷ [])) ≤ room out.old }
     ensures told { (i : Instance) → IsHeld joined (S.stored store.now) i
         → out.new.items ≡ out.old.items
         ++ come_of teller.now.window teller.now.key.now water
         (option_to_list first ++ option_to_list second) (as_standing func i) }
-    ensures len { vec_len out.new
-        ≡ vec_len out.old + length (filter (stands water) (joined ∷ [])) }
-    ensures capacity { vec_capacity out.new ≡ vec_capacity out.old }
+    ensures adds { Adds (length (filter (stands water) (joined ∷ []))) out.old out.new }
     ensures cost { steps.new ≤ steps.old
         + 64 * ((S.stored store.now).reach + 2) * length (filter (stands water) (joined ∷ [])) }
 {
@@ -212,14 +206,12 @@ pub fn tell_all<S: AggStore, L>(
     steps: &mut Steps<L>,
 )
     requires aligned { AreAlignedWith (S.stored store.now).slices spans.now }
-    requires spare { length spans.now ≤ vec_capacity out.old - vec_len out.old }
+    requires spare { length spans.now ≤ room out.old }
     ensures told { (is : List Instance) → AreHeld spans.now (S.stored store.now) is → out.new.items
         ≡ out.old.items
         ++ map (λ i. New (row_of teller.now.window teller.now.key.now func i)) is }
-    ensures len { vec_len out.new ≡ vec_len out.old + length spans.now }
-    ensures capacity { vec_capacity out.new ≡ vec_capacity out.old }
-    ensures cost { steps.new
-        ≤ steps.old + 64 * ((S.stored store.now).reach + 2) * (vec_len out.new - vec_len out.old) }
+    ensures tells { Tells (length spans.now)
+        (S.stored store.now).reach out.old out.new steps.old steps.new }
 {
     for span in spans {
         let now = standing(store, *span, func, steps);
@@ -258,15 +250,12 @@ pub fn tell_taken<S: AggStore, L>(
     steps: &mut Steps<L>,
 )
     requires aligned { IsAlignedWith (S.stored store.now).slices span }
-    requires spare { length (filter (stands water) (span ∷ []))
-        ≤ vec_capacity out.old - vec_len out.old }
+    requires spare { length (filter (stands water) (span ∷ [])) ≤ room out.old }
     ensures told { (i : Instance) → IsHeld span (S.stored store.now) i → i.bound ≡ i.high
         → out.new.items ≡ out.old.items
         ++ gone_if teller.now.window teller.now.key.now func water i }
-    ensures len { vec_len out.new ≡ vec_len out.old + length (filter (stands water) (span ∷ [])) }
-    ensures capacity { vec_capacity out.new ≡ vec_capacity out.old }
-    ensures cost { steps.new ≤ steps.old
-        + 64 * ((S.stored store.now).reach + 2) * (vec_len out.new - vec_len out.old) }
+    ensures tells { Tells (length (filter (stands water) (span ∷ [])))
+        (S.stored store.now).reach out.old out.new steps.old steps.new }
 {
     if span.high <= water {
         let was = standing(store, span, func, steps);
@@ -286,15 +275,12 @@ pub fn tell_part<S: AggStore, L>(
     steps: &mut Steps<L>,
 )
     requires aligned { IsAlignedWith (S.stored store.now).slices span }
-    requires spare { length (shown_if filled water span)
-        ≤ vec_capacity out.old - vec_len out.old }
+    requires spare { length (shown_if filled water span) ≤ room out.old }
     ensures told { (i : Instance) → IsHeld span (S.stored store.now) i
         → out.new.items ≡ out.old.items
         ++ come_if teller.now.window teller.now.key.now func filled water i }
-    ensures len { vec_len out.new ≡ vec_len out.old + length (shown_if filled water span) }
-    ensures capacity { vec_capacity out.new ≡ vec_capacity out.old }
-    ensures cost { steps.new ≤ steps.old
-        + 64 * ((S.stored store.now).reach + 2) * (vec_len out.new - vec_len out.old) }
+    ensures tells { Tells (length (shown_if filled water span))
+        (S.stored store.now).reach out.old out.new steps.old steps.new }
 {
     if filled && span.high <= water {
         let now = standing(store, span, func, steps);

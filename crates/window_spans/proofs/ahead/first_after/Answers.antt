@@ -3,7 +3,7 @@ use Rattle.window_spans.proofs.Firsts.{found_at, none_at}
 use Rattle.window_spans.proofs.ahead.first_after.Goals as goal
 
 pub returns-then-place-spans : goal.returns-then-place-spans
-returns-then-place-spans c = found_at c.args.time c.args.spans.now c.ended_by-place.result (record { low = 0; high = 0 }) c.ended_by-place.ensures c.if-place-spans.true
+returns-then-place-spans c = found_at c.args.time c.args.spans.now c.args.place (record { low = 0; high = 0 }) c.requires c.if-place-spans.true
 
 pub returns-else-place-spans : goal.returns-else-place-spans
-returns-else-place-spans c = none_at c.args.time c.args.spans.now c.ended_by-place.result (record { low = 0; high = 0 }) c.ended_by-place.ensures c.if-place-spans.false
+returns-else-place-spans c = none_at c.args.time c.args.spans.now c.args.place (record { low = 0; high = 0 }) c.requires c.if-place-spans.false

@@ -3,7 +3,6 @@ use Rattle.std.proofs.Common.{rules}
 use Rattle.std.specs.Prelude.{nat_lt}
 use Rattle.std.proofs.lemmas.List.Sorted.{IsPartitionPoint-from_clause, IsPartitionedBy-ltb}
 use Rattle.window_spans.specs.declared.span.Span.{Span}
-use Rattle.window_spans.proofs.Apart.{lows_rise}
 use Rattle.window_spans.proofs.Searches.{place_from_point}
 use Rattle.window_spans.proofs.searching.begun_before.Goals as goal
 
@@ -12,6 +11,6 @@ returns c =
     let spans = c.args.spans.now in
     let time = c.args.time in
     let at = c.partition_point.result in
-    let parted = IsPartitionedBy-ltb (λ (s : Span). s.low) spans time (lows_rise spans c.requires) in
+    let parted = IsPartitionedBy-ltb (λ (s : Span). s.low) spans time c.requires in
     let point = IsPartitionPoint-from_clause (λ (s : Span). nat_lt s.low time) spans at c.partition_point.ensures.partitioned parted (λ a r q k. search rules) in
     place_from_point (λ (s : Span). nat_lt s.low time) spans at c.partition_point.ensures.bound point

@@ -2,8 +2,15 @@
 use Rattle.std.proofs.Common.{◌≡◌, arith, inl, inr, ⊎_elim}
 use Rattle.std.specs.Prelude.{max}
 use Rattle.std.proofs.lemmas.Bool.{cases_lt}
+use Rattle.window_spans.proofs.Apart.{highs_rise}
 use Rattle.window_spans.proofs.Searches.{due_at}
 use Rattle.window_spans.proofs.searching.due.Goals as goal
+
+pub ended_by-from-requires : goal.ended_by-from-requires
+ended_by-from-requires c = highs_rise c.args.spans.now c.requires.apart
+
+pub ended_by-to-requires : goal.ended_by-to-requires
+ended_by-to-requires c = highs_rise c.args.spans.now c.requires.apart
 
 pub returns-clause-due : goal.returns-clause-due
 returns-clause-due c =

@@ -10,7 +10,7 @@ use Rattle.context_parts.proofs.mark_part.MarkPartKeyPart.before.Goals as goal
 pub before-requires-clause-aligned : goal.before-requires-clause-aligned
 before-requires-clause-aligned g c =
     let d = c.args.defs.now in
-    let s = c.requires.stands in
+    let s = c.requires.stands.key in
     let store = (g.S.AggStore.stored c.args.store.now) in
     let spans = c.args.self.now.windows.spans in
     edged_aligned (s.0).marks store.slices (asked_at c.args.time c.args.water spans)
@@ -21,7 +21,7 @@ pub returns-clause-asked : goal.returns-clause-asked
 returns-clause-asked g c = λ m n s.
     let d = c.args.defs.now in
     let w = window_at d c.args.window in
-    let late : m.water - d.lateness ≤ c.args.time = omega (arith, s.water_is, c.requires.in_time) in
+    let late : m.water - d.lateness ≤ c.args.time = omega (arith, s.water_is, c.requires.accepted.accepted) in
     let open_ : c.args.self.now.windows.forgotten ≤ c.args.time = omega (arith, s.stood.bounded, late) in
     let held = stretches_held d c.args.window s.stood.marks m n (g.S.AggStore.stored c.args.store.now) (rest_held d m n (g.S.AggStore.stored c.args.store.now) s.held) c.args.time late (few_kept m s.lists.0 s.lists.1) in
     record {

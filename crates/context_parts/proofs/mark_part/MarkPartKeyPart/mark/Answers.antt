@@ -31,7 +31,7 @@ returns-clause-stands g c = λ m n before t.
       marks = t.stood.marks;
       follows = c.mark.ensures.follows m.marks m.kept t.stood.follows open_ held;
       left = c.mark.ensures.follows m.marks (drop n m.kept) t.stood.left open_ (left_held d c.args.window t.stood.marks m n (g.S.AggStore.stored c.args.store.now) t.step.held.may_leave c.args.time late held);
-      bounded = subst (λ n. n ≤ m.water - d.lateness) (sym c.mark.ensures.forgotten) t.stood.bounded;
+      bounded = subst (λ n. n ≤ m.water - d.lateness) (sym c.mark.ensures.takes.forgotten) t.stood.bounded;
     }
 
 pub returns-clause-changes : goal.returns-clause-changes

@@ -1,5 +1,5 @@
 -- The store holds all of the interval that the tuple enters.
-use Rattle.std.proofs.Common.{◌∙◌, ◌++◌, ◌≤◌, ◌+◌, ◌-◌, ◌*◌, arith, ap, refl, subst, sym, drop, vec_len}
+use Rattle.std.proofs.Common.{◌∙◌, ◌++◌, ◌≤◌, ◌+◌, ◌-◌, ◌*◌, arith, ap, refl, subst, sym, drop, vec_len, zero-le}
 use Rattle.window_laws.specs.After.{with_tuple}
 use Rattle.context_windows.specs.Marked.{FollowsMarks, RemembersHolder, entered_at, marks_window}
 use Rattle.context_windows.specs.Spanned.{changes_of, window_at}
@@ -35,7 +35,7 @@ returns-clause-stands g c = λ m n before more t.
       marks = t.stood.marks;
       follows = c.put.ensures.follows m.marks m.kept x t.stood.follows open_ refl;
       left = subst (λ l. FollowsMarks m.marks l c.put.new.self) (left_with d m n before x more (g.S.AggStore.stored c.args.store.now) w (is_window d c.args.window at.within) (no_events w.kind at.kind) t.step) (c.put.ensures.follows m.marks (drop n m.kept) x t.stood.left open_ refl);
-      bounded = subst (λ n. n ≤ m.water - d.lateness) (sym c.put.ensures.forgotten) t.stood.bounded;
+      bounded = subst (λ n. n ≤ m.water - d.lateness) (sym c.put.ensures.takes.forgotten) t.stood.bounded;
     }
 
 pub returns-clause-changes : goal.returns-clause-changes
@@ -65,7 +65,10 @@ returns-clause-owed g c =
     (subst (λ f. RemembersHolder f c.args.time c.args.water m.marks m.kept p) (sym c.func_at-func.ensures)
     (subst (λ water. RemembersHolder (window_at d c.args.window).func c.args.time water m.marks m.kept p) (t.4).water_is (t.4).asked.remembers))
 
-pub returns-clause-work : goal.returns-clause-work
-returns-clause-work g c =
+pub returns-clause-cost : goal.returns-clause-cost
+returns-clause-cost g c =
     let work = marks_work (window_at c.args.defs.now c.args.window).kind (g.S.AggStore.stored c.args.store.now).reach (c.requires.takes.4).stood.marks.kind in
-    subst (λ k. c.put.new.steps ≤ c.args.steps.now + k * (vec_len c.put.new.out - vec_len c.args.out.now)) (sym work) c.put.ensures.cost
+    record {
+      work = subst (λ k. c.put.new.steps ≤ c.args.steps.now + k * (vec_len c.put.new.out - vec_len c.args.out.now)) (sym work) c.put.ensures.tells.cost;
+      credit = zero-le;
+    }

@@ -7,14 +7,14 @@ use Rattle.context_parts.proofs.mark_part.MarkPartKeyPart.settled_by.Goals as go
 
 pub settled_with-requires-clause-end : goal.settled_with-requires-clause-end
 settled_with-requires-clause-end c =
-    let q = c.requires.stands in
+    let q = c.requires.key in
     subst (λ e. e ≤ FINAL) (sym c.end_of_last_begun.ensures)
     (begun_bounded c.args.time FINAL c.args.self.now.windows.spans (spans_bounded (q.0).marks (q.0).kept c.args.self.now.windows (q.4).stood.follows (q.4).lists.1.mark_times))
 
 pub returns-clause-before : goal.returns-clause-before
 returns-clause-before c = λ water below.
     let d = c.args.defs.now in
-    let q = c.requires.stands in
+    let q = c.requires.key in
     let spans = c.args.self.now.windows.spans in
     let early = not_reached c.settled_with.result c.end_of_last_begun.result c.lateness.result water c.settled_with.ensures.none c.settled_with.ensures.some below in
     begun_open c.args.time (water - d.lateness) spans (spans_apart (q.0).marks (q.0).kept c.args.self.now.windows (q.4).stood.follows) (omega (arith, early, c.end_of_last_begun.ensures, c.lateness.ensures.value))
@@ -24,7 +24,7 @@ returns-clause-by_then c = λ water reached.
     let d = c.args.defs.now in
     let spans = c.args.self.now.windows.spans in
     let late = is_reached c.settled_with.result c.end_of_last_begun.result c.lateness.result water c.settled_with.ensures.none c.settled_with.ensures.some reached in
-    begun_ended c.args.time (water - d.lateness) spans c.requires.time (omega (arith, late, c.end_of_last_begun.ensures, c.lateness.ensures.value))
+    begun_ended c.args.time (water - d.lateness) spans c.requires.within (omega (arith, late, c.end_of_last_begun.ensures, c.lateness.ensures.value))
 
 pub returns-clause-settles : goal.returns-clause-settles
 returns-clause-settles c = λ m n s w water later is at.

@@ -12,7 +12,7 @@ use Rattle.context_parts.proofs.mark_part.MarkPartKeyPart.water.Goals as goal
 pub water-requires-clause-aligned : goal.water-requires-clause-aligned
 water-requires-clause-aligned g c =
     let d = c.args.defs.now in
-    let s = c.requires.stands in
+    let s = c.requires.moves.under.key in
     let store = (g.S.AggStore.stored c.args.store.now) in
     let spans = c.args.self.now.windows.spans in
     edged_aligned (s.0).marks store.slices (due_of c.args.old c.args.new spans)

@@ -9,14 +9,14 @@ use Rattle.context_parts.proofs.session_part.SessionPartKeyPart.before.Goals as 
 pub before-requires-clause-aligned : goal.before-requires-clause-aligned
 before-requires-clause-aligned g c =
     let d = c.args.defs.now in
-    let s = c.requires.stands in
+    let s = c.requires.stands.key in
     asked_aligned d.windows (window_at d c.args.window) (s.0).kept (g.S.AggStore.stored c.args.store.now) c.args.self.now.sessions c.args.time c.args.water
     (of_sessions d c.args.window (s.2).stood.session s.0 s.1 (g.S.AggStore.stored c.args.store.now) (rest_held d s.0 s.1 (g.S.AggStore.stored c.args.store.now) (s.2).held)) (s.2).stood.follows
 
 pub returns-clause-asked : goal.returns-clause-asked
 returns-clause-asked g c = λ m n s.
     let d = c.args.defs.now in
-    let late : m.water - d.lateness ≤ c.args.time = omega (arith, s.water_is, c.requires.in_time) in
+    let late : m.water - d.lateness ≤ c.args.time = omega (arith, s.water_is, c.requires.accepted.accepted) in
     let open_ : c.args.self.now.sessions.forgotten ≤ c.args.time = omega (arith, s.stood.bounded, late) in
     let held = sessions_held d c.args.window s.stood.session m n (g.S.AggStore.stored c.args.store.now) (rest_held d m n (g.S.AggStore.stored c.args.store.now) s.held) c.args.time late (few_kept m s.lists.0 s.lists.1) in
     record {

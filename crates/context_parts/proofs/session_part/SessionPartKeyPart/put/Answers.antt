@@ -1,5 +1,5 @@
 -- The store holds all of the session that the tuple makes.
-use Rattle.std.proofs.Common.{◌≤◌, ◌+◌, ◌-◌, ◌*◌, arith, refl, subst, sym, drop, length, vec_len}
+use Rattle.std.proofs.Common.{◌≤◌, ◌+◌, ◌-◌, ◌*◌, arith, refl, subst, sym, drop, length, vec_len, zero-le}
 use Rattle.std.proofs.Math.Nat.{mul-le-mul_left}
 use Rattle.window_spans.specs.Spans.{told_at}
 use Rattle.context_windows.specs.Spanned.{Follows, Remembers, gap_at, window_at}
@@ -33,7 +33,7 @@ returns-clause-stands g c = λ m n before more t.
       session = t.stood.session;
       follows = c.put.ensures.follows m.kept x t.stood.follows open_ refl;
       left = subst (λ l. Follows (gap_at d c.args.window) l c.put.new.self) (left_with d m n before x more (g.S.AggStore.stored c.args.store.now) w (is_window d c.args.window at.within) (no_events w.kind at.session) t.step) (c.put.ensures.follows (drop n m.kept) x t.stood.left open_ refl);
-      bounded = subst (λ n. n ≤ m.water - d.lateness) (sym c.put.ensures.forgotten) t.stood.bounded;
+      bounded = subst (λ n. n ≤ m.water - d.lateness) (sym c.put.ensures.takes.forgotten) t.stood.bounded;
     }
 
 pub returns-clause-changes : goal.returns-clause-changes
@@ -49,14 +49,17 @@ returns-clause-changes g c = λ m n before more t.
     (subst (λ water. Remembers w c.args.time water m.kept c.args.self.now.sessions) t.water_is t.asked.remembers)
     (sessions_held d c.args.window at (with_tuple m x) n (g.S.AggStore.stored c.args.store.now) rest c.args.time late (few_with m x t.step.lists))
 
-pub returns-clause-work : goal.returns-clause-work
-returns-clause-work g c =
+pub returns-clause-cost : goal.returns-clause-cost
+returns-clause-cost g c =
     let d = c.args.defs.now in
     let gap = gap_at d c.args.window in
     let spans = c.args.self.now.sessions.spans in
     let one = 64 * ((g.S.AggStore.stored c.args.store.now).reach + 2) in
-    let told : length (told_at gap c.args.time c.args.water spans) ≤ vec_len c.put.new.out - vec_len c.args.out.now = omega (arith, told_once gap c.args.time c.args.water spans, c.put.ensures.number) in
+    let told : length (told_at gap c.args.time c.args.water spans) ≤ vec_len c.put.new.out - vec_len c.args.out.now = omega (arith, told_once gap c.args.time c.args.water spans, c.put.ensures.adds.number) in
     let cost : c.put.new.steps ≤ c.args.steps.now + one * (vec_len c.put.new.out - vec_len c.args.out.now) =
     omega (arith, c.put.ensures.cost, mul-le-mul_left one told) in
-    subst (λ k. c.put.new.steps ≤ c.args.steps.now + k * (vec_len c.put.new.out - vec_len c.args.out.now))
-    (sym (session_work (window_at d c.args.window).kind (g.S.AggStore.stored c.args.store.now).reach (c.requires.takes.4).stood.session.session)) cost
+    record {
+      work = subst (λ k. c.put.new.steps ≤ c.args.steps.now + k * (vec_len c.put.new.out - vec_len c.args.out.now))
+          (sym (session_work (window_at d c.args.window).kind (g.S.AggStore.stored c.args.store.now).reach (c.requires.takes.4).stood.session.session)) cost;
+      credit = zero-le;
+    }

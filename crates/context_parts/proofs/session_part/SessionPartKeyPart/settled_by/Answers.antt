@@ -10,7 +10,7 @@ use Rattle.context_parts.proofs.session_part.SessionPartKeyPart.settled_by.Goals
 pub settled_with-requires-clause-end : goal.settled_with-requires-clause-end
 settled_with-requires-clause-end c =
     let d = c.args.defs.now in
-    let q = c.requires.stands in
+    let q = c.requires.key in
     let kind = (window_at d c.args.window).kind in
     let some = gap_some kind (q.4).stood.session.session in
     let gap : gap_at d c.args.window ≤ TIME_MAX = gap_few kind (q.4).stood.session.session in
@@ -22,7 +22,7 @@ settled_with-requires-clause-end c =
 pub returns-clause-before : goal.returns-clause-before
 returns-clause-before c = λ water below.
     let d = c.args.defs.now in
-    let q = c.requires.stands in
+    let q = c.requires.key in
     let spans = c.args.self.now.sessions.spans in
     let early = not_reached c.settled_with.result c.end_of_last_begun.result c.lateness.result water c.settled_with.ensures.none c.settled_with.ensures.some below in
     begun_open c.args.time (water - d.lateness) spans (spans_apart (gap_at d c.args.window) (q.0).kept c.args.self.now.sessions (gap_some (window_at d c.args.window).kind (q.4).stood.session.session) (q.4).stood.follows) (omega (arith, early, c.end_of_last_begun.ensures, c.lateness.ensures.value))
@@ -32,7 +32,7 @@ returns-clause-by_then c = λ water reached.
     let d = c.args.defs.now in
     let spans = c.args.self.now.sessions.spans in
     let late = is_reached c.settled_with.result c.end_of_last_begun.result c.lateness.result water c.settled_with.ensures.none c.settled_with.ensures.some reached in
-    begun_ended c.args.time (water - d.lateness) spans c.requires.time (omega (arith, late, c.end_of_last_begun.ensures, c.lateness.ensures.value))
+    begun_ended c.args.time (water - d.lateness) spans c.requires.within (omega (arith, late, c.end_of_last_begun.ensures, c.lateness.ensures.value))
 
 pub returns-clause-settles : goal.returns-clause-settles
 returns-clause-settles c = λ m n s w water later is at.

@@ -9,7 +9,7 @@ use Rattle.context_parts.proofs.session_part.SessionPartKeyPart.water.Goals as g
 pub water-requires-clause-aligned : goal.water-requires-clause-aligned
 water-requires-clause-aligned g c =
     let d = c.args.defs.now in
-    let s = c.requires.stands in
+    let s = c.requires.moves.under.key in
     due_aligned d.windows (window_at d c.args.window) (s.0).kept (g.S.AggStore.stored c.args.store.now) c.args.self.now.sessions c.args.old c.args.new
     (of_sessions d c.args.window (s.2).stood.session s.0 s.1 (g.S.AggStore.stored c.args.store.now) (rest_held d s.0 s.1 (g.S.AggStore.stored c.args.store.now) (s.2).held)) (s.2).stood.follows
 

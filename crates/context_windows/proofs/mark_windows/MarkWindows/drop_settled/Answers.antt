@@ -16,14 +16,20 @@ invariant_of-self c =
     let left : c.retain.new.self.items ≡ filter (λ (s : Span). nat_lt time s.high) spans = filter_same _ (λ (s : Span). nat_lt time s.high) _ (λ x b f' k. search rules) _ _ c.retain.ensures.filtered in
     subst (λ l. AreIntervals l c.self.inside.marks.items) (sym left) (intervals_left spans c.self.inside.marks.items (λ (s : Span). nat_lt time s.high) c.self.invariant)
 
-pub returns-clause-spans : goal.returns-clause-spans
-returns-clause-spans c =
+pub returns-clause-kept : goal.returns-clause-kept
+returns-clause-kept c =
     let time = c.args.time in
     let spans = c.self.inside.spans.items in
     let left : c.retain.new.self.items ≡ filter (λ (s : Span). nat_lt time s.high) spans = filter_same _ (λ (s : Span). nat_lt time s.high) _ (λ x b f' k. search rules) _ _ c.retain.ensures.filtered in
-    left ∙ ap (λ (v : Marked). filter (λ (s : Span). nat_lt time s.high) v.spans) c.self.view_is
+    record {
+      spans = left ∙ ap (λ (v : Marked). filter (λ (s : Span). nat_lt time s.high) v.spans) c.self.view_is;
+      marks = search rules;
+      stood = search rules;
+      forgotten = search rules;
+      spare = search rules;
+    }
 
 pub returns-clause-follows : goal.returns-clause-follows
 returns-clause-follows c = λ marks kept f.
     let at : c.max-self-inside.result ≡ max c.args.self.now.forgotten c.args.time = search rules in
-    marks_later c.args.time marks kept c.args.self.now _ f (returns-clause-spans c) (search rules) at
+    marks_later c.args.time marks kept c.args.self.now _ f (returns-clause-kept c).spans (search rules) at

@@ -2,7 +2,7 @@
 use Rattle.std.proofs.Common.{◌≡◌, ◌∙◌, ◌++◌, refl, sym, subst, rules}
 use Rattle.std.specs.Prelude.{option_to_list}
 use Rattle.std.specs.List.{All}
-use Rattle.window_laws.proofs.Order.{All-split}
+use Rattle.run_laws.proofs.Order.{All-split}
 use Rattle.window_spans.specs.Held.{IsAlignedWith}
 use Rattle.window_spans.specs.Spans.{AreApart, asked_of, is_near}
 use Rattle.window_spans.proofs.Apart.{apart_filter}
@@ -22,4 +22,4 @@ ask-self-inside-requires-2 g c =
 pub returns-clause-remembers : goal.returns-clause-remembers
 returns-clause-remembers g c = λ kept f le held.
     let is : option_to_list c.first_standing-first.result.0 ++ option_to_list c.first_standing-first.result.1 ≡ asked_of (gap_at c.args.defs.now c.args.window) c.args.time c.args.water c.args.self.now.spans = search rules in
-    remembered (window_at c.args.defs.now c.args.window) c.args.time c.args.water kept c.args.self.now _ (g.S.AggStore.stored c.args.store.now) c.requires.session.session f le held c.first_standing-first.result.0 c.first_standing-first.result.1 is c.ask-self-inside.result c.ask-self-inside-2.result refl (λ is h. c.ask-self-inside.ensures.value is h ∙ search rules) (λ is h. c.ask-self-inside-2.ensures.value is h ∙ search rules)
+    remembered (window_at c.args.defs.now c.args.window) c.args.time c.args.water kept c.args.self.now _ (g.S.AggStore.stored c.args.store.now) c.requires.comes.session.session f le held c.first_standing-first.result.0 c.first_standing-first.result.1 is c.ask-self-inside.result c.ask-self-inside-2.result refl (λ is h. c.ask-self-inside.ensures.value is h ∙ search rules) (λ is h. c.ask-self-inside-2.ensures.value is h ∙ search rules)

@@ -17,14 +17,19 @@ invariant_of-self c =
     let left : c.retain.new.self.items ≡ filter (λ (s : Span). nat_lt time s.high) spans = filter_same _ (λ (s : Span). nat_lt time s.high) _ (λ x b f' k. search rules) _ _ c.retain.ensures.filtered in
     subst AreApart (sym left) (apart_filter (λ (s : Span). nat_lt time s.high) spans c.self.invariant)
 
-pub returns-clause-spans : goal.returns-clause-spans
-returns-clause-spans c =
+pub returns-clause-kept : goal.returns-clause-kept
+returns-clause-kept c =
     let time = c.args.time in
     let spans = c.self.inside.spans.items in
     let left : c.retain.new.self.items ≡ filter (λ (s : Span). nat_lt time s.high) spans = filter_same _ (λ (s : Span). nat_lt time s.high) _ (λ x b f' k. search rules) _ _ c.retain.ensures.filtered in
-    left ∙ ap (λ (v : Spanned). filter (λ (s : Span). nat_lt time s.high) v.spans) c.self.view_is
+    record {
+      spans = left ∙ ap (λ (v : Spanned). filter (λ (s : Span). nat_lt time s.high) v.spans) c.self.view_is;
+      stood = search rules;
+      forgotten = search rules;
+      spare = search rules;
+    }
 
 pub returns-clause-follows : goal.returns-clause-follows
 returns-clause-follows c = λ gap kept f.
     let at : c.max-self-inside.result ≡ max c.args.self.now.forgotten c.args.time = search rules in
-    follows_later gap c.args.time kept c.args.self.now _ f (returns-clause-spans c) at
+    follows_later gap c.args.time kept c.args.self.now _ f (returns-clause-kept c).spans at

@@ -35,8 +35,8 @@ returns-clause-changes g c = λ m x f le at water r held.
     c.self.inside.first c.self.inside.second stood c.args.out.now.items c.tell_gone.new.out.items c.tell_gone-2.new.out.items c.tell_joined.new.out.items
     c.tell_gone.ensures.items c.tell_gone-2.ensures.items (λ i h. c.tell_joined.ensures.told i h ∙ search rules)
 
-pub returns-clause-number : goal.returns-clause-number
-returns-clause-number g c = search rules
+pub returns-clause-adds : goal.returns-clause-adds
+returns-clause-adds g c = record { number = search rules; capacity = search rules }
 
 pub returns-clause-owed : goal.returns-clause-owed
 returns-clause-owed g c =
@@ -44,4 +44,4 @@ returns-clause-owed g c =
     let gap = gap_at c.args.defs.now c.args.window in
     let apart : AreApart s.spans = subst (λ (v : Spanned). AreApart v.spans) c.self.view_is c.self.invariant in
     let few : length s.stood ≡ length (asked_of gap c.args.time c.args.water s.spans) = sym (length-map s.stood (λ (x : Standing). x.span)) ∙ ap length c.requires.asked.spans in
-    omega (arith, few, asked_are_told gap c.args.time c.args.water s.spans apart, returns-clause-number g c)
+    omega (arith, few, asked_are_told gap c.args.time c.args.water s.spans apart, (returns-clause-adds g c).number)
