@@ -15,13 +15,17 @@ use Rattle.stream_base.specs.Model.Changes.{Moment, row_of, former_of}
 use Rattle.stream_base.specs.Model.Journal.{put_in_order}
 use Rattle.stream_base.specs.Model.Windows.{ranks}
 
+-- an instance may select so many tuples
+abbrev pub IsCount : ℕ → Type 0
+IsCount count = IsKindWithin (Events count)
+
 -- the kind is an events window, with a count within its limits
 abbrev pub IsEvents : Kind → Type 0
 IsEvents (Tumbling length) = ⊥
 IsEvents (Sliding length slide) = ⊥
 IsEvents (Session gap) = ⊥
 IsEvents Marks = ⊥
-IsEvents (Events count) = IsKindWithin (Events count)
+IsEvents (Events count) = IsCount count
 
 -- how many tuples an instance of an events window selects
 abbrev pub count_of : Kind → ℕ

@@ -1,13 +1,13 @@
 //! The tuples of a key for its events windows.
-ghost use Rattle.std.specs.Prelude.{◌≡◌, ◌≤◌, ◌<◌, ◌+◌, ◌-◌, ◌*◌, ◌/◌, ◌++◌, ℕ, List, [], length, slice_get, Some, OnOk, IfOk, vec_len, vec_capacity};
+ghost use Rattle.std.specs.Prelude.{◌≡◌, ◌≤◌, ◌<◌, ◌+◌, ◌-◌, ◌*◌, ◌/◌, ◌++◌, ℕ, List, [], length, slice_get, Some, OnOk, IfOk, vec_len};
 ghost use Rattle.stream_base.specs.declared.func.Func.{Func};
 ghost use Rattle.stream_base.specs.declared.kept.Kept.{Kept};
-ghost use Rattle.stream_base.specs.declared.kind.Kind.TheVariants.{Events};
-ghost use Rattle.stream_base.specs.Limits.{IsKindWithin};
-ghost use Rattle.stream_base.specs.Laws.{TimesDoNotFall, completions};
+ghost use Rattle.stream_base.specs.Laws.{completions};
 ghost use Rattle.stream_base.specs.Model.Changes.{emissions, retractions};
 ghost use Rattle.stream_base.specs.Model.Journal.{put_in_order};
-ghost use Rattle.count_shift.specs.Counting.{IsEvents, IsNextPosition, count_of, events, kept_at, moment, move_changes, next_filled, put_changes, upper};
+ghost use Rattle.stream_base.specs.Vectors.{Adds, room};
+ghost use Rattle.count_shift.specs.Lane.{HasMoreRoom, HasRoom, TakesIn};
+ghost use Rattle.count_shift.specs.Counting.{IsCount, IsEvents, IsNextPosition, count_of, events, kept_at, moment, move_changes, next_filled, put_changes, upper};
 
 use crate::events_window::EventsWindow;
 use crate::ranks::{upper, upper_after};
@@ -53,10 +53,9 @@ impl CountLane {
     /// Makes room for a tuple at a time under a watermark, and answers how many changes its `put`
     /// will append.
     pub fn reserve(&mut self, count: u64, time: u64, water: u64) -> Result<u64, NoMemory>
-        requires { IsKindWithin (Events count) }
-        ensures kept { self.new.kept ≡ self.old.kept }
-        ensures room { OnOk result (1 ≤ self.new.spare) }
-        ensures spare { self.old.spare ≤ self.new.spare }
+        requires { IsCount count }
+        ensures same { HasMoreRoom self.old self.new }
+        ensures room { OnOk result (HasRoom self.new) }
         ensures number { IfOk result (λ n. n ≡ put_changes count self.old.kept time water) }
         ensures changes { (window : ℕ) (func : Func) (key marks : List ℕ) (x : Kept) → x.time ≡ time
             → IsNextPosition self.old.kept x.position → IfOk result (λ n. n
@@ -86,14 +85,12 @@ impl CountLane {
         steps: &mut Steps<L>,
     ) -> Shifted
         requires events { IsEvents (def.now).kind }
-        requires room { 1 ≤ self.old.spare }
+        requires room { HasRoom self.old }
         requires spare { put_changes (count_of (def.now).kind) self.old.kept time water
-            ≤ vec_capacity out.old - vec_len out.old }
+            ≤ room out.old }
         ensures rank { result.from_rank ≡ upper self.old.kept time }
         ensures stands { slice_get self.new.kept result.from_rank ≡ Some (kept_at pos time value) }
-        ensures kept { self.new.kept ≡ put_in_order self.old.kept (kept_at pos time value) }
-        ensures ordered { TimesDoNotFall self.new.kept }
-        ensures room_left { self.new.spare + 1 ≡ self.old.spare }
+        ensures takes { TakesIn (kept_at pos time value) self.old self.new }
         ensures next { (next : ℕ) → IsNextPosition self.old.kept pos → pos < next
             → IsNextPosition self.new.kept next }
         ensures none_gone { (marks : List ℕ)
@@ -102,9 +99,8 @@ impl CountLane {
         ensures changes { (marks : List ℕ) → IsNextPosition self.old.kept pos → out.new.items
             ≡ out.old.items ++ emissions key.now (moment self.old.kept marks water)
             (moment self.new.kept marks water) (window, def.now) }
-        ensures number { vec_len out.new
-            ≡ vec_len out.old + put_changes (count_of (def.now).kind) self.old.kept time water }
-        ensures capacity { vec_capacity out.new ≡ vec_capacity out.old }
+        ensures adds { Adds
+            (put_changes (count_of (def.now).kind) self.old.kept time water) out.old out.new }
         ensures cost { steps.new
             ≤ steps.old + 2 * count_of (def.now).kind * (vec_len out.new - vec_len out.old) }
     {
@@ -132,7 +128,7 @@ impl CountLane {
 
     /// How many instances a move of the watermark completes.
     pub fn due(&self, count: u64, old: u64, new: u64) -> u64
-        requires { IsKindWithin (Events count) }
+        requires { IsCount count }
         ensures number { result ≡ move_changes count self.now.kept old new }
         ensures rows { (window : ℕ) (func : Func) (key marks : List ℕ) → result
             ≡ length (completions key (moment self.now.kept marks old) new
@@ -146,7 +142,7 @@ impl CountLane {
     /// The time of the tuple that fills the next instance behind those that stand at a watermark, and
     /// the final time where there are too few: a move of the watermark to before it completes none.
     pub fn next_filled(&self, count: u64, water: u64) -> u64
-        requires { IsKindWithin (Events count) }
+        requires { IsCount count }
         ensures { result ≡ next_filled count self.now.kept water }
     {
         let stand = upper(&self.items, water) as u64 / count * count;
@@ -170,12 +166,11 @@ impl CountLane {
     )
         requires events { IsEvents (def.now).kind }
         requires spare { move_changes (count_of (def.now).kind) self.now.kept old new
-            ≤ vec_capacity out.old - vec_len out.old }
+            ≤ room out.old }
         ensures changes { (marks : List ℕ) → out.new.items ≡ out.old.items
             ++ completions key.now (moment self.now.kept marks old) new (window, def.now) }
-        ensures number { vec_len out.new
-            ≡ vec_len out.old + move_changes (count_of (def.now).kind) self.now.kept old new }
-        ensures capacity { vec_capacity out.new ≡ vec_capacity out.old }
+        ensures adds { Adds
+            (move_changes (count_of (def.now).kind) self.now.kept old new) out.old out.new }
         ensures cost { steps.new
             ≤ steps.old + count_of (def.now).kind * (vec_len out.new - vec_len out.old) }
     {

@@ -1,8 +1,9 @@
 //! How instances of one events window are told.
-ghost use Rattle.std.specs.Prelude.{◌≡◌, ◌≤◌, ◌<◌, ◌+◌, ◌-◌, ◌*◌, ◌++◌, map, length, vec_len, vec_capacity};
+ghost use Rattle.std.specs.Prelude.{◌≡◌, ◌≤◌, ◌<◌, ◌+◌, ◌-◌, ◌*◌, ◌++◌, map, length};
 ghost use Rattle.std.specs.List.{remove};
 ghost use Rattle.stream_base.specs.Model.Changes.{row_of, former_of};
 ghost use Rattle.stream_base.specs.Model.Windows.{ranks};
+ghost use Rattle.stream_base.specs.Vectors.{Adds, room};
 ghost use Rattle.count_shift.specs.Counting.{again_of, new_of, numbers};
 
 use crate::fold::fold_onto;
@@ -71,12 +72,11 @@ impl EventsWindow<'_> {
         steps: &mut Steps<L>,
     )
         requires filled { to * self.now.count ≤ length items.now }
-        requires spare { to - from ≤ vec_capacity out.old - vec_len out.old }
+        requires spare { to - from ≤ room out.old }
         ensures told { out.new.items ≡ out.old.items ++ map
             (new_of self.now.window self.now.key.now self.now.func self.now.count items.now)
             (numbers from to) }
-        ensures number { vec_len out.new ≡ vec_len out.old + (to - from) }
-        ensures capacity { vec_capacity out.new ≡ vec_capacity out.old }
+        ensures adds { Adds (to - from) out.old out.new }
         ensures cost { steps.new ≤ steps.old + self.now.count * (to - from) }
     {
         for i in from..to {
@@ -98,12 +98,11 @@ impl EventsWindow<'_> {
     )
         requires behind { rank < (from + 1) * self.now.count }
         requires filled { to * self.now.count < length items.now }
-        requires spare { to - from ≤ vec_capacity out.old - vec_len out.old }
+        requires spare { to - from ≤ room out.old }
         ensures told { out.new.items ≡ out.old.items ++ map
             (again_of self.now.window self.now.key.now self.now.func self.now.count
             (remove items.now rank) items.now) (numbers from to) }
-        ensures number { vec_len out.new ≡ vec_len out.old + (to - from) }
-        ensures capacity { vec_capacity out.new ≡ vec_capacity out.old }
+        ensures adds { Adds (to - from) out.old out.new }
         ensures cost { steps.new ≤ steps.old + 2 * self.now.count * (to - from) }
     {
         for i in from..to {

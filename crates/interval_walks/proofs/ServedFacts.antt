@@ -11,7 +11,7 @@ use Rattle.stream_base.specs.Laws.{is_timed}
 use Rattle.stream_base.specs.Limits.{IsKindWithin}
 use Rattle.stream_base.specs.Model.Slices.{runs_of}
 use Rattle.window_laws.specs.Late.{length_of, slide_of}
-use Rattle.window_laws.specs.Runs.{IsAligned}
+use Rattle.run_laws.specs.Runs.{IsAligned}
 use Rattle.window_laws.proofs.EdgeFacts.{interval_ends_align, interval_starts_align}
 use Rattle.agg_store.specs.Stored.{IsSliced, IsStore, Stored, tuples_of}
 use Rattle.slice_lists.proofs.SliceOrder.{times_of_order}

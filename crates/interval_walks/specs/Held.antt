@@ -4,7 +4,7 @@ use Rattle.stream_base.specs.declared.kept.Kept.{Kept}
 use Rattle.stream_base.specs.declared.limits.TheConstants.{FINAL, TIME_MAX}
 use Rattle.stream_base.specs.Model.Windows.{within}
 use Rattle.aggregates.specs.Bundled.{Bundled, bundle_of}
-use Rattle.window_laws.specs.Runs.{IsAligned, runs_within}
+use Rattle.run_laws.specs.Runs.{IsAligned, runs_within}
 use Rattle.window_laws.specs.Walk.{IsFirstFrom, due_from, next_start}
 use Rattle.slice_lists.specs.declared.slice.Slice.{Slice}
 use Rattle.slice_lists.specs.Slices.{joined, slice_of, values_of}
@@ -20,6 +20,19 @@ pub record Holding : Type 0 where
   pub to : ℕ
   pub spare : ℕ
   pub credit : ℕ
+
+-- it holds the same slices, with the same credit and no less room
+pub record HasMoreRoom (old new : Holding) : Type 0 where
+  pub partials : new.partials ≡ old.partials
+  pub to : new.to ≡ old.to
+  pub spare : old.spare ≤ new.spare
+  pub credit : new.credit ≡ old.credit
+
+-- slices were let go, and these are left: there is no less room, and the credit has paid for the steps
+pub record LetsGo (left : List Bundled) (old new : Holding) (steps later : ℕ) : Type 0 where
+  pub partials : new.partials ≡ left
+  pub spare : old.spare ≤ new.spare
+  pub cost : later + new.credit ≤ steps + old.credit
 
 -- it holds exactly the slices from a time on, up to where it goes
 abbrev pub HoldsFrom : ℕ → Stored → Holding → Type 0

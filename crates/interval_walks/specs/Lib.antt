@@ -1,3 +1,4 @@
 pub mod Spans
 pub mod Held
 pub mod Told
+pub mod Walks

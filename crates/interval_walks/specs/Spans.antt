@@ -1,13 +1,14 @@
 -- The window that a lane serves, and how its intervals lie.
-use Rattle.std.specs.Prelude.{◌≡◌, ◌≤◌, ◌+◌, ◌-◌, ◌*◌, ◌/◌, ◌⊎◌, ℕ, Bool, false, List, Some, slice_get, nat_lt, if◌then◌else◌}
+use Rattle.std.specs.Prelude.{◌≡◌, ◌≤◌, ◌+◌, ◌-◌, ◌*◌, ◌/◌, ◌⊎◌, ℕ, Bool, true, false, List, Some, slice_get, nat_lt, if◌then◌else◌}
 use Rattle.std.specs.Option.{option_map_or}
 use Rattle.stream_base.specs.declared.def.Def.{Def}
 use Rattle.stream_base.specs.declared.kept.Kept.{Kept}
 use Rattle.stream_base.specs.declared.kind.Kind.{Kind}
 use Rattle.stream_base.specs.declared.limits.TheConstants.{FINAL, TIME_MAX}
 use Rattle.stream_base.specs.Laws.{is_timed}
+use Rattle.agg_store.specs.Stored.{IsSliced, Stored}
 use Rattle.window_laws.specs.Late.{length_of, slide_of}
-use Rattle.window_laws.specs.Runs.{IsAligned}
+use Rattle.run_laws.specs.Runs.{IsAligned}
 
 -- the window at a place is this one
 abbrev pub IsWindowAt : List Def → ℕ → Def → Type 0
@@ -16,6 +17,11 @@ IsWindowAt windows window def = slice_get windows window ≡ Some def
 -- there is a window at a place, and it is tumbling or sliding
 abbrev pub is_served : List Def → ℕ → Bool
 is_served windows window = option_map_or (λ def. is_timed def.kind) (slice_get windows window) false
+
+-- the window at a place is tumbling or sliding, and slices part at the bounds of all windows
+pub record IsServedOver (windows : List Def) (window : ℕ) (s : Stored) : Type 0 where
+  pub served : is_served windows window ≡ true
+  pub sliced : IsSliced windows s
 
 -- a watermark: a time, or the final one
 abbrev pub IsWater : ℕ → Type 0

@@ -1,12 +1,14 @@
 //! The walk over the intervals that a move of the watermark completes.
-ghost use Rattle.std.specs.Prelude.{◌≡◌, ◌≤◌, ◌<◌, ◌+◌, ◌-◌, ◌*◌, ◌^◌, ◌++◌, ◌∷◌, ℕ, [], length, map, max, vec_len, vec_capacity};
+ghost use Rattle.std.specs.Prelude.{◌≡◌, ◌≤◌, ◌<◌, ◌+◌, ◌*◌, ◌^◌, ◌++◌, ◌∷◌, [], length, map, max};
 ghost use Rattle.stream_base.specs.declared.limits.TheConstants.{FINAL};
-ghost use Rattle.window_laws.specs.Runs.{runs_within};
+ghost use Rattle.stream_base.specs.Vectors.{Adds, room};
+ghost use Rattle.run_laws.specs.Runs.{runs_within};
 ghost use Rattle.window_laws.specs.Walk.{due_from, next_start};
 ghost use Rattle.agg_store.specs.Stored.{tuples_of};
 ghost use Rattle.interval_walks.specs.Held.{HoldsFrom};
 ghost use Rattle.interval_walks.specs.Told.{new_at};
-ghost use Rattle.interval_walks.specs.Spans.{ArePartedAt, last_end};
+ghost use Rattle.interval_walks.specs.Spans.{last_end};
+ghost use Rattle.interval_walks.specs.Walks.{MayWalk, StartsAt};
 
 use crate::held::Held;
 use crate::next::{next_due, next_slice};
@@ -29,16 +31,13 @@ pub fn tell_due<Q: AggQueue<Bundle>, S: AggStore, L>(
     out: &mut Vec<Change>,
     steps: &mut Steps<L>,
 ) -> u64
-    requires parted { ArePartedAt span.now.length span.now.slide (S.stored store.now).slices }
-    requires multiple { (k : ℕ) × (from ≡ k * span.now.slide) }
-    requires early { from ≤ FINAL }
-    requires new { new ≤ FINAL }
+    requires walk { MayWalk span.now (S.stored store.now).slices from new }
     requires room { length (runs_within (max from (held.old).to)
         (last_end span.now.length span.now.slide new) (S.stored store.now).slices)
         ≤ (held.old).spare }
     requires spare { length
         (due_from span.now.length span.now.slide (tuples_of (S.stored store.now)) from new)
-        ≤ vec_capacity out.old - vec_len out.old }
+        ≤ room out.old }
     ensures told { HoldsFrom from (S.stored store.now) held.old
         → (held.old).to ≤ from + span.now.length
         → length (tuples_of (S.stored store.now)) < 2 ^ 64 → out.new.items ≡ out.old.items
@@ -51,10 +50,8 @@ pub fn tell_due<Q: AggQueue<Bundle>, S: AggStore, L>(
     ensures within { result ≤ max from (next_start span.now.length span.now.slide new) }
     ensures to { (held.new).to
         ≤ max (held.old).to (last_end span.now.length span.now.slide new) }
-    ensures number { vec_len out.new ≡ vec_len out.old
-        + length (due_from span.now.length span.now.slide (tuples_of (S.stored store.now))
-        from new) }
-    ensures capacity { vec_capacity out.new ≡ vec_capacity out.old }
+    ensures adds { Adds (length (due_from span.now.length span.now.slide
+        (tuples_of (S.stored store.now)) from new)) out.old out.new }
     ensures room { (held.old).spare + length (runs_within (max result (held.new).to)
         (last_end span.now.length span.now.slide new) (S.stored store.now).slices)
         ≤ (held.new).spare + length (runs_within (max from (held.old).to)
@@ -86,12 +83,11 @@ fn tell_one<Q: AggQueue<Bundle>, S: AggStore, L>(
     out: &mut Vec<Change>,
     steps: &mut Steps<L>,
 )
-    requires parted { ArePartedAt span.now.length span.now.slide (S.stored store.now).slices }
-    requires multiple { (k : ℕ) × (low ≡ k * span.now.slide) }
+    requires start { StartsAt span.now (S.stored store.now).slices low }
     requires end { low + span.now.length ≤ FINAL }
     requires room { length (runs_within (max low (held.old).to) (low + span.now.length)
         (S.stored store.now).slices) ≤ (held.old).spare }
-    requires spare { 1 ≤ vec_capacity out.old - vec_len out.old }
+    requires spare { 1 ≤ room out.old }
     ensures told { HoldsFrom low (S.stored store.now) held.old
         → (held.old).to ≤ low + span.now.length
         → length (tuples_of (S.stored store.now)) < 2 ^ 64 → out.new.items ≡ out.old.items
@@ -100,8 +96,7 @@ fn tell_one<Q: AggQueue<Bundle>, S: AggStore, L>(
     ensures held { HoldsFrom low (S.stored store.now) held.old
         → HoldsFrom (low + span.now.slide) (S.stored store.now) held.new }
     ensures to { (held.new).to ≡ max (held.old).to (low + span.now.length) }
-    ensures number { vec_len out.new ≡ vec_len out.old + 1 }
-    ensures capacity { vec_capacity out.new ≡ vec_capacity out.old }
+    ensures adds { Adds 1 out.old out.new }
     ensures room { (held.old).spare ≤ (held.new).spare + length
         (runs_within (max low (held.old).to) (low + span.now.length) (S.stored store.now).slices) }
     ensures cost { steps.new + (held.new).credit ≤ steps.old + (held.old).credit + 10 * length
@@ -118,10 +113,7 @@ fn tell_one<Q: AggQueue<Bundle>, S: AggStore, L>(
 
 /// How many intervals are due from a start on.
 pub fn count_due<S: AggStore>(store: &S, span: &Span, from: u64, new: u64) -> u64
-    requires parted { ArePartedAt span.now.length span.now.slide (S.stored store.now).slices }
-    requires multiple { (k : ℕ) × (from ≡ k * span.now.slide) }
-    requires early { from ≤ FINAL }
-    requires new { new ≤ FINAL }
+    requires { MayWalk span.now (S.stored store.now).slices from new }
     ensures { result
         ≡ length (due_from span.now.length span.now.slide (tuples_of (S.stored store.now))
         from new) }

@@ -2,8 +2,8 @@
 ghost use Rattle.std.specs.Prelude.{◌≡◌, ◌≤◌, ◌+◌, ◌*◌, ◌++◌, [], ◌∷◌, OnOk, drop, length, max, min};
 ghost use Rattle.aggregates.specs.Bundled.{bundles_combined, empty_bundle};
 ghost use Rattle.agg_laws.specs.Laws.{total};
-ghost use Rattle.window_laws.specs.Runs.{runs_within};
-ghost use Rattle.interval_walks.specs.Held.{HoldsFrom, partials_of};
+ghost use Rattle.run_laws.specs.Runs.{runs_within};
+ghost use Rattle.interval_walks.specs.Held.{HasMoreRoom, HoldsFrom, LetsGo, partials_of};
 
 use crate::next::next_slice;
 use agg_laws::{AggQueue, Steps};
@@ -51,10 +51,7 @@ impl<Q: AggQueue<Bundle>> Held<Q> {
     /// Makes room for so many slices more.
     pub fn reserve(&mut self, room: u64) -> Result<(), NoMemory>
         ensures room { OnOk result (room ≤ (self.new).spare) }
-        ensures spare { (self.old).spare ≤ (self.new).spare }
-        ensures partials { (self.new).partials ≡ (self.old).partials }
-        ensures to { (self.new).to ≡ (self.old).to }
-        ensures credit { (self.new).credit ≡ (self.old).credit }
+        ensures same { HasMoreRoom self.old self.new }
     {
         self.queue.reserve(room)
     }
@@ -66,12 +63,10 @@ impl<Q: AggQueue<Bundle>> Held<Q> {
         self.to
     }
 
-    /// Lets all slices go.
+    /// Lets all slices go, without a step.
     pub fn clear(&mut self)
-        ensures partials { (self.new).partials ≡ [] }
+        ensures lets_go { LetsGo [] self.old self.new 0 0 }
         ensures to { (self.new).to ≡ 0 }
-        ensures spare { (self.old).spare ≤ (self.new).spare }
-        ensures credit { (self.new).credit ≤ (self.old).credit }
     {
         self.queue.clear();
         self.to = 0;
@@ -112,14 +107,12 @@ impl<Q: AggQueue<Bundle>> Held<Q> {
 
     /// Lets the slices go that begin from a time on, up to another.
     pub fn shed<S: AggStore, L>(&mut self, store: &S, from: u64, to: u64, steps: &mut Steps<L>)
-        ensures partials { (self.new).partials
-            ≡ drop (length (runs_within from (min to (self.old).to) (S.stored store.now).slices))
-            (self.old).partials }
+        ensures lets_go { LetsGo
+            (drop (length (runs_within from (min to (self.old).to) (S.stored store.now).slices))
+            (self.old).partials) self.old self.new steps.old steps.new }
         ensures held { from ≤ to → HoldsFrom from (S.stored store.now) self.old
             → HoldsFrom to (S.stored store.now) self.new }
         ensures to { (self.new).to ≡ (self.old).to }
-        ensures spare { (self.old).spare ≤ (self.new).spare }
-        ensures cost { steps.new + (self.new).credit ≤ steps.old + (self.old).credit }
     {
         let end = to.min(self.to);
         let mut at = from;
@@ -141,10 +134,9 @@ impl<Q: AggQueue<Bundle>> Held<Q> {
     }
 
     fn let_go<L>(&mut self, steps: &mut Steps<L>)
-        ensures partials { (self.new).partials ≡ drop 1 (self.old).partials }
+        ensures lets_go { LetsGo (drop 1 (self.old).partials)
+            self.old self.new steps.old steps.new }
         ensures to { (self.new).to ≡ (self.old).to }
-        ensures spare { (self.old).spare ≤ (self.new).spare }
-        ensures cost { steps.new + (self.new).credit ≤ steps.old + (self.old).credit }
     {
         if self.queue.len() > 0 {
             self.queue.pop(steps);

@@ -1,12 +1,13 @@
 //! The complete intervals that hold a time: what stood of them, and what a late tuple changes.
-ghost use Rattle.std.specs.Prelude.{◌≡◌, ◌≤◌, ◌<◌, ◌+◌, ◌-◌, ◌*◌, ◌/◌, ◌^◌, ◌++◌, ℕ, length, map, vec_len, vec_capacity};
+ghost use Rattle.std.specs.Prelude.{◌≡◌, ◌≤◌, ◌<◌, ◌+◌, ◌*◌, ◌^◌, ◌++◌, ℕ, length, map};
 ghost use Rattle.stream_base.specs.declared.limits.TheConstants.{FINAL, TIME_MAX};
 ghost use Rattle.stream_base.specs.Model.Windows.{within};
+ghost use Rattle.stream_base.specs.Vectors.{Adds, room};
 ghost use Rattle.aggregates.specs.Bundled.{bundle_of};
 ghost use Rattle.slice_lists.specs.Slices.{values_of};
 ghost use Rattle.agg_store.specs.Stored.{tuples_of};
 ghost use Rattle.interval_walks.specs.Told.{again_or_new, complete_starts, ended, former_at, starts_from, told_at, told_late};
-ghost use Rattle.interval_walks.specs.Spans.{ArePartedAt};
+ghost use Rattle.interval_walks.specs.Walks.{MayFold, StartsAt};
 
 use crate::owner::{Owner, former};
 use crate::span::Span;
@@ -61,16 +62,13 @@ pub fn append_formers<S: AggStore, L>(
     into: &mut Vec<Option<Former>>,
     steps: &mut Steps<L>,
 )
-    requires parted { ArePartedAt span.now.length span.now.slide (S.stored store.now).slices }
-    requires early { (k : ℕ) → k < complete.count
-        → (complete.first + k) * span.now.slide ≤ TIME_MAX }
-    requires spare { complete.count ≤ vec_capacity into.old - vec_len into.old }
+    requires intervals { MayFold span.now (S.stored store.now).slices complete }
+    requires spare { complete.count ≤ room into.old }
     ensures told { length (tuples_of (S.stored store.now)) < 2 ^ 64
         → into.new.items ≡ into.old.items
         ++ map (former_at func span.now.length (tuples_of (S.stored store.now)))
         (starts_from span.now.slide complete.first complete.count) }
-    ensures number { vec_len into.new ≡ vec_len into.old + complete.count }
-    ensures capacity { vec_capacity into.new ≡ vec_capacity into.old }
+    ensures adds { Adds complete.count into.old into.new }
     ensures cost { steps.new ≤ steps.old + 64 * ((S.stored store.now).reach + 2) * complete.count }
 {
     for k in 0..complete.count {
@@ -90,17 +88,14 @@ pub fn append_late<S: AggStore, L>(
     out: &mut Vec<Change>,
     steps: &mut Steps<L>,
 )
-    requires parted { ArePartedAt span.now.length span.now.slide (S.stored store.now).slices }
-    requires early { (k : ℕ) → k < complete.count
-        → (complete.first + k) * span.now.slide ≤ TIME_MAX }
+    requires intervals { MayFold span.now (S.stored store.now).slices complete }
     requires formers { complete.count ≤ length formers.now }
-    requires spare { complete.count ≤ vec_capacity out.old - vec_len out.old }
+    requires spare { complete.count ≤ room out.old }
     ensures told { length (tuples_of (S.stored store.now)) < 2 ^ 64 → out.new.items ≡ out.old.items
         ++ told_late (told_at owner.entry.window owner.entry.key.now owner.entry.func
         span.now.length (tuples_of (S.stored store.now)))
         (starts_from span.now.slide complete.first complete.count) formers.now }
-    ensures number { vec_len out.new ≡ vec_len out.old + complete.count }
-    ensures capacity { vec_capacity out.new ≡ vec_capacity out.old }
+    ensures adds { Adds complete.count out.old out.new }
     ensures cost { steps.new ≤ steps.old + 64 * ((S.stored store.now).reach + 2) * complete.count }
 {
     for k in 0..complete.count {
@@ -113,9 +108,7 @@ pub fn append_late<S: AggStore, L>(
 
 // The fold of the interval that starts so.
 fn fold_interval<S: AggStore, L>(span: &Span, store: &S, low: u64, steps: &mut Steps<L>) -> Bundle
-    requires parted { ArePartedAt span.now.length span.now.slide (S.stored store.now).slices }
-    requires multiple { (k : ℕ) × (low ≡ k * span.now.slide) }
-    requires early { low ≤ TIME_MAX }
+    requires { StartsAt span.now (S.stored store.now).slices low }
     ensures value { result ≡ bundle_of
         (values_of (within low (low + span.now.length) (tuples_of (S.stored store.now)))) }
     ensures cost { steps.new ≤ steps.old + 64 * ((S.stored store.now).reach + 2) }

@@ -1,11 +1,10 @@
 //! The next slice of a store, and the next interval that is due.
-ghost use Rattle.std.specs.Prelude.{◌≡◌, ◌≤◌, ◌+◌, ◌*◌, ℕ, [], IfSome, IfNone, length};
-ghost use Rattle.stream_base.specs.declared.limits.TheConstants.{FINAL};
-ghost use Rattle.window_laws.specs.Runs.{runs_within};
+ghost use Rattle.std.specs.Prelude.{◌≡◌, [], IfSome, IfNone, length};
+ghost use Rattle.run_laws.specs.Runs.{runs_within};
 ghost use Rattle.window_laws.specs.Walk.{due_from};
 ghost use Rattle.agg_store.specs.Stored.{tuples_of};
 ghost use Rattle.interval_walks.specs.Held.{IsEndFrom, IsNextDue, IsNextIn};
-ghost use Rattle.interval_walks.specs.Spans.{ArePartedAt};
+ghost use Rattle.interval_walks.specs.Walks.{MayWalk, StartsAt};
 
 use crate::span::Span;
 use agg_store::AggStore;
@@ -23,10 +22,7 @@ pub fn next_slice<S: AggStore>(store: &S, from: u64, to: u64) -> Option<Slice>
 
 /// The start of the next interval that is due.
 pub fn next_due<S: AggStore>(store: &S, span: &Span, from: u64, new: u64) -> Option<u64>
-    requires parted { ArePartedAt span.now.length span.now.slide (S.stored store.now).slices }
-    requires multiple { (k : ℕ) × (from ≡ k * span.now.slide) }
-    requires early { from ≤ FINAL }
-    requires new { new ≤ FINAL }
+    requires { MayWalk span.now (S.stored store.now).slices from new }
     ensures some { IfSome result
         (λ low. IsNextDue span.now.length span.now.slide (S.stored store.now) from new low) }
     ensures none { IfNone result
@@ -43,9 +39,7 @@ pub fn next_due<S: AggStore>(store: &S, span: &Span, from: u64, new: u64) -> Opt
 
 /// The end of the first interval from a start on that holds a tuple.
 pub fn end_from<S: AggStore>(store: &S, span: &Span, from: u64) -> u64
-    requires parted { ArePartedAt span.now.length span.now.slide (S.stored store.now).slices }
-    requires multiple { (k : ℕ) × (from ≡ k * span.now.slide) }
-    requires early { from ≤ FINAL }
+    requires { StartsAt span.now (S.stored store.now).slices from }
     ensures { IsEndFrom span.now.length span.now.slide (tuples_of (S.stored store.now)) from
         result }
 {

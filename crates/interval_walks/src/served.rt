@@ -3,8 +3,8 @@ ghost use Rattle.std.specs.Prelude.{◌≡◌, All, true};
 ghost use Rattle.stream_base.specs.Laws.{is_timed};
 ghost use Rattle.stream_base.specs.Limits.{IsKindWithin};
 ghost use Rattle.window_laws.specs.Late.{length_of, slide_of};
-ghost use Rattle.agg_store.specs.Stored.{IsSliced, IsStore};
-ghost use Rattle.interval_walks.specs.Spans.{ArePartedAt, IsWindowAt, is_served};
+ghost use Rattle.agg_store.specs.Stored.{IsStore};
+ghost use Rattle.interval_walks.specs.Spans.{ArePartedAt, IsServedOver, IsWindowAt, is_served};
 
 use crate::span::Span;
 use agg_store::AggStore;
@@ -19,8 +19,7 @@ pub struct Served {
 
 /// The window at a place, at whose starts and ends the slices of a store part.
 pub fn serve<S: AggStore>(defs: &Defs, window: u32, store: &S) -> Served
-    requires served { is_served defs.now.windows window ≡ true }
-    requires sliced { IsSliced defs.now.windows (S.stored store.now) }
+    requires { IsServedOver defs.now.windows window (S.stored store.now) }
     ensures stands { IsWindowAt defs.now.windows window result.def }
     ensures timed { is_timed result.def.kind ≡ true }
     ensures within { IsKindWithin result.def.kind }

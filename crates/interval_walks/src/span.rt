@@ -1,6 +1,6 @@
 //! How the intervals of a tumbling or sliding window lie.
 ghost use Rattle.std.specs.Prelude.{◌≡◌, ◌≤◌, ◌+◌, ◌*◌, ◌/◌, true};
-ghost use Rattle.stream_base.specs.declared.limits.TheConstants.{FINAL, TIME_MAX};
+ghost use Rattle.stream_base.specs.declared.limits.TheConstants.{FINAL};
 ghost use Rattle.stream_base.specs.Laws.{is_timed};
 ghost use Rattle.stream_base.specs.Limits.{IsKindWithin};
 ghost use Rattle.window_laws.specs.Late.{length_of, slide_of};
@@ -55,11 +55,12 @@ impl Span {
             (time - self.length) / self.slide * self.slide + self.length
         }
     }
+
     /// The end of the last interval that holds a time.
     pub fn last_end_holding(&self, time: u64) -> u64
-        requires { time ≤ TIME_MAX }
+        requires { time ≤ FINAL }
         ensures end { result ≡ time / self.now.slide * self.now.slide + self.now.length }
-        ensures within { result ≤ TIME_MAX + TIME_MAX }
+        ensures within { result ≤ time + self.now.length }
     {
         time / self.slide * self.slide + self.length
     }

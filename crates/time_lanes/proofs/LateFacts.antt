@@ -21,8 +21,8 @@ use Rattle.stream_base.proofs.Spans.{starts_holding_members}
 use Rattle.window_laws.specs.After.{with_tuple}
 use Rattle.window_laws.specs.Late.{late_change, length_of, slide_of}
 use Rattle.window_laws.proofs.LateFacts.{timed_late_emissions}
-use Rattle.window_laws.proofs.Order.{nd_split}
-use Rattle.window_laws.proofs.RunFacts.{put_behind, put_first}
+use Rattle.run_laws.proofs.Order.{nd_split}
+use Rattle.run_laws.proofs.RunFacts.{put_behind, put_first}
 use Rattle.agg_store.specs.Stored.{Stored, tuples_of}
 use Rattle.interval_walks.specs.Told.{again_or_new, complete_starts, former_at, former_if, starts_from, told_at, told_late}
 use Rattle.time_lanes.specs.Late.{AreApartAt, IsLate, complete_holding, formers_of}

@@ -18,10 +18,10 @@ use Rattle.stream_base.proofs.CutFacts.{cut_decides}
 use Rattle.stream_base.proofs.Members.{filter_members}
 use Rattle.stream_base.proofs.Rising.{Contains-head, Contains-tail}
 use Rattle.window_laws.specs.Late.{length_of, slide_of}
-use Rattle.window_laws.specs.Runs.{AreInOrder, IsRun, parted_at, runs_within}
+use Rattle.run_laws.specs.Runs.{AreInOrder, IsRun, parted_at, runs_within}
 use Rattle.window_laws.specs.Walk.{next_start_of}
-use Rattle.window_laws.proofs.RunEdits.{parted}
-use Rattle.window_laws.proofs.RunFacts.{put_behind, put_first}
+use Rattle.run_laws.proofs.RunEdits.{parted}
+use Rattle.run_laws.proofs.RunFacts.{put_behind, put_first}
 use Rattle.slice_lists.specs.Touched.{is_near, slices_from}
 use Rattle.agg_store.specs.Entered.{IsPut, slices_near}
 use Rattle.slice_lists.specs.Slices.{joined}

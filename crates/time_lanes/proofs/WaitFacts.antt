@@ -18,10 +18,10 @@ use Rattle.stream_base.proofs.Members.{filter_has}
 use Rattle.stream_base.proofs.Rising.{none_in_nil}
 use Rattle.stream_base.proofs.Spans.{starts_of_has}
 use Rattle.window_laws.specs.Late.{length_of, slide_of}
-use Rattle.window_laws.specs.Runs.{AreInOrder, runs_within}
+use Rattle.run_laws.specs.Runs.{AreInOrder, runs_within}
 use Rattle.window_laws.specs.Walk.{next_start_of}
 use Rattle.stream_base.proofs.Filters.{filter_none}
-use Rattle.window_laws.proofs.Order.{All-split}
+use Rattle.run_laws.proofs.Order.{All-split}
 use Rattle.window_laws.proofs.WalkFacts.{from_next}
 use Rattle.slice_lists.specs.Slices.{joined}
 use Rattle.agg_store.specs.Stored.{IsStore, Stored, tuples_of}

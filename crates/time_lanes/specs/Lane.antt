@@ -3,7 +3,7 @@ use Rattle.std.specs.Prelude.{◌≡◌, ◌≤◌, ℕ, Bool, false, List, [], 
 use Rattle.stream_base.specs.declared.kind.Kind.{Kind}
 use Rattle.aggregates.specs.Bundled.{Bundled}
 use Rattle.window_laws.specs.Late.{length_of, slide_of}
-use Rattle.window_laws.specs.Runs.{runs_within}
+use Rattle.run_laws.specs.Runs.{runs_within}
 use Rattle.window_laws.specs.Walk.{next_start_of}
 use Rattle.agg_store.specs.Stored.{Stored}
 use Rattle.interval_walks.specs.Held.{partials_of}
@@ -42,6 +42,26 @@ pub record IsAsBefore (old new : Laned) : Type 0 where
   pub to : new.to ≡ old.to
   pub stale : new.stale ≡ old.stale
   pub credit : new.credit ≡ old.credit
+
+-- the same, and there is no less room
+pub record HasMoreRoom (old new : Laned) : Type 0 where
+  pub kept : IsAsBefore old new
+  pub spare : old.spare ≤ new.spare
+
+-- it holds the same slices, with the same room and credit
+pub record HoldsTheSame (old new : Laned) : Type 0 where
+  pub partials : new.partials ≡ old.partials
+  pub to : new.to ≡ old.to
+  pub spare : new.spare ≡ old.spare
+  pub credit : new.credit ≡ old.credit
+
+-- it let all go where one of the slices had changed, and lost no room by it
+pub record IsRefreshed (old new : Laned) : Type 0 where
+  pub stale : new.stale ≡ false
+  pub partials : new.partials ≡ fresh_partials old
+  pub to : new.to ≡ fresh_to old
+  pub spare : old.spare ≤ new.spare
+  pub credit : new.credit ≤ old.credit
 
 -- the slices up to each end of an interval stay that lies at or before a time
 abbrev pub IsSameUpTo : Kind → ℕ → Stored → Stored → Type 0

@@ -1,3 +1,4 @@
+pub mod Calls
 pub mod Lane
 pub mod Late
 pub mod Moves

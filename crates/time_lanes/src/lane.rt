@@ -7,15 +7,17 @@ ghost use Rattle.stream_base.specs.declared.kind.Kind.{Kind};
 ghost use Rattle.stream_base.specs.declared.limits.TheConstants.{FINAL, TIME_MAX};
 ghost use Rattle.stream_base.specs.Laws.{completions};
 ghost use Rattle.stream_base.specs.Model.Changes.{emissions};
+ghost use Rattle.stream_base.specs.Vectors.{room};
 ghost use Rattle.window_laws.specs.After.{with_tuple};
 ghost use Rattle.window_laws.specs.Due.{first_open};
 ghost use Rattle.window_laws.specs.Settled.{last_end_of as last_end_holding_of};
 ghost use Rattle.window_laws.specs.Walk.{next_start_of};
 ghost use Rattle.agg_store.specs.Stored.{IsSliced, Stored, tuples_of};
-ghost use Rattle.time_lanes.specs.Lane.{IsAsBefore, IsSameUpTo, Knows, KnowsAll, fresh_partials, fresh_to};
+ghost use Rattle.time_lanes.specs.Calls.{AppendsWithin, IsServedUnder, MayComeTo, MayFollow, MayHold};
+ghost use Rattle.time_lanes.specs.Lane.{HasMoreRoom, HoldsTheSame, IsRefreshed, IsSameUpTo, Knows, KnowsAll};
 ghost use Rattle.time_lanes.specs.Late.{IsFound, IsLate, complete_holding, formers_of};
 ghost use Rattle.time_lanes.specs.Moves.{MayMove, completed_starts, moment, slices_between, slices_due, slices_in_last};
-ghost use Rattle.interval_walks.specs.Spans.{IsWater, IsWindowAt, is_served, last_end_of};
+ghost use Rattle.interval_walks.specs.Spans.{IsWindowAt, is_served, last_end_of};
 
 use agg_laws::{AggQueue, Steps};
 use agg_store::AggStore;
@@ -79,12 +81,8 @@ impl<Q: AggQueue<Bundle>> Lane<Q> {
         old: u64,
         new: u64,
     ) -> Result<u64, NoMemory>
-        requires served { is_served defs.now.windows window ≡ true }
-        requires sliced { IsSliced defs.now.windows (S.stored store.now) }
-        requires old { IsWater old }
-        requires new { IsWater new }
-        ensures kept { IsAsBefore self.old self.new }
-        ensures spare { self.old.spare ≤ self.new.spare }
+        requires { MayFollow defs.now.windows window (S.stored store.now) old new }
+        ensures same { HasMoreRoom self.old self.new }
         ensures room { (def : Def) → IsWindowAt defs.now.windows window def → OnOk result
             (length (slices_due def.kind self.new (S.stored store.now) old new) ≤ self.new.spare) }
         ensures number { (def : Def) → IsWindowAt defs.now.windows window def → IfOk result
@@ -120,16 +118,13 @@ impl<Q: AggQueue<Bundle>> Lane<Q> {
         out: &mut Vec<Change>,
         steps: &mut Steps<L>,
     )
-        requires served { is_served defs.now.windows window ≡ true }
-        requires sliced { IsSliced defs.now.windows (S.stored store.now) }
-        requires old { IsWater old }
-        requires new { IsWater new }
+        requires follows { MayFollow defs.now.windows window (S.stored store.now) old new }
         requires order { old ≤ new }
         requires room { (def : Def) → IsWindowAt defs.now.windows window def
             → length (slices_due def.kind self.old (S.stored store.now) old new) ≤ self.old.spare }
         requires spare { (def : Def) → IsWindowAt defs.now.windows window def
             → length (completed_starts def.kind (tuples_of (S.stored store.now)) old new)
-            ≤ vec_capacity out.old - vec_len out.old }
+            ≤ room out.old }
         ensures changes { (def : Def) (gone : List Kept) (marks : List ℕ)
             → IsWindowAt defs.now.windows window def
             → MayMove def.kind old gone (S.stored store.now) self.old
@@ -173,11 +168,7 @@ impl<Q: AggQueue<Bundle>> Lane<Q> {
 
     // Lets all go where a slice has changed since it was taken up.
     fn refresh(&mut self)
-        ensures stale { self.new.stale ≡ false }
-        ensures partials { self.new.partials ≡ fresh_partials self.old }
-        ensures to { self.new.to ≡ fresh_to self.old }
-        ensures spare { self.old.spare ≤ self.new.spare }
-        ensures credit { self.new.credit ≤ self.old.credit }
+        ensures { IsRefreshed self.old self.new }
     {
         if self.stale {
             self.held.clear();
@@ -188,9 +179,7 @@ impl<Q: AggQueue<Bundle>> Lane<Q> {
     /// How many changes `late` appends for a tuple at a time: one for each complete interval that
     /// holds it.
     pub fn late_count(&self, defs: &Defs, window: u32, time: u64, water: u64) -> u64
-        requires served { is_served defs.now.windows window ≡ true }
-        requires time { time ≤ TIME_MAX }
-        requires water { IsWater water }
+        requires { MayComeTo defs.now.windows window time water }
         ensures number { (def : Def) → IsWindowAt defs.now.windows window def
             → result ≡ length (complete_holding def.kind time water) }
         ensures changes { (def : Def) (key : List ℕ) (kept : List Kept) (marks : List ℕ) (x : Kept)
@@ -215,21 +204,18 @@ impl<Q: AggQueue<Bundle>> Lane<Q> {
         into: &mut Vec<Option<Former>>,
         steps: &mut Steps<L>,
     )
-        requires served { is_served defs.now.windows window ≡ true }
+        requires comes { MayComeTo defs.now.windows window time water }
         requires sliced { IsSliced defs.now.windows (S.stored store.now) }
-        requires time { time ≤ TIME_MAX }
-        requires water { IsWater water }
         requires spare { (def : Def) → IsWindowAt defs.now.windows window def
             → length (complete_holding def.kind time water)
-            ≤ vec_capacity into.old - vec_len into.old }
+            ≤ room into.old }
         ensures formers { (def : Def) (gone : List Kept) → IsWindowAt defs.now.windows window def
             → IsFound def.kind time gone (S.stored store.now) → into.new.items
             ≡ into.old.items ++ formers_of def time water (gone ++ tuples_of (S.stored store.now)) }
         ensures number { (def : Def) → IsWindowAt defs.now.windows window def → vec_len into.new
             ≡ vec_len into.old + length (complete_holding def.kind time water) }
-        ensures capacity { vec_capacity into.new ≡ vec_capacity into.old }
-        ensures cost { steps.new ≤ steps.old
-            + 64 * ((S.stored store.now).reach + 2) * (vec_len into.new - vec_len into.old) }
+        ensures work { AppendsWithin (64 * ((S.stored store.now).reach + 2)) into.old into.new
+            steps.old steps.new }
     {
         let Served { def, span } = serve(defs, window, store);
         let found = complete_at(&span, time, water);
@@ -252,15 +238,13 @@ impl<Q: AggQueue<Bundle>> Lane<Q> {
         out: &mut Vec<Change>,
         steps: &mut Steps<L>,
     )
-        requires served { is_served defs.now.windows window ≡ true }
+        requires comes { MayComeTo defs.now.windows window time water }
         requires sliced { IsSliced defs.now.windows (S.stored store.now) }
-        requires time { time ≤ TIME_MAX }
-        requires water { IsWater water }
         requires formers { (def : Def) → IsWindowAt defs.now.windows window def
             → length (complete_holding def.kind time water) ≤ length formers.now }
         requires spare { (def : Def) → IsWindowAt defs.now.windows window def
             → length (complete_holding def.kind time water)
-            ≤ vec_capacity out.old - vec_len out.old }
+            ≤ room out.old }
         ensures changes { (def : Def) (gone before : List Kept) (marks : List ℕ) (x : Kept)
             → IsWindowAt defs.now.windows window def
             → IsLate def time water gone before x formers.now (S.stored store.now) → out.new.items
@@ -268,9 +252,8 @@ impl<Q: AggQueue<Bundle>> Lane<Q> {
             (with_tuple (moment (gone ++ before) marks water) x) (window, def) }
         ensures number { (def : Def) → IsWindowAt defs.now.windows window def → vec_len out.new
             ≡ vec_len out.old + length (complete_holding def.kind time water) }
-        ensures capacity { vec_capacity out.new ≡ vec_capacity out.old }
-        ensures cost { steps.new ≤ steps.old
-            + 64 * ((S.stored store.now).reach + 2) * (vec_len out.new - vec_len out.old) }
+        ensures work { AppendsWithin (64 * ((S.stored store.now).reach + 2)) out.old out.new
+            steps.old steps.new }
     {
         let Served { def, span } = serve(defs, window, store);
         let owner = Owner {
@@ -285,9 +268,7 @@ impl<Q: AggQueue<Bundle>> Lane<Q> {
     /// When the first interval ends that holds a tuple and ends after a watermark, and the final time
     /// where there is none: a move of the watermark to before it completes nothing.
     pub fn next_end<S: AggStore>(&self, defs: &Defs, window: u32, store: &S, water: u64) -> u64
-        requires served { is_served defs.now.windows window ≡ true }
-        requires sliced { IsSliced defs.now.windows (S.stored store.now) }
-        requires water { IsWater water }
+        requires { IsServedUnder defs.now.windows window (S.stored store.now) water }
         ensures { (def : Def) (marks : List ℕ) → IsWindowAt defs.now.windows window def
             → result ≡ first_open (moment (tuples_of (S.stored store.now)) marks water) def }
     {
@@ -308,8 +289,7 @@ impl<Q: AggQueue<Bundle>> Lane<Q> {
 
     /// The end of the last interval that holds a time: tuples at it lie in none that ends later.
     pub fn last_end_holding(&self, defs: &Defs, window: u32, time: u64) -> u64
-        requires served { is_served defs.now.windows window ≡ true }
-        requires time { time ≤ TIME_MAX }
+        requires { MayHold defs.now.windows window time }
         ensures end { (def : Def) → IsWindowAt defs.now.windows window def
             → result ≡ last_end_holding_of def.kind time }
         ensures within { result ≤ TIME_MAX + TIME_MAX }
@@ -322,10 +302,7 @@ impl<Q: AggQueue<Bundle>> Lane<Q> {
     /// tuple or a mark before the watermark. What it held of earlier slices it goes on to know.
     pub fn touched(&mut self, time: u64)
         ensures stale { self.new.stale ≡ (self.old.stale || nat_lt time self.old.to) }
-        ensures partials { self.new.partials ≡ self.old.partials }
-        ensures to { self.new.to ≡ self.old.to }
-        ensures spare { self.new.spare ≡ self.old.spare }
-        ensures credit { self.new.credit ≡ self.old.credit }
+        ensures same { HoldsTheSame self.old self.new }
         ensures knows { (kind : Kind) (water : ℕ) (old new : Stored)
             → IsSameUpTo kind time old new → Knows kind water old self.old
             → Knows kind water new self.new }

@@ -8,7 +8,7 @@ ghost use Rattle.stream_base.specs.declared.kind.Kind.{Kind};
 ghost use Rattle.stream_base.specs.Laws.{completions, is_timed};
 ghost use Rattle.stream_base.specs.Limits.{IsKindWithin};
 ghost use Rattle.stream_base.specs.Model.Changes.{Moment};
-ghost use Rattle.window_laws.specs.Runs.{parted_at};
+ghost use Rattle.run_laws.specs.Runs.{parted_at};
 ghost use Rattle.window_laws.specs.Walk.{next_start_of};
 ghost use Rattle.slice_lists.specs.Touched.{slices_from};
 ghost use Rattle.agg_store.specs.Entered.{IsPut};

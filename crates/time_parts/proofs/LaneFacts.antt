@@ -29,7 +29,7 @@ use Rattle.window_laws.specs.Late.{length_of}
 use Rattle.window_laws.proofs.InstanceFacts.{bounds_do_not_fall}
 use Rattle.window_laws.proofs.LateFacts.{timed_none_gone}
 use Rattle.stream_base.proofs.Filters.{filter_none}
-use Rattle.window_laws.proofs.Order.{nd_head, nd_tail}
+use Rattle.run_laws.proofs.Order.{nd_head, nd_tail}
 use Rattle.window_laws.proofs.SettledFacts.{all_member}
 use Rattle.agg_store.specs.Stored.{Stored, tuples_of}
 use Rattle.slice_lists.proofs.SliceEdits.{put_length}

@@ -1,8 +1,5 @@
 //! The part of a tumbling or sliding window.
-ghost use Rattle.std.specs.Prelude.{◌≡◌, ◌≤◌, OnOk, IfOk};
-ghost use Rattle.stream_base.specs.declared.limits.TheConstants.{TIME_MAX};
-ghost use Rattle.key_windows.specs.Calls.{IsWater};
-ghost use Rattle.time_parts.specs.Lanes.{IsTimedAt, late_room};
+ghost use Rattle.std.specs.Prelude.{◌≤◌};
 
 use crate::ends::end_or_never;
 use agg_laws::{AggQueue, Steps};
@@ -33,30 +30,6 @@ impl<Q: AggQueue<Bundle>> Model for LanePart<Q> {
       formers = p.formers.items;
       room = vec_capacity p.formers;
     } };
-}
-
-impl<Q: AggQueue<Bundle>> LanePart<Q> {
-    // Makes room for what stands of the complete intervals that hold a time, and answers how many
-    // there are.
-    fn reserve_formers(
-        &mut self,
-        defs: &Defs,
-        window: u32,
-        time: u64,
-        water: u64,
-    ) -> Result<u64, NoMemory>
-        requires timed { IsTimedAt defs.now window }
-        requires time { time ≤ TIME_MAX }
-        requires water { IsWater water }
-        ensures lane { self.new.lane ≡ self.old.lane }
-        ensures room { OnOk result (late_room defs.now window time water ≤ self.new.room) }
-        ensures number { IfOk result (λ n. n ≡ late_room defs.now window time water) }
-    {
-        let count = self.lane.late_count(defs, window, time, water);
-        self.formers.clear();
-        self.formers.reserve(count as usize)?;
-        Ok(count)
-    }
 }
 
 impl<Q: AggQueue<Bundle> + Drop> KeyPart for LanePart<Q> {
@@ -111,6 +84,7 @@ impl<Q: AggQueue<Bundle> + Drop> KeyPart for LanePart<Q> {
         }
     }
 
+    // Makes room for what stands of the complete intervals that hold the time.
     fn reserve_put(
         &mut self,
         defs: &Defs,
@@ -118,7 +92,10 @@ impl<Q: AggQueue<Bundle> + Drop> KeyPart for LanePart<Q> {
         time: u64,
         water: u64,
     ) -> Result<u64, NoMemory> {
-        self.reserve_formers(defs, window, time, water)
+        let count = self.lane.late_count(defs, window, time, water);
+        self.formers.clear();
+        self.formers.reserve(count as usize)?;
+        Ok(count)
     }
 
     fn before<S: AggStore, L>(
@@ -160,7 +137,8 @@ impl<Q: AggQueue<Bundle> + Drop> KeyPart for LanePart<Q> {
         time: u64,
         water: u64,
     ) -> Result<u64, NoMemory> {
-        self.reserve_formers(defs, window, time, water)?;
+        // Whoever is ready has room for a tuple too.
+        self.reserve_put(defs, window, time, water)?;
         Ok(0)
     }
 

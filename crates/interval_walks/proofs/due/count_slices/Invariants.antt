@@ -1,6 +1,6 @@
 -- What is counted so far, with the slices that are left, is all.
 use Rattle.std.proofs.Common.{◌≡◌, ◌≤◌, ◌+◌, ◌-◌, length}
-use Rattle.window_laws.specs.Runs.{runs_within}
+use Rattle.run_laws.specs.Runs.{runs_within}
 use Rattle.interval_walks.proofs.due.count_slices.Given as goal
 
 abbrev pub invariant-loop-slice : goal.invariant-loop-slice

@@ -1,7 +1,7 @@
 -- One interval more is told.
 use Rattle.std.proofs.Common.{◌∙◌, ◌+◌, ◌≤◌, ap, arith, length, max, subst, sym}
 use Rattle.agg_store.specs.Stored.{tuples_of}
-use Rattle.window_laws.specs.Runs.{runs_within}
+use Rattle.run_laws.specs.Runs.{runs_within}
 use Rattle.window_laws.specs.Walk.{due_from}
 use Rattle.interval_walks.specs.Told.{new_at}
 use Rattle.interval_walks.specs.Spans.{last_end}
@@ -42,11 +42,11 @@ loop-low-preserved g c =
       short = λ le. omega (arith, h.short le, t.to, d.onward);
       onward = omega (arith, h.onward, d.onward);
       within = omega (arith, (d.multiple).1, start_behind span.length span.slide k c.args.new span.within.moves (omega (arith, (d.multiple).1, d.ends)));
-      early = omega (arith, d.ends, span.within.overlaps, c.requires.new);
+      early = omega (arith, d.ends, span.within.overlaps, c.requires.walk.new);
       multiple = (k + 1, omega (arith, (d.multiple).1, one_time_more k span.slide));
       to = omega (arith, t.to, h.to, (d.multiple).1, ends);
-      number = omega (arith, t.number, h.number, one);
-      capacity = t.capacity ∙ h.capacity;
+      number = omega (arith, t.adds.number, h.number, one);
+      capacity = t.adds.capacity ∙ h.capacity;
       room = omega (arith, part, t.room, h.room);
       cost = omega (arith, part, t.cost, h.cost, one);
     }

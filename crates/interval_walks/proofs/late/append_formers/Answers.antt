@@ -7,7 +7,7 @@ use Rattle.interval_walks.proofs.late.append_formers.Goals as goal
 
 pub overflow_add-low : goal.overflow_add-low
 overflow_add-low g c =
-    omega (arith, c.requires.early c.loop-k.k c.loop-k-test.true, at_most_times (c.args.complete.first + c.loop-k.k) c.args.span.now.slide c.args.span.now.within.moves)
+    omega (arith, c.requires.intervals.early c.loop-k.k c.loop-k-test.true, at_most_times (c.args.complete.first + c.loop-k.k) c.args.span.now.slide c.args.span.now.within.moves)
 
 pub loop-k-preserved : goal.loop-k-preserved
 loop-k-preserved g c =

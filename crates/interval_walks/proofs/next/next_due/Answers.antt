@@ -1,6 +1,6 @@
 -- The next interval begins at the first one that holds the first tuple from the start on.
 use Rattle.std.proofs.Common.{◌∙◌, ap, max, sym, arith, rules, subst}
-use Rattle.window_laws.specs.Runs.{IsAligned}
+use Rattle.run_laws.specs.Runs.{IsAligned}
 use Rattle.interval_walks.proofs.NextFacts.{due_next, low_in_time, none_due_here, none_due_next}
 use Rattle.interval_walks.proofs.next.next_due.Goals as goal
 

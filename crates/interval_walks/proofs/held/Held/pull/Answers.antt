@@ -1,7 +1,7 @@
 -- All from the time on are held.
 use Rattle.std.proofs.Common.{◌≡◌, ◌∙◌, ◌++◌, [], ap, max, sym}
 use Rattle.std.proofs.lemmas.List.{append-nil}
-use Rattle.window_laws.specs.Runs.{runs_within}
+use Rattle.run_laws.specs.Runs.{runs_within}
 use Rattle.interval_walks.specs.Held.{Holding, partials_of}
 use Rattle.interval_walks.proofs.HeldFacts.{pulled}
 use Rattle.interval_walks.proofs.held.Held.pull.Goals as goal

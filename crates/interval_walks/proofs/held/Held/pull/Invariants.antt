@@ -1,6 +1,6 @@
 -- What is taken up so far, with the slices that are left, is all.
 use Rattle.std.proofs.Common.{◌≡◌, ◌≤◌, ◌+◌, ◌-◌, ◌*◌, ◌++◌, length}
-use Rattle.window_laws.specs.Runs.{runs_within}
+use Rattle.run_laws.specs.Runs.{runs_within}
 use Rattle.interval_walks.specs.Held.{partials_of}
 use Rattle.interval_walks.proofs.held.Held.pull.Given as goal
 

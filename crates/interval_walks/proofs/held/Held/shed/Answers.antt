@@ -1,7 +1,7 @@
 -- All from the other time on are held.
 use Rattle.std.proofs.Common.{◌≡◌, ◌∙◌, [], ap, drop, length, sym}
 use Rattle.std.specs.Prelude.{min}
-use Rattle.window_laws.specs.Runs.{runs_within}
+use Rattle.run_laws.specs.Runs.{runs_within}
 use Rattle.interval_walks.specs.Held.{Holding, partials_of}
 use Rattle.interval_walks.proofs.HeldFacts.{drop_none, shed_from}
 use Rattle.interval_walks.proofs.held.Held.shed.Goals as goal

@@ -2,7 +2,7 @@
 use Rattle.std.proofs.Common.{◌≡◌, ◌∙◌, ◌+◌, ◌*◌, ◌≤◌, ◌++◌, ap, arith, length, max, subst, sym}
 use Rattle.stream_base.specs.declared.def.Def.{Def}
 use Rattle.stream_base.specs.Laws.{completions}
-use Rattle.window_laws.specs.Runs.{runs_within}
+use Rattle.run_laws.specs.Runs.{runs_within}
 use Rattle.window_laws.specs.Walk.{due_from, next_start}
 use Rattle.agg_store.specs.Stored.{tuples_of}
 use Rattle.interval_walks.specs.Held.{HoldsFrom}
@@ -25,7 +25,7 @@ pull-requires g c =
     let room = taken_is d.kind span.length span.slide c.serve.ensures.length c.serve.ensures.slide c.next_start-start.result c.self.inside.held.to c.args.old c.args.new c.args.self.now s.slices c.next_start-start.ensures.start to in
     let rises = next_rises span.length span.slide span.within c.args.old c.args.new c.requires.order in
     let left = left_at_most s.slices o c.tell_due-told.result c.next_start-next.result c.tell_due-told.new.held.to c.shed.new.self.to _ c.last_end.result (omega (arith, rises, c.tell_due-told.ensures.within, c.next_start-start.ensures.start, c.next_start-next.ensures.start)) c.shed.ensures.to c.last_end.ensures.end in
-    omega (arith, left, room, spare, c.requires.room d c.serve.ensures.stands, c.refresh.ensures.spare, c.tell_due-told.ensures.room, c.shed.ensures.spare)
+    omega (arith, left, room, spare, c.requires.room d c.serve.ensures.stands, c.refresh.ensures.spare, c.tell_due-told.ensures.room, c.shed.ensures.lets_go.spare)
 
 pub returns-clause-changes : goal.returns-clause-changes
 returns-clause-changes g c = λ def gone marks stands may.
@@ -101,7 +101,7 @@ all_steps g c =
     let same : length (runs_within (max c.next_start-start.result c.self.inside.held.to) (last_end span.length span.slide c.args.new) s.slices) ≡ length (runs_within (max (next_start span.length span.slide c.args.old) (fresh_to c.args.self.now)) (last_end span.length span.slide c.args.new) s.slices) = λ i. length (runs_within (max (c.next_start-start.ensures.start i) (to i)) (last_end span.length span.slide c.args.new) s.slices) in
     let rises = next_rises span.length span.slide span.within c.args.old c.args.new c.requires.order in
     let left = left_at_most s.slices o c.tell_due-told.result c.next_start-next.result c.tell_due-told.new.held.to c.shed.new.self.to _ c.last_end.result (omega (arith, rises, c.tell_due-told.ensures.within, c.next_start-start.ensures.start, c.next_start-next.ensures.start)) c.shed.ensures.to c.last_end.ensures.end in
-    omega (arith, left, same, credit, c.refresh.ensures.credit, c.tell_due-told.ensures.cost, c.shed.ensures.cost, c.pull.ensures.cost)
+    omega (arith, left, same, credit, c.refresh.ensures.credit, c.tell_due-told.ensures.cost, c.shed.ensures.lets_go.cost, c.pull.ensures.cost)
 
 pub returns-clause-cost_touched : goal.returns-clause-cost_touched
 returns-clause-cost_touched g c = λ def stands knows.

@@ -15,6 +15,6 @@ returns-clause-asked g c = λ m n at.
     told_of_all m n c.args.water (tuples_of s) at.water_is at.held.tuples w c.args.time c.clear.new.self.items c.formers.new.into.items c.clear.ensures.items
     (c.formers.ensures.formers w (take n m.kept) (stands_at d c.args.window t)
     record {
-      apart = apart_at d c.args.window m n t at.held.may_leave c.args.time (omega (arith, c.requires.in_time, at.water_is));
+      apart = apart_at d c.args.window m n t at.held.may_leave c.args.time (omega (arith, c.requires.accepted.accepted, at.water_is));
       few = few_held m n at.lists.0 s at.lists.1 at.held.tuples;
     })

@@ -1,5 +1,5 @@
 -- What stood before is told with the tuple; the lane goes on to know the slices before it.
-use Rattle.std.proofs.Common.{◌≡◌, ◌∙◌, ◌≤◌, ◌+◌, ◌-◌, ◌*◌, ap, sym, refl, take, drop, length, subst, arith, vec_len}
+use Rattle.std.proofs.Common.{◌≡◌, ◌∙◌, ◌≤◌, ◌+◌, ◌-◌, ◌*◌, ap, sym, refl, take, drop, length, subst, arith, rules, vec_len}
 use Rattle.stream_base.specs.declared.def.Def.{Def}
 use Rattle.time_lanes.specs.Lane.{Knows, KnowsAll, Laned}
 use Rattle.time_lanes.specs.Late.{complete_holding}
@@ -61,10 +61,13 @@ returns-clause-changes g c = λ m n before more takes.
     (c.late.ensures.changes w (take n m.kept) (drop n m.kept) m.marks x (stands_at d c.args.window t)
     (is_late d c.args.window m n before x more (g.S.AggStore.stored c.args.store.now) c.deref.result.now c.args.water t takes.step takes.water_is (told ∙ takes.asked)))
 
-pub returns-clause-room : goal.returns-clause-room
-returns-clause-room g c =
+pub returns-clause-adds : goal.returns-clause-adds
+returns-clause-adds g c =
     let q = c.requires.takes in
-    omega (arith, c.late.ensures.number (window_at c.args.defs.now c.args.window) (stands_at c.args.defs.now c.args.window q.4.stood.timed))
+    record {
+      number = omega (arith, c.late.ensures.number (window_at c.args.defs.now c.args.window) (stands_at c.args.defs.now c.args.window q.4.stood.timed));
+      capacity = c.late.ensures.work.capacity;
+    }
 
 pub returns-clause-owed : goal.returns-clause-owed
 returns-clause-owed g c =
@@ -72,12 +75,15 @@ returns-clause-owed g c =
     let w = window_at c.args.defs.now c.args.window in
     omega (arith, c.late.ensures.number w (stands_at c.args.defs.now c.args.window q.4.stood.timed), told_number w c.args.time c.args.water q.0 c.args.self.now.formers q.4.water_is q.4.asked)
 
-pub returns-clause-work : goal.returns-clause-work
-returns-clause-work g c =
+pub returns-clause-cost : goal.returns-clause-cost
+returns-clause-cost g c =
     let q = c.requires.takes in
     let d = c.args.defs.now in
     let work = timed_work (kind_at d c.args.window) (g.S.AggStore.stored c.args.store.now).reach (timed_at d c.args.window q.4.stood.timed) in
-    subst (λ k. c.late.new.steps ≤ c.args.steps.now + k * (vec_len c.late.new.out - vec_len c.args.out.now)) (sym work) c.late.ensures.cost
+    record {
+      work = subst (λ k. c.late.new.steps ≤ c.args.steps.now + k * (vec_len c.late.new.out - vec_len c.args.out.now)) (sym work) c.late.ensures.work.cost;
+      credit = search rules;
+    }
 
 -- it misses none of them where the tuple comes behind what is complete
 pub returns-clause-ahead : goal.returns-clause-ahead

@@ -10,7 +10,7 @@ use Rattle.time_parts.proofs.lane_part.LanePartKeyPart.settled_by.Goals as goal
 pub returns-clause-before : goal.returns-clause-before
 returns-clause-before g c = λ water below.
     let d = c.args.defs.now in
-    let q = c.requires.stands.4 in
+    let q = c.requires.key.4 in
     let kind = kind_at d c.args.window in
     let span = span_at d c.args.window q.stood.timed q.held.may_leave.kinds in
     let end = c.last_end_holding.ensures.end (window_at d c.args.window) (stands_at d c.args.window q.stood.timed) in
@@ -22,7 +22,7 @@ returns-clause-before g c = λ water below.
 pub returns-clause-by_then : goal.returns-clause-by_then
 returns-clause-by_then g c = λ water reached.
     let d = c.args.defs.now in
-    let q = c.requires.stands.4 in
+    let q = c.requires.key.4 in
     let kind = kind_at d c.args.window in
     let span = span_at d c.args.window q.stood.timed q.held.may_leave.kinds in
     let end = c.last_end_holding.ensures.end (window_at d c.args.window) (stands_at d c.args.window q.stood.timed) in

@@ -25,9 +25,11 @@ returns-clause-changes g c = λ m n at.
     (c.advance.ensures.changes w gone m.marks (stands_at d c.args.window t)
     (subst (λ (l : Laned). MayMove w.kind c.args.old gone s l) (sym (ap (λ (p : Timed). p.lane) c.self.view_is)) (subst (λ k. MayMove w.kind k gone s c.args.self.now.lane) at.water_is may)))
 
-pub returns-clause-room : goal.returns-clause-room
-returns-clause-room g c =
-    omega (arith, c.advance.ensures.number (window_at c.args.defs.now c.args.window) (stands_at c.args.defs.now c.args.window c.requires.stands.2.stood.timed))
+pub returns-clause-adds : goal.returns-clause-adds
+returns-clause-adds g c = record {
+  number = omega (arith, c.advance.ensures.number (window_at c.args.defs.now c.args.window) (stands_at c.args.defs.now c.args.window c.requires.moves.under.key.2.stood.timed));
+  capacity = c.advance.ensures.capacity;
+}
 
 -- each row takes one step beside the slices that the lane takes up
 pub returns-clause-work_ahead : goal.returns-clause-work_ahead
