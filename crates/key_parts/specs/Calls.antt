@@ -1,13 +1,15 @@
 -- What a part of a key meets at each call: for which lists it stands, and what became of the store.
-use Rattle.std.specs.Prelude.{◌≡◌, ℕ}
+use Rattle.std.specs.Prelude.{◌≡◌, ◌≤◌, ℕ, Result, IfOk, OnOk}
 use Rattle.std.specs.List.{slice_index_or}
 use Rattle.stream_base.specs.Limits.{Definitions}
 use Rattle.stream_base.specs.declared.def.Def.{Def}
 use Rattle.stream_base.specs.declared.func.Func.TheVariants.{Count}
 use Rattle.stream_base.specs.declared.kept.Kept.{Kept}
 use Rattle.stream_base.specs.declared.kind.Kind.TheVariants.{Marks}
+use Rattle.stream_base.specs.declared.limits.TheConstants.{TIME_MAX}
 use Rattle.stream_base.specs.Model.Changes.{Moment}
 use Rattle.agg_store.specs.Stored.{IsStore, Stored}
+use Rattle.key_windows.specs.Calls.{IsWater, LeadsOn}
 use Rattle.key_parts.specs.Held.{IsHeld}
 use Rattle.key_parts.specs.Moves.{AreLists, IsMarkStep, IsPurge, IsPutStep}
 
@@ -31,6 +33,7 @@ module _ {P : Type 0} (stands : Standing P) (d : Definitions) (window : ℕ) whe
   -- a tuple comes to a part that has kept what the tuple changes
   pub record TakesTuple (is_asked : Definitions → ℕ → Moment → ℕ → P → Type 0) (water : ℕ) (x : Kept) (after : Stored) (part : P) (m : Moment) (n : ℕ) (before : Stored) (more : ℕ) : Type 0 where
     pub water_is : m.water ≡ water
+    pub is_water : IsWater water
     pub step : IsPutStep d m n before x more after
     pub stood : stands d window m n before part
     pub asked : is_asked d window m x.time part
@@ -38,6 +41,7 @@ module _ {P : Type 0} (stands : Standing P) (d : Definitions) (window : ℕ) whe
   -- a mark comes to a part
   pub record TakesMark (water time : ℕ) (after : Stored) (part : P) (m : Moment) (n : ℕ) (before : Stored) : Type 0 where
     pub water_is : m.water ≡ water
+    pub is_water : IsWater water
     pub step : IsMarkStep d m n before time after
     pub stood : stands d window m n before part
 
@@ -46,3 +50,36 @@ module _ {P : Type 0} (stands : Standing P) (d : Definitions) (window : ℕ) whe
     pub water_is : m.water ≡ water
     pub purge : IsPurge d m n before time more after
     pub stood : stands d window m n before part
+
+-- at a watermark, with this store, a part stands for what is known of a key, of which the store lacks so many first tuples
+abbrev pub StandingAt : Type 0 → Type 1
+StandingAt P = ℕ → Stored → P → Moment → ℕ → Type 0
+
+module _ {P : Type 0} (at : StandingAt P) where
+  -- a part stands for some key under a watermark, with this store
+  pub record StandsForSome (water : ℕ) (s : Stored) (part : P) : Type 0 where
+    pub is_water : IsWater water
+    pub key : (m : Moment) × (n : ℕ) × at water s part m n
+
+  -- a tuple or a mark within the limits may come to a part that stands for some key under a watermark
+  pub record MayCome (time water : ℕ) (s : Stored) (part : P) : Type 0 where
+    pub within : time ≤ TIME_MAX
+    pub under : StandsForSome water s part
+
+  -- the watermark may move on under a part that stands for some key
+  pub record MayMove (old new : ℕ) (s : Stored) (part : P) : Type 0 where
+    pub leads_on : LeadsOn old new
+    pub under : StandsForSome old s part
+
+  -- a part may be asked about tuples at a time: it stands for some key, under whatever watermark
+  pub record MayTell (time : ℕ) (part : P) : Type 0 where
+    pub within : time ≤ TIME_MAX
+    pub key : (m : Moment) × (n : ℕ) × (s : Stored) × (w : ℕ) × at w s part m n
+
+-- a call makes room and no more: where it doesn't fail the part is ready for the call to come, and it answers for how many changes. The part stands for all that it stood for, has missed nothing that it hadn't, and gains no credit
+pub record Prepares {P E : Type 0} (stands : Moment → ℕ → Stored → P → Type 0) (is_ahead : ℕ → Stored → P → Type 0) (credit_of : P → ℕ) (is_ready : P → Type 0) (room_for : P → ℕ) (old new : P) (answer : Result ℕ E) : Type 0 where
+  pub stays : (m : Moment) (n : ℕ) (s : Stored) → stands m n s old → stands m n s new
+  pub ready : OnOk answer (is_ready new)
+  pub room : IfOk answer (λ k. k ≡ room_for new)
+  pub credit : credit_of new ≤ credit_of old
+  pub ahead : (w : ℕ) (s : Stored) → is_ahead w s old → is_ahead w s new

@@ -1,5 +1,5 @@
--- How many combines the changes of a window take.
-use Rattle.std.specs.Prelude.{◌+◌, ◌*◌, ℕ}
+-- How many changes a call appends at most, and how many combines the changes of a window take.
+use Rattle.std.specs.Prelude.{◌≡◌, ◌≤◌, ◌+◌, ◌*◌, ℕ, Vec, vec_capacity, vec_len}
 use Rattle.stream_base.specs.declared.kind.Kind.{Kind}
 use Rattle.stream_base.specs.declared.kind.Kind.TheVariants.{Tumbling, Sliding, Session, Marks, Events}
 
@@ -18,3 +18,13 @@ row_work (Sliding length slide) reach = 1
 row_work (Session gap) reach = 64 * (reach + 2)
 row_work Marks reach = 64 * (reach + 2)
 row_work (Events count) reach = count
+
+-- a vector has at most so many elements more, and took no memory for them
+pub record AddsAtMost {X Z : Type 0} (most : ℕ) (old new : Vec X Z) : Type 0 where
+  pub number : vec_len new ≤ vec_len old + most
+  pub capacity : vec_capacity new ≡ vec_capacity old
+
+-- a call takes at most so many steps, and doesn't add to what is left of those that were paid for
+pub record Spends (most steps steps_then left left_then : ℕ) : Type 0 where
+  pub work : steps_then ≤ steps + most
+  pub credit : left_then ≤ left

@@ -1,15 +1,16 @@
 //! What the part of one window in the state of a key promises.
-ghost use Rattle.std.specs.Prelude.{◌≡◌, ◌≢◌, ◌≤◌, ◌<◌, ◌+◌, ◌-◌, ◌*◌, ◌++◌, [], ℕ, List, length, IfOk, OnOk, vec_len, vec_capacity};
-ghost use Rattle.stream_base.specs.declared.limits.TheConstants.{FINAL, TIME_MAX};
+ghost use Rattle.std.specs.Prelude.{◌≡◌, ◌≢◌, ◌≤◌, ◌<◌, ◌+◌, ◌-◌, ◌*◌, ◌++◌, [], ℕ, List, length, vec_len};
+ghost use Rattle.stream_base.specs.declared.limits.TheConstants.{FINAL};
 ghost use Rattle.stream_base.specs.Laws.{completions};
 ghost use Rattle.stream_base.specs.Model.Changes.{Moment, emissions, retractions};
+ghost use Rattle.stream_base.specs.Vectors.{room};
 ghost use Rattle.window_laws.specs.After.{at_water, with_mark, with_tuple};
 ghost use Rattle.window_laws.specs.Settled.{without_first};
 ghost use Rattle.agg_store.specs.Stored.{Stored};
-ghost use Rattle.key_windows.specs.Calls.{IsWater, kept_at, moment};
-ghost use Rattle.key_parts.specs.Calls.{LosesSettled, StandsAt, TakesMark, TakesTuple, window_at};
+ghost use Rattle.key_windows.specs.Calls.{IsAccepted, IsWater, LeadsOn, kept_at, moment};
+ghost use Rattle.key_parts.specs.Calls.{LosesSettled, MayCome, MayMove, MayTell, Prepares, StandsAt, StandsForSome, TakesMark, TakesTuple, window_at};
 ghost use Rattle.key_parts.specs.Moves.{SettlesUpTo};
-ghost use Rattle.key_parts.specs.Work.{change_work, row_work};
+ghost use Rattle.key_parts.specs.Work.{AddsAtMost, Spends, change_work, row_work};
 
 use agg_laws::Steps;
 use agg_store::AggStore;
@@ -96,17 +97,11 @@ pub trait KeyPart: Drop {
         time: u64,
         water: u64,
     ) -> Result<u64, NoMemory>
-        requires stands { (m : Moment) × (n : ℕ) × (s : Stored)
-            × StandsAt stands defs.now window water s self.old m n }
-        requires time { time ≤ TIME_MAX }
-        requires water { IsWater water }
-        ensures stays { (m : Moment) (n : ℕ) (s : Stored) → stands defs.now window m n s self.old
-            → stands defs.now window m n s self.new }
-        ensures ready { OnOk result (is_ready defs.now window time water self.new) }
-        ensures room { IfOk result (λ k. k ≡ put_room defs.now window time water self.new) }
-        ensures credit { credit self.new ≤ credit self.old }
-        ensures ahead { (w : ℕ) (s : Stored) → is_ahead defs.now window w s self.old
-            → is_ahead defs.now window w s self.new };
+        requires { (s : Stored)
+            × MayCome (StandsAt stands defs.now window) time water s self.old }
+        ensures { Prepares (stands defs.now window) (is_ahead defs.now window) credit
+            (is_ready defs.now window time water) (put_room defs.now window time water)
+            self.old self.new result };
 
     /// Keeps what stands of the instances that a tuple at a time changes. It is called before the
     /// store takes the tuple in.
@@ -119,11 +114,9 @@ pub trait KeyPart: Drop {
         water: u64,
         steps: &mut Steps<L>,
     )
-        requires stands { (m : Moment) × (n : ℕ)
-            × StandsAt stands defs.now window water (S.stored store.now) self.old m n }
-        requires time { time ≤ TIME_MAX }
-        requires water { IsWater water }
-        requires in_time { water ≤ time + (defs.now).lateness }
+        requires stands { StandsForSome (StandsAt stands defs.now window) water
+            (S.stored store.now) self.old }
+        requires accepted { IsAccepted defs.now time water }
         requires ready { is_ready defs.now window time water self.old }
         ensures stays { (m : Moment) (n : ℕ) (s : Stored) → stands defs.now window m n s self.old
             → stands defs.now window m n s self.new }
@@ -133,9 +126,8 @@ pub trait KeyPart: Drop {
         ensures ready { is_ready defs.now window time water self.new }
         ensures room { put_room defs.now window time water self.new
             ≡ put_room defs.now window time water self.old }
-        ensures work { steps.new
-            ≤ steps.old + 64 * ((S.stored store.now).reach + 2) * owed self.new }
-        ensures credit { credit self.new ≤ credit self.old }
+        ensures cost { Spends (64 * ((S.stored store.now).reach + 2) * owed self.new)
+            steps.old steps.new (credit self.old) (credit self.new) }
         ensures ahead { (w : ℕ) (s : Stored) → is_ahead defs.now window w s self.old
             → is_ahead defs.now window w s self.new };
 
@@ -157,10 +149,8 @@ pub trait KeyPart: Drop {
         requires takes { (m : Moment) × (n : ℕ) × (before : Stored) × (more : ℕ)
             × TakesTuple stands defs.now window is_asked water (kept_at pos time value)
             (S.stored store.now) self.old m n before more }
-        requires water { IsWater water }
         requires ready { is_ready defs.now window time water self.old }
-        requires spare { put_room defs.now window time water self.old
-            ≤ vec_capacity out.old - vec_len out.old }
+        requires spare { put_room defs.now window time water self.old ≤ room out.old }
         ensures stands { (m : Moment) (n : ℕ) (before : Stored) (more : ℕ)
             → TakesTuple stands defs.now window is_asked water (kept_at pos time value)
             (S.stored store.now) self.old m n before more
@@ -173,13 +163,12 @@ pub trait KeyPart: Drop {
             (window, window_at defs.now window)
             ++ emissions key.now m (with_tuple m (kept_at pos time value))
             (window, window_at defs.now window)) }
-        ensures room { vec_len out.new
-            ≤ vec_len out.old + put_room defs.now window time water self.old }
-        ensures capacity { vec_capacity out.new ≡ vec_capacity out.old }
+        ensures adds { AddsAtMost (put_room defs.now window time water self.old)
+            out.old out.new }
         ensures owed { owed self.old ≤ vec_len out.new - vec_len out.old }
-        ensures work { steps.new ≤ steps.old + change_work (window_at defs.now window).kind
-            (S.stored store.now).reach * (vec_len out.new - vec_len out.old) }
-        ensures credit { credit self.new ≤ credit self.old }
+        ensures cost { Spends (change_work (window_at defs.now window).kind
+            (S.stored store.now).reach * (vec_len out.new - vec_len out.old))
+            steps.old steps.new (credit self.old) (credit self.new) }
         ensures ahead { (m : Moment) (n : ℕ) (before : Stored) (more : ℕ)
             → TakesTuple stands defs.now window is_asked water (kept_at pos time value)
             (S.stored store.now) self.old m n before more → complete_by defs.now window water ≤ time
@@ -194,17 +183,11 @@ pub trait KeyPart: Drop {
         time: u64,
         water: u64,
     ) -> Result<u64, NoMemory>
-        requires stands { (m : Moment) × (n : ℕ) × (s : Stored)
-            × StandsAt stands defs.now window water s self.old m n }
-        requires time { time ≤ TIME_MAX }
-        requires water { IsWater water }
-        ensures stays { (m : Moment) (n : ℕ) (s : Stored) → stands defs.now window m n s self.old
-            → stands defs.now window m n s self.new }
-        ensures ready { OnOk result (is_ready defs.now window time water self.new) }
-        ensures room { IfOk result (λ k. k ≡ mark_room defs.now window time water self.new) }
-        ensures credit { credit self.new ≤ credit self.old }
-        ensures ahead { (w : ℕ) (s : Stored) → is_ahead defs.now window w s self.old
-            → is_ahead defs.now window w s self.new };
+        requires { (s : Stored)
+            × MayCome (StandsAt stands defs.now window) time water s self.old }
+        ensures { Prepares (stands defs.now window) (is_ahead defs.now window) credit
+            (is_ready defs.now window time water) (mark_room defs.now window time water)
+            self.old self.new result };
 
     /// Takes in a mark that the store has taken in.
     fn mark<S: AggStore, L>(
@@ -220,10 +203,8 @@ pub trait KeyPart: Drop {
     )
         requires takes { (m : Moment) × (n : ℕ) × (before : Stored)
             × TakesMark stands defs.now window water time (S.stored store.now) self.old m n before }
-        requires water { IsWater water }
         requires ready { is_ready defs.now window time water self.old }
-        requires spare { mark_room defs.now window time water self.old
-            ≤ vec_capacity out.old - vec_len out.old }
+        requires spare { mark_room defs.now window time water self.old ≤ room out.old }
         ensures stands { (m : Moment) (n : ℕ) (before : Stored)
             → TakesMark stands defs.now window water time (S.stored store.now) self.old m n before
             → stands defs.now window (with_mark m time) n (S.stored store.now) self.new }
@@ -232,12 +213,11 @@ pub trait KeyPart: Drop {
             → out.new.items ≡ out.old.items
             ++ (retractions key.now m (with_mark m time) (window, window_at defs.now window)
             ++ emissions key.now m (with_mark m time) (window, window_at defs.now window)) }
-        ensures room { vec_len out.new
-            ≤ vec_len out.old + mark_room defs.now window time water self.old }
-        ensures capacity { vec_capacity out.new ≡ vec_capacity out.old }
-        ensures work { steps.new ≤ steps.old
-            + 64 * ((S.stored store.now).reach + 2) * (vec_len out.new - vec_len out.old) }
-        ensures credit { credit self.new ≤ credit self.old }
+        ensures adds { AddsAtMost (mark_room defs.now window time water self.old)
+            out.old out.new }
+        ensures cost { Spends
+            (64 * ((S.stored store.now).reach + 2) * (vec_len out.new - vec_len out.old))
+            steps.old steps.new (credit self.old) (credit self.new) }
         ensures ahead { (m : Moment) (n : ℕ) (before : Stored)
             → TakesMark stands defs.now window water time (S.stored store.now) self.old m n before
             → complete_by defs.now window water ≤ time
@@ -253,20 +233,11 @@ pub trait KeyPart: Drop {
         old: u64,
         new: u64,
     ) -> Result<u64, NoMemory>
-        requires stands { (m : Moment) × (n : ℕ)
-            × StandsAt stands defs.now window old (S.stored store.now) self.old m n }
-        requires rises { old ≤ new }
-        requires old { IsWater old }
-        requires new { IsWater new }
-        ensures stays { (m : Moment) (n : ℕ) (s : Stored) → stands defs.now window m n s self.old
-            → stands defs.now window m n s self.new }
-        ensures ready { OnOk result
-            (can_move defs.now window (S.stored store.now) old new self.new) }
-        ensures room { IfOk result
-            (λ k. k ≡ move_room defs.now window (S.stored store.now) old new self.new) }
-        ensures credit { credit self.new ≤ credit self.old }
-        ensures ahead { (w : ℕ) (s : Stored) → is_ahead defs.now window w s self.old
-            → is_ahead defs.now window w s self.new };
+        requires { MayMove (StandsAt stands defs.now window) old new
+            (S.stored store.now) self.old }
+        ensures { Prepares (stands defs.now window) (is_ahead defs.now window) credit
+            (can_move defs.now window (S.stored store.now) old new)
+            (move_room defs.now window (S.stored store.now) old new) self.old self.new result };
 
     /// Takes in a move of the watermark, and appends the instances that it completes.
     fn water<S: AggStore, L>(
@@ -280,14 +251,11 @@ pub trait KeyPart: Drop {
         out: &mut Vec<Change>,
         steps: &mut Steps<L>,
     )
-        requires stands { (m : Moment) × (n : ℕ)
-            × StandsAt stands defs.now window old (S.stored store.now) self.old m n }
-        requires rises { old ≤ new }
-        requires old { IsWater old }
-        requires new { IsWater new }
+        requires moves { MayMove (StandsAt stands defs.now window) old new
+            (S.stored store.now) self.old }
         requires ready { can_move defs.now window (S.stored store.now) old new self.old }
         requires spare { move_room defs.now window (S.stored store.now) old new self.old
-            ≤ vec_capacity out.old - vec_len out.old }
+            ≤ room out.old }
         ensures stands { (m : Moment) (n : ℕ)
             → StandsAt stands defs.now window old (S.stored store.now) self.old m n
             → stands defs.now window (at_water m new) n (S.stored store.now) self.new }
@@ -295,9 +263,8 @@ pub trait KeyPart: Drop {
             → StandsAt stands defs.now window old (S.stored store.now) self.old m n
             → out.new.items ≡ out.old.items
             ++ completions key.now m new (window, window_at defs.now window) }
-        ensures room { vec_len out.new
-            ≤ vec_len out.old + move_room defs.now window (S.stored store.now) old new self.old }
-        ensures capacity { vec_capacity out.new ≡ vec_capacity out.old }
+        ensures adds { AddsAtMost
+            (move_room defs.now window (S.stored store.now) old new self.old) out.old out.new }
         ensures ahead { (m : Moment) (n : ℕ)
             → StandsAt stands defs.now window old (S.stored store.now) self.old m n
             → is_ahead defs.now window new (S.stored store.now) self.new }
@@ -319,9 +286,8 @@ pub trait KeyPart: Drop {
     /// The first watermark at which something becomes complete: a move to below it changes nothing.
     /// Later than the final one where nothing is left to become so.
     fn next_due<S: AggStore>(&self, defs: &Defs, window: u32, store: &S, water: u64) -> u64
-        requires stands { (m : Moment) × (n : ℕ)
-            × StandsAt stands defs.now window water (S.stored store.now) self.now m n }
-        requires water { IsWater water }
+        requires { StandsForSome (StandsAt stands defs.now window) water
+            (S.stored store.now) self.now }
         ensures none_before { (key : List ℕ) (m : Moment) (n new : ℕ)
             → StandsAt stands defs.now window water (S.stored store.now) self.now m n
             → water ≤ new → new < result
@@ -334,9 +300,8 @@ pub trait KeyPart: Drop {
     /// From which time on tuples aren't settled in the window under a watermark, its own or a later
     /// one; later than any time where all are.
     fn first_unsettled(&self, defs: &Defs, window: u32, water: u64) -> u64
-        requires stands { (m : Moment) × (n : ℕ) × (s : Stored) × (w : ℕ)
-            × StandsAt stands defs.now window w s self.now m n × (w ≤ water) }
-        requires water { IsWater water }
+        requires { (m : Moment) × (n : ℕ) × (s : Stored) × (w : ℕ)
+            × StandsAt stands defs.now window w s self.now m n × LeadsOn w water }
         ensures value { result ≡ settles_at defs.now window water self.now }
         ensures settles { (m : Moment) (n : ℕ) (s : Stored) (w : ℕ) → w ≤ water
             → StandsAt stands defs.now window w s self.now m n
@@ -345,9 +310,7 @@ pub trait KeyPart: Drop {
 
     /// By which watermark tuples at a time are settled in the window, and by none before.
     fn settled_by(&self, defs: &Defs, window: u32, time: u64) -> u64
-        requires stands { (m : Moment) × (n : ℕ) × (s : Stored) × (w : ℕ)
-            × StandsAt stands defs.now window w s self.now m n }
-        requires time { time ≤ TIME_MAX }
+        requires { MayTell (StandsAt stands defs.now window) time self.now }
         ensures before { (water : ℕ) → water < result
             → settles_at defs.now window water self.now ≤ time }
         ensures by_then { (water : ℕ) → result ≤ water
@@ -365,7 +328,7 @@ pub trait KeyPart: Drop {
             → LosesSettled stands defs.now window water time self.old m n before more after
             → time ≤ settles_at defs.now window water self.old
             → stands defs.now window m more after self.new }
-        ensures credit { credit self.new ≤ credit self.old }
+        ensures credit { credit self.new ≡ credit self.old }
         ensures ahead { (m : Moment) (n time : ℕ) (before : Stored) (more : ℕ) (after : Stored)
             → LosesSettled stands defs.now window water time self.old m n before more after
             → is_ahead defs.now window water before self.old

@@ -10,7 +10,7 @@ use Rattle.stream_base.specs.Limits.{Definitions}
 use Rattle.stream_base.specs.declared.kept.Kept.{Kept}
 use Rattle.stream_base.specs.Model.Changes.{Moment}
 use Rattle.agg_store.specs.Stored.{Stored}
-use Rattle.key_parts.specs.Calls.{Standing, StandsAt, TakesMark, TakesTuple}
+use Rattle.key_parts.specs.Calls.{Standing, StandsAt, StandsForSome, TakesMark, TakesTuple}
 use Rattle.key_slicer.specs.Parts.{AllStandAt, AllTakeMark, AllTakeTuple, AreStanding, EachPart, IsLeastOf, rooms}
 
 -- ---- parts that change one after another
@@ -349,6 +349,7 @@ module _ {P : Type 0} (stands : Standing P) (d : Definitions) where
       → i < length parts → ((y : P) → old ≡ get_or parts i y) → AllTakeTuple stands d is_asked water x after parts m n before more → TakesTuple stands d i is_asked water x after old m n before more
   tuple_for_one is_asked water x after parts m n before more i old l is all = record {
     water_is = all.water_is;
+    is_water = all.is_water;
     step = all.step;
     stood = subst (stands d i m n before) (sym (is old)) (all.stood.each i old l);
     asked = subst (is_asked d i m x.time) (sym (is old)) (all.asked i old l);
@@ -358,10 +359,15 @@ module _ {P : Type 0} (stands : Standing P) (d : Definitions) where
       → AllStandAt stands d water s parts m n → StandsAt stands d i water s old m n
   stands_for_one water s parts m n i old l is all = subst (λ p. StandsAt stands d i water s p m n) (sym (is old)) (one_of_all water s parts m n i old l all)
 
+  pub some_for_one : (water : ℕ) (s : Stored) (parts : List P) (i : ℕ) (old : P) → i < length parts → ((y : P) → old ≡ get_or parts i y)
+      → StandsForSome (AllStandAt stands d) water s parts → StandsForSome (StandsAt stands d i) water s old
+  some_for_one water s parts i old l is some = let k = some.key in record { is_water = some.is_water; key = (k.0, k.1, stands_for_one water s parts k.0 k.1 i old l is k.2) }
+
   pub mark_for_one : (water time : ℕ) (after : Stored) (parts : List P) (m : Moment) (n : ℕ) (before : Stored) (i : ℕ) (old : P)
       → i < length parts → ((y : P) → old ≡ get_or parts i y) → AllTakeMark stands d water time after parts m n before → TakesMark stands d i water time after old m n before
   mark_for_one water time after parts m n before i old l is all = record {
     water_is = all.water_is;
+    is_water = all.is_water;
     step = all.step;
     stood = subst (stands d i m n before) (sym (is old)) (all.stood.each i old l);
   }

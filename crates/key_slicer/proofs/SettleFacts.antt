@@ -15,7 +15,7 @@ use Rattle.stream_base.proofs.Rising.{Contains-head}
 use Rattle.window_laws.specs.After.{at_water}
 use Rattle.window_laws.specs.Settled.{without_first}
 use Rattle.stream_base.proofs.Filters.{filter_all}
-use Rattle.window_laws.proofs.Order.{runs_behind}
+use Rattle.run_laws.proofs.Order.{runs_behind}
 use Rattle.slice_lists.specs.declared.slice.Slice.{Slice}
 use Rattle.slice_lists.specs.Touched.{slices_from}
 use Rattle.slice_lists.specs.Slices.{AreSlices, joined, slice_of}

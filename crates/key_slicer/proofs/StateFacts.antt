@@ -26,7 +26,7 @@ use Rattle.stream_base.proofs.Distinct.{All_from_members}
 use Rattle.stream_base.proofs.Members.{Contains-insert_cases}
 use Rattle.stream_base.proofs.Rising.{Contains-insert_key_cases}
 use Rattle.window_laws.specs.After.{at_water, with_mark, with_tuple}
-use Rattle.window_laws.specs.Runs.{IsAligned, parted_at}
+use Rattle.run_laws.specs.Runs.{IsAligned, parted_at}
 use Rattle.window_laws.specs.Settled.{without_first}
 use Rattle.window_laws.proofs.SettledFacts.{not_all}
 use Rattle.window_laws.proofs.KeptFacts.{put_is_kept}
@@ -208,14 +208,15 @@ module _ {P : Type 0} (stands : Standing P) (d : Definitions) where
     clock = inl is;
   }
 
-  pub all_take : (is_asked : Definitions → ℕ → Moment → ℕ → P → Type 0) (m : Moment) (water next : ℕ) (s : Stored) (parts later : List P) (x : Kept) (after : Stored) → m.water ≡ water → IsStore s
+  pub all_take : (is_asked : Definitions → ℕ → Moment → ℕ → P → Type 0) (m : Moment) (water next : ℕ) (s : Stored) (parts later : List P) (x : Kept) (after : Stored) → m.water ≡ water → IsWater water → IsStore s
       → (f : StandsFor stands d m next s parts) → next ≤ x.position → x.position < JOURNAL_MAX → x.time ≤ TIME_MAX → m.water ≤ x.time + d.lateness
       → (comes : (n : ℕ) → (more : ℕ) × Comes d n s x more after)
       → ((m : Moment) (n : ℕ) (s : Stored) → AreStanding stands d m n s parts → AreStanding stands d m n s later)
       → ((m : Moment) (n : ℕ) → AllStandAt stands d water s parts m n → EachPart (λ i part. is_asked d i m x.time part) later)
       → AllTakeTuple stands d is_asked water x after later m f.without s (comes f.without).0
-  all_take is_asked m water next s parts later x after is store f l few early in_time comes stays asked = record {
+  all_take is_asked m water next s parts later x after is under store f l few early in_time comes stays asked = record {
     water_is = is;
+    is_water = under;
     step = put_step m next s parts x (comes f.without).0 after f store l few early in_time (comes f.without).1;
     stood = stays m f.without s f.stood;
     asked = asked m f.without (all_stand stands d m water next s parts is store f);

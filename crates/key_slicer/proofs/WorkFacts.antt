@@ -15,7 +15,7 @@ use Rattle.stream_base.specs.declared.kind.Kind.TheVariants.{Tumbling, Sliding, 
 use Rattle.stream_base.specs.Model.Changes.{Moment, changes_between}
 use Rattle.stream_base.specs.Model.Cuts.{has_cut}
 use Rattle.stream_base.specs.Model.Windows.{first_time}
-use Rattle.window_laws.specs.Runs.{parted_at}
+use Rattle.run_laws.specs.Runs.{parted_at}
 use Rattle.partials.specs.Apart.{IsReachOver}
 use Rattle.slice_lists.specs.Touched.{is_across, is_near, slices_from}
 use Rattle.agg_store.specs.Entered.{slices_near}

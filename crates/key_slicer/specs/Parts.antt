@@ -7,6 +7,7 @@ use Rattle.stream_base.specs.declared.def.Def.{Def}
 use Rattle.stream_base.specs.declared.kept.Kept.{Kept}
 use Rattle.stream_base.specs.Model.Changes.{Moment, emissions, retractions}
 use Rattle.agg_store.specs.Stored.{IsStore, Stored}
+use Rattle.key_windows.specs.Calls.{IsWater}
 use Rattle.key_parts.specs.Calls.{Standing}
 use Rattle.key_parts.specs.Held.{IsHeld}
 use Rattle.key_parts.specs.Moves.{AreLists, IsMarkStep, IsPurge, IsPutStep}
@@ -19,6 +20,10 @@ EachPart {P} holds parts = (i : ℕ) (x : P) → i < length parts → holds i (s
 abbrev pub rooms : {P : Type 0} → (ℕ → P → ℕ) → List P → ℕ
 rooms room parts = sum_by (λ w. room w.0 w.1) (enumerate_from 0 parts)
 
+-- what is left, in all parts together, of the steps that were paid for
+abbrev pub all_credit : {P : Type 0} → (P → ℕ) → List P → ℕ
+all_credit credit parts = rooms (λ i part. credit part) parts
+
 -- a time is the least of a greatest one and of what is said of each part, with its place
 pub record IsLeastOf {P : Type 0} (time_of : ℕ → P → ℕ) (most : ℕ) (parts : List P) (time : ℕ) : Type 0 where
   pub by_most : time ≤ most
@@ -28,6 +33,10 @@ pub record IsLeastOf {P : Type 0} (time_of : ℕ → P → ℕ) (most : ℕ) (pa
 -- the changes of one window, retractions first
 abbrev pub turns : List ℕ → Moment → Moment → ℕ × Def → List Change
 turns key old new w = retractions key old new w ++ emissions key old new w
+
+-- no part has missed anything at a watermark, with this store
+abbrev pub AllAhead : {P : Type 0} → (Definitions → ℕ → ℕ → Stored → P → Type 0) → Definitions → ℕ → Stored → List P → Type 0
+AllAhead is_ahead d water s parts = EachPart (λ i part. is_ahead d i water s part) parts
 
 module _ {P : Type 0} (stands : Standing P) (d : Definitions) where
   -- there are as many parts as windows, and each stands for what is known of a key, of which the store lacks so many first tuples
@@ -46,6 +55,7 @@ module _ {P : Type 0} (stands : Standing P) (d : Definitions) where
   -- a tuple comes to parts that have kept what it changes
   pub record AllTakeTuple (is_asked : Definitions → ℕ → Moment → ℕ → P → Type 0) (water : ℕ) (x : Kept) (after : Stored) (parts : List P) (m : Moment) (n : ℕ) (before : Stored) (more : ℕ) : Type 0 where
     pub water_is : m.water ≡ water
+    pub is_water : IsWater water
     pub step : IsPutStep d m n before x more after
     pub stood : AreStanding m n before parts
     pub asked : EachPart (λ i part. is_asked d i m x.time part) parts
@@ -53,6 +63,7 @@ module _ {P : Type 0} (stands : Standing P) (d : Definitions) where
   -- a mark comes to the parts
   pub record AllTakeMark (water time : ℕ) (after : Stored) (parts : List P) (m : Moment) (n : ℕ) (before : Stored) : Type 0 where
     pub water_is : m.water ≡ water
+    pub is_water : IsWater water
     pub step : IsMarkStep d m n before time after
     pub stood : AreStanding m n before parts
 

@@ -1,10 +1,13 @@
 -- For which lists the state of a key stands, and for which call it has room.
-use Rattle.std.specs.Prelude.{◌≡◌, ◌≤◌, ◌⊎◌, ℕ, List, []}
+use Rattle.std.specs.Prelude.{◌≡◌, ◌≤◌, ◌⊎◌, ℕ, List, [], All}
+use Rattle.std.specs.List.{Contains}
 use Rattle.stream_base.specs.Limits.{Definitions}
 use Rattle.stream_base.specs.declared.change.Change.{Change}
 use Rattle.stream_base.specs.declared.kept.Kept.{Kept}
+use Rattle.stream_base.specs.declared.limits.TheConstants.{TIME_MAX}
 use Rattle.stream_base.specs.Model.Changes.{Moment}
-use Rattle.agg_store.specs.Stored.{Stored}
+use Rattle.stream_base.specs.Model.Windows.{first_time}
+use Rattle.agg_store.specs.Stored.{IsSliced, Stored, tuples_of}
 use Rattle.key_windows.specs.Calls.{Call, IsWater, moment}
 use Rattle.key_windows.specs.Calls.Call.{Put, Mark, Move}
 use Rattle.key_parts.specs.Calls.{Standing}
@@ -33,6 +36,29 @@ module _ {P : Type 0} (stands : Standing P) (d : Definitions) where
     pub known : StandsFor (moment kept marks water) next s parts
     pub none_settled : NoneSettled d (moment kept marks water) s
     pub clock : IsWater water ⊎ IsBlank kept marks next s parts
+
+  -- a key's state stands for some tuples and marks under a watermark
+  pub record FitsSome (water next : ℕ) (s : Stored) (parts : List P) : Type 0 where
+    pub is_water : IsWater water
+    pub key : (kept : List Kept) × (marks : List ℕ) × Fits kept marks water next s parts
+
+  -- a key's store and its parts stand for some tuples and marks under a watermark, under which tuples in the store may be settled
+  pub record MayPurge (water next : ℕ) (s : Stored) (parts : List P) : Type 0 where
+    pub is_water : IsWater water
+    pub key : (kept : List Kept) × (marks : List ℕ) × StandsFor (moment kept marks water) next s parts
+
+-- a time is that of the first tuple in a store
+pub record IsFirstTime (s : Stored) (time : ℕ) : Type 0 where
+  pub least : All (λ run. time ≤ first_time run) s.slices
+  pub is_one : (x : Kept) × Contains (tuples_of s) x × (x.time ≡ time)
+  pub early : time ≤ TIME_MAX
+
+-- a tuple at a time within the limits may enter a store, which has room and is sliced by the windows; where each of them counts events it has no slices
+pub record MayEnter (d : Definitions) (time : ℕ) (s : Stored) : Type 0 where
+  pub room : 1 ≤ s.spare
+  pub within : time ≤ TIME_MAX
+  pub sliced : IsSliced d.windows s
+  pub bare : all_count_events d → s.slices ≡ []
 
 -- each part is ready and the store has room for what comes; and so much room is promised as all parts need, for changes that are put together first
 pub record IsReadyToTake {P : Type 0} (is_ready : ℕ → P → Type 0) (room : ℕ → P → ℕ) (water : ℕ) (s : Stored) (parts : List P) (promise : ℕ) (scratch : List Change) (spare : ℕ) : Type 0 where

@@ -1,6 +1,6 @@
 //! The state of a key as an engine.
 ghost use Rattle.std.specs.Prelude.{vec_capacity, vec_len, ◌-◌};
-ghost use Rattle.key_slicer.specs.Parts.{EachPart, rooms};
+ghost use Rattle.key_slicer.specs.Parts.{AllAhead, all_credit};
 ghost use Rattle.key_slicer.specs.States.{Fits, IsReady};
 ghost use Rattle.key_slicer.specs.Work.{bounds_mark, bounds_put, catch_up, mark_work, move_work, put_work};
 
@@ -39,10 +39,9 @@ impl<T: AggTree<Bundle> + Drop, P: AnyPart> KeyWindows for KeyState<T, P> {
     ghost bounds_mark = { λ d key old new time most.
         bounds_mark T.bounded d key old new time most };
 
-    ghost credit = { λ k. rooms (λ i part. P.credit part) k.parts.list.items };
+    ghost credit = { λ k. all_credit P.credit k.parts.list.items };
 
-    ghost is_ahead = { λ d water k. EachPart (λ i part. P.is_ahead d i water k.store part)
-        k.parts.list.items };
+    ghost is_ahead = { λ d water k. AllAhead P.is_ahead d water k.store k.parts.list.items };
 
     ghost move_work = { λ d old new before after. move_work P.taken_up d before.key old new
         before.store after.store };

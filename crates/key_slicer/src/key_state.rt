@@ -1,16 +1,14 @@
 //! The state of a key.
-ghost use Rattle.std.specs.Prelude.{◌≡◌, ◌≤◌, ◌+◌, ◌-◌, ◌*◌, [], ℕ, length, true, All, IfNone, IfSome, OnOk, vec_capacity, vec_len};
-ghost use Rattle.std.specs.List.{Contains, list_all};
-ghost use Rattle.stream_base.specs.declared.kept.Kept.{Kept};
+ghost use Rattle.std.specs.Prelude.{◌≡◌, ◌≤◌, ◌+◌, ◌-◌, ◌*◌, [], ℕ, length, true, IfNone, IfSome, OnOk, vec_capacity, vec_len};
+ghost use Rattle.std.specs.List.{list_all};
 ghost use Rattle.stream_base.specs.Model.Slices.{is_events};
-ghost use Rattle.stream_base.specs.Model.Windows.{first_time};
-ghost use Rattle.stream_base.specs.declared.limits.TheConstants.{TIME_MAX};
 ghost use Rattle.partials.specs.Apart.{IsReachOver};
 ghost use Rattle.agg_store.specs.Entered.{slices_near};
 ghost use Rattle.slice_lists.specs.Slices.{joined};
-ghost use Rattle.agg_store.specs.Stored.{IsSliced, IsStore, tuples_of};
+ghost use Rattle.agg_store.specs.Stored.{IsStore};
 ghost use Rattle.key_windows.specs.Calls.{IsWater, kept_at};
 ghost use Rattle.key_parts.specs.Moves.{Comes, all_count_events};
+ghost use Rattle.key_slicer.specs.States.{IsFirstTime, MayEnter};
 
 use crate::parts::Parts;
 use agg_laws::{AggTree, Steps};
@@ -64,11 +62,7 @@ pub fn vouch<T: AggTree<Bundle>>(store: &SliceStore<T>)
 // The time of the first tuple in a store.
 pub fn first_time<T: AggTree<Bundle>>(store: &SliceStore<T>) -> Option<u64>
     ensures none { IfNone result (store.now.slices ≡ []) }
-    ensures least { IfSome result
-        (λ time. All (λ run. time ≤ first_time run) store.now.slices) }
-    ensures is_one { IfSome result
-        (λ time. (x : Kept) × Contains (tuples_of store.now) x × (x.time ≡ time)) }
-    ensures early { IfSome result (λ time. time ≤ TIME_MAX) }
+    ensures first { IfSome result (IsFirstTime store.now) }
 {
     let first = store.slice_from(0)?;
     Some(first.low)
@@ -100,10 +94,7 @@ pub fn put_in<T: AggTree<Bundle>, L>(
     value: i64,
     steps: &mut Steps<L>,
 )
-    requires room { 1 ≤ store.old.spare }
-    requires time { time ≤ TIME_MAX }
-    requires sliced { IsSliced (defs.now).windows store.old }
-    requires bare { all_count_events defs.now → store.old.slices ≡ [] }
+    requires { MayEnter defs.now time store.old }
     ensures comes { (n : ℕ) → (more : ℕ)
         × Comes defs.now n store.old (kept_at pos time value) more store.new }
     ensures bare { all_count_events defs.now → store.new.slices ≡ [] }

@@ -3,9 +3,9 @@ ghost use Rattle.std.specs.Prelude.{◌≡◌, ◌≤◌, ◌+◌, ◌-◌, ◌*
 ghost use Rattle.stream_base.specs.declared.kept.Kept.{Kept};
 ghost use Rattle.slice_lists.specs.Touched.{slices_from};
 ghost use Rattle.agg_store.specs.Stored.{IsStore};
-ghost use Rattle.key_windows.specs.Calls.{IsWater, moment};
-ghost use Rattle.key_slicer.specs.Parts.{EachPart, rooms};
-ghost use Rattle.key_slicer.specs.States.{Fits, StandsFor};
+ghost use Rattle.key_windows.specs.Calls.{moment};
+ghost use Rattle.key_slicer.specs.Parts.{AllAhead, all_credit};
+ghost use Rattle.key_slicer.specs.States.{Fits, MayPurge, StandsFor};
 
 use crate::key_state::{KeyState, all_count_events, first_time, vouch};
 use agg_laws::{AggTree, Steps};
@@ -17,9 +17,8 @@ use stream_base::Defs;
 impl<T: AggTree<Bundle>, P: KeyPart> KeyState<T, P> {
     // Lets the slices leave that are settled under the watermark, and what the parts need no more.
     pub fn purge<L>(&mut self, defs: &Defs, water: u64, steps: &mut Steps<L>)
-        requires stands { (kept : List Kept) × (marks : List ℕ) × StandsFor P.stands defs.now
-            (moment kept marks water) self.old.next self.old.store self.old.parts.list.items }
-        requires water { IsWater water }
+        requires { MayPurge P.stands defs.now water self.old.next self.old.store
+            self.old.parts.list.items }
         ensures key { self.new.key ≡ self.old.key }
         ensures next { self.new.next ≡ self.old.next }
         ensures fits { (kept : List Kept) (marks : List ℕ) → StandsFor P.stands defs.now
@@ -30,12 +29,10 @@ impl<T: AggTree<Bundle>, P: KeyPart> KeyState<T, P> {
         ensures reach { self.new.store.reach ≤ self.old.store.reach }
         ensures work { steps.new ≤ steps.old + 64 * (self.old.store.reach + 2)
             * (length self.old.store.slices - length self.new.store.slices) }
-        ensures credit { rooms (λ i part. P.credit part) self.new.parts.list.items
-            ≤ rooms (λ i part. P.credit part) self.old.parts.list.items }
-        ensures ahead { EachPart (λ i part. P.is_ahead defs.now i water self.old.store part)
-            self.old.parts.list.items
-            → EachPart (λ i part. P.is_ahead defs.now i water self.new.store part)
-            self.new.parts.list.items }
+        ensures credit { all_credit P.credit self.new.parts.list.items
+            ≤ all_credit P.credit self.old.parts.list.items }
+        ensures ahead { AllAhead P.is_ahead defs.now water self.old.store self.old.parts.list.items
+            → AllAhead P.is_ahead defs.now water self.new.store self.new.parts.list.items }
     {
         vouch(&self.store);
         if all_count_events(defs) {

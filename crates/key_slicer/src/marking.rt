@@ -1,12 +1,13 @@
 //! The parts of a key's windows where a mark comes.
-ghost use Rattle.std.specs.Prelude.{◌≡◌, ◌≤◌, ◌+◌, ◌-◌, ◌*◌, ◌++◌, ℕ, IfOk, OnOk, vec_len, vec_capacity};
+ghost use Rattle.std.specs.Prelude.{◌≡◌, ◌≤◌, ◌+◌, ◌-◌, ◌*◌, ◌++◌, ℕ, vec_len};
 ghost use Rattle.std.specs.List.{enumerate_from, flat_map};
-ghost use Rattle.stream_base.specs.declared.limits.TheConstants.{TIME_MAX};
 ghost use Rattle.stream_base.specs.Model.Changes.{Moment};
+ghost use Rattle.stream_base.specs.Vectors.{room};
 ghost use Rattle.window_laws.specs.After.{with_mark};
 ghost use Rattle.agg_store.specs.Stored.{Stored};
-ghost use Rattle.key_windows.specs.Calls.{IsWater};
-ghost use Rattle.key_slicer.specs.Parts.{AllStandAt, AllTakeMark, AreStanding, EachPart, rooms, turns};
+ghost use Rattle.key_parts.specs.Calls.{MayCome, Prepares};
+ghost use Rattle.key_parts.specs.Work.{AddsAtMost, Spends};
+ghost use Rattle.key_slicer.specs.Parts.{AllAhead, AllStandAt, AllTakeMark, AreStanding, EachPart, all_credit, rooms, turns};
 
 use crate::parts::{Parts, sum_of, window_count};
 use agg_laws::{AggTree, Steps};
@@ -18,22 +19,12 @@ use stream_base::{Change, Defs, KeyText, NoMemory};
 impl<P: KeyPart> Parts<P> {
     // Makes room for a mark at a time in each part, and answers for how many changes.
     pub fn reserve_mark(&mut self, defs: &Defs, time: u64, water: u64) -> Result<u64, NoMemory>
-        requires stands { (m : Moment) × (n : ℕ) × (s : Stored)
-            × AllStandAt P.stands defs.now water s self.old.list.items m n }
-        requires time { time ≤ TIME_MAX }
-        requires water { IsWater water }
-        ensures stays { (m : Moment) (n : ℕ) (s : Stored)
-            → AreStanding P.stands defs.now m n s self.old.list.items
-            → AreStanding P.stands defs.now m n s self.new.list.items }
-        ensures ready { OnOk result (EachPart
-            (λ i part. P.is_ready defs.now i time water part) self.new.list.items) }
-        ensures room { IfOk result (λ k. k
-            ≡ rooms (λ i part. P.mark_room defs.now i time water part) self.new.list.items) }
-        ensures credit { rooms (λ i part. P.credit part) self.new.list.items
-            ≤ rooms (λ i part. P.credit part) self.old.list.items }
-        ensures ahead { (w : ℕ) (s : Stored)
-            → EachPart (λ i part. P.is_ahead defs.now i w s part) self.old.list.items
-            → EachPart (λ i part. P.is_ahead defs.now i w s part) self.new.list.items }
+        requires { (s : Stored)
+            × MayCome (AllStandAt P.stands defs.now) time water s self.old.list.items }
+        ensures { Prepares (AreStanding P.stands defs.now) (AllAhead P.is_ahead defs.now)
+            (all_credit P.credit) (EachPart (λ i part. P.is_ready defs.now i time water part))
+            (rooms (λ i part. P.mark_room defs.now i time water part))
+            self.old.list.items self.new.list.items result }
     {
         let mut room: u64 = 0;
         for window in 0..window_count(defs) {
@@ -56,11 +47,10 @@ impl<P: KeyPart> Parts<P> {
     )
         requires takes { (m : Moment) × (n : ℕ) × (before : Stored)
             × AllTakeMark P.stands defs.now water time store.now self.old.list.items m n before }
-        requires water { IsWater water }
         requires ready { EachPart
             (λ i part. P.is_ready defs.now i time water part) self.old.list.items }
         requires spare { rooms (λ i part. P.mark_room defs.now i time water part)
-            self.old.list.items ≤ vec_capacity out.old - vec_len out.old }
+            self.old.list.items ≤ room out.old }
         ensures stands { (m : Moment) (n : ℕ) (before : Stored)
             → AllTakeMark P.stands defs.now water time store.now self.old.list.items m n before
             → AreStanding P.stands defs.now (with_mark m time) n store.now self.new.list.items }
@@ -68,19 +58,17 @@ impl<P: KeyPart> Parts<P> {
             → AllTakeMark P.stands defs.now water time store.now self.old.list.items m n before
             → out.new.items ≡ out.old.items
             ++ flat_map (turns key.now m (with_mark m time)) (enumerate_from 0 (defs.now).windows) }
-        ensures room { vec_len out.new ≤ vec_len out.old
-            + rooms (λ i part. P.mark_room defs.now i time water part) self.old.list.items }
-        ensures capacity { vec_capacity out.new ≡ vec_capacity out.old }
-        ensures work { steps.new ≤ steps.old
-            + 64 * (store.now.reach + 2) * (vec_len out.new - vec_len out.old) }
-        ensures credit { rooms (λ i part. P.credit part) self.new.list.items
-            ≤ rooms (λ i part. P.credit part) self.old.list.items }
+        ensures adds { AddsAtMost
+            (rooms (λ i part. P.mark_room defs.now i time water part) self.old.list.items)
+            out.old out.new }
+        ensures cost { Spends (64 * (store.now.reach + 2) * (vec_len out.new - vec_len out.old))
+            steps.old steps.new (all_credit P.credit self.old.list.items)
+            (all_credit P.credit self.new.list.items) }
         ensures ahead { (m : Moment) (n : ℕ) (before : Stored)
             → AllTakeMark P.stands defs.now water time store.now self.old.list.items m n before
             → water ≤ time
-            → EachPart (λ i part. P.is_ahead defs.now i water before part) self.old.list.items
-            → EachPart (λ i part. P.is_ahead defs.now i water store.now part)
-            self.new.list.items }
+            → AllAhead P.is_ahead defs.now water before self.old.list.items
+            → AllAhead P.is_ahead defs.now water store.now self.new.list.items }
     {
         for window in 0..window_count(defs) {
             self.list[window as usize].mark(defs, window, store, key, time, water, out, steps);

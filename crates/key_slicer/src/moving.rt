@@ -1,13 +1,14 @@
 //! The parts of a key's windows where the watermark moves.
-ghost use Rattle.std.specs.Prelude.{◌≡◌, ◌≢◌, ◌≤◌, ◌<◌, ◌+◌, ◌-◌, ◌++◌, [], ℕ, List, IfOk, OnOk, vec_len, vec_capacity};
+ghost use Rattle.std.specs.Prelude.{◌≡◌, ◌≢◌, ◌≤◌, ◌<◌, ◌+◌, ◌++◌, [], ℕ, List};
 ghost use Rattle.std.specs.List.{enumerate_from, flat_map};
 ghost use Rattle.stream_base.specs.declared.limits.TheConstants.{FINAL};
 ghost use Rattle.stream_base.specs.Laws.{completions};
 ghost use Rattle.stream_base.specs.Model.Changes.{Moment};
+ghost use Rattle.stream_base.specs.Vectors.{room};
 ghost use Rattle.window_laws.specs.After.{at_water};
-ghost use Rattle.agg_store.specs.Stored.{Stored};
-ghost use Rattle.key_windows.specs.Calls.{IsWater};
-ghost use Rattle.key_slicer.specs.Parts.{AllStandAt, AreStanding, EachPart, rooms};
+ghost use Rattle.key_parts.specs.Calls.{MayMove, Prepares, StandsForSome};
+ghost use Rattle.key_parts.specs.Work.{AddsAtMost};
+ghost use Rattle.key_slicer.specs.Parts.{AllAhead, AllStandAt, AreStanding, EachPart, all_credit, rooms};
 ghost use Rattle.key_slicer.specs.Work.{catch_up, moves_work};
 
 use crate::parts::{Parts, sum_of, window_count};
@@ -26,24 +27,12 @@ impl<P: KeyPart> Parts<P> {
         old: u64,
         new: u64,
     ) -> Result<u64, NoMemory>
-        requires stands { (m : Moment) × (n : ℕ)
-            × AllStandAt P.stands defs.now old store.now self.old.list.items m n }
-        requires rises { old ≤ new }
-        requires old { IsWater old }
-        requires new { IsWater new }
-        ensures stays { (m : Moment) (n : ℕ) (s : Stored)
-            → AreStanding P.stands defs.now m n s self.old.list.items
-            → AreStanding P.stands defs.now m n s self.new.list.items }
-        ensures ready { OnOk result (EachPart
-            (λ i part. P.can_move defs.now i store.now old new part) self.new.list.items) }
-        ensures room { IfOk result (λ k. k
-            ≡ rooms (λ i part. P.move_room defs.now i store.now old new part)
-            self.new.list.items) }
-        ensures credit { rooms (λ i part. P.credit part) self.new.list.items
-            ≤ rooms (λ i part. P.credit part) self.old.list.items }
-        ensures ahead { (w : ℕ) (s : Stored)
-            → EachPart (λ i part. P.is_ahead defs.now i w s part) self.old.list.items
-            → EachPart (λ i part. P.is_ahead defs.now i w s part) self.new.list.items }
+        requires { MayMove (AllStandAt P.stands defs.now) old new store.now self.old.list.items }
+        ensures { Prepares (AreStanding P.stands defs.now) (AllAhead P.is_ahead defs.now)
+            (all_credit P.credit)
+            (EachPart (λ i part. P.can_move defs.now i store.now old new part))
+            (rooms (λ i part. P.move_room defs.now i store.now old new part))
+            self.old.list.items self.new.list.items result }
     {
         let mut room: u64 = 0;
         for window in 0..window_count(defs) {
@@ -64,15 +53,12 @@ impl<P: KeyPart> Parts<P> {
         out: &mut Vec<Change>,
         steps: &mut Steps<L>,
     )
-        requires stands { (m : Moment) × (n : ℕ)
-            × AllStandAt P.stands defs.now old store.now self.old.list.items m n }
-        requires rises { old ≤ new }
-        requires old { IsWater old }
-        requires new { IsWater new }
+        requires moves { MayMove (AllStandAt P.stands defs.now) old new store.now
+            self.old.list.items }
         requires ready { EachPart
             (λ i part. P.can_move defs.now i store.now old new part) self.old.list.items }
         requires spare { rooms (λ i part. P.move_room defs.now i store.now old new part)
-            self.old.list.items ≤ vec_capacity out.old - vec_len out.old }
+            self.old.list.items ≤ room out.old }
         ensures stands { (m : Moment) (n : ℕ)
             → AllStandAt P.stands defs.now old store.now self.old.list.items m n
             → AreStanding P.stands defs.now (at_water m new) n store.now self.new.list.items }
@@ -80,22 +66,22 @@ impl<P: KeyPart> Parts<P> {
             → AllStandAt P.stands defs.now old store.now self.old.list.items m n
             → out.new.items ≡ out.old.items
             ++ flat_map (completions key.now m new) (enumerate_from 0 (defs.now).windows) }
-        ensures room { vec_len out.new ≤ vec_len out.old
-            + rooms (λ i part. P.move_room defs.now i store.now old new part) self.old.list.items }
-        ensures capacity { vec_capacity out.new ≡ vec_capacity out.old }
+        ensures adds { AddsAtMost
+            (rooms (λ i part. P.move_room defs.now i store.now old new part) self.old.list.items)
+            out.old out.new }
         ensures ahead { (m : Moment) (n : ℕ)
             → AllStandAt P.stands defs.now old store.now self.old.list.items m n
-            → EachPart (λ i part. P.is_ahead defs.now i new store.now part) self.new.list.items }
+            → AllAhead P.is_ahead defs.now new store.now self.new.list.items }
         ensures work_ahead { (m : Moment) (n : ℕ)
             → AllStandAt P.stands defs.now old store.now self.old.list.items m n
-            → EachPart (λ i part. P.is_ahead defs.now i old store.now part) self.old.list.items
-            → steps.new + rooms (λ i part. P.credit part) self.new.list.items
-            ≤ steps.old + rooms (λ i part. P.credit part) self.old.list.items
+            → AllAhead P.is_ahead defs.now old store.now self.old.list.items
+            → steps.new + all_credit P.credit self.new.list.items
+            ≤ steps.old + all_credit P.credit self.old.list.items
             + moves_work P.taken_up defs.now key.now m new store.now }
         ensures work { (m : Moment) (n : ℕ)
             → AllStandAt P.stands defs.now old store.now self.old.list.items m n
-            → steps.new + rooms (λ i part. P.credit part) self.new.list.items
-            ≤ steps.old + rooms (λ i part. P.credit part) self.old.list.items
+            → steps.new + all_credit P.credit self.new.list.items
+            ≤ steps.old + all_credit P.credit self.old.list.items
             + (moves_work P.taken_up defs.now key.now m new store.now
             + catch_up P.missed defs.now store.now old) }
     {
@@ -112,9 +98,8 @@ impl<P: KeyPart> Parts<P> {
         store: &SliceStore<T>,
         water: u64,
     ) -> u64
-        requires stands { (m : Moment) × (n : ℕ)
-            × AllStandAt P.stands defs.now water store.now self.now.list.items m n }
-        requires water { IsWater water }
+        requires { StandsForSome (AllStandAt P.stands defs.now) water store.now
+            self.now.list.items }
         ensures none_before { (key : List ℕ) (m : Moment) (n new : ℕ)
             → AllStandAt P.stands defs.now water store.now self.now.list.items m n
             → water ≤ new → new < result

@@ -3,7 +3,7 @@ ghost use Rattle.std.specs.Prelude.{◌≡◌, ◌≤◌, ◌+◌, [], ℕ, leng
 ghost use Rattle.stream_base.specs.declared.limits.TheConstants.{WINDOWS_MAX};
 ghost use Rattle.agg_store.specs.Stored.{Stored};
 ghost use Rattle.key_windows.specs.Calls.{moment};
-ghost use Rattle.key_slicer.specs.Parts.{AreStanding, EachPart, rooms};
+ghost use Rattle.key_slicer.specs.Parts.{AllAhead, AreStanding, all_credit};
 
 use key_parts::{AnyPart, KeyPart};
 use std::alloc::Global;
@@ -20,11 +20,9 @@ impl<P: AnyPart> Parts<P> {
     pub fn fresh(alloc: Global, defs: &Defs) -> Result<Parts<P>, NoMemory>
         ensures stands { (water : ℕ) (s : Stored) → s.slices ≡ [] → IfOk result
             (λ parts. AreStanding P.stands defs.now (moment [] [] water) 0 s parts.list.items) }
-        ensures credit { IfOk result
-            (λ parts. rooms (λ i part. P.credit part) parts.list.items ≡ 0) }
+        ensures credit { IfOk result (λ parts. all_credit P.credit parts.list.items ≡ 0) }
         ensures ahead { (water : ℕ) (s : Stored) → s.slices ≡ [] → IfOk result
-            (λ parts. EachPart (λ i part. P.is_ahead defs.now i water s part)
-            parts.list.items) }
+            (λ parts. AllAhead P.is_ahead defs.now water s parts.list.items) }
     {
         let count = window_count(defs);
         let mut list = Vec::new(alloc);

@@ -1,14 +1,13 @@
 //! The parts of a key's windows where settled slices leave.
 ghost use Rattle.std.specs.Prelude.{◌≡◌, ◌≤◌, ◌<◌, ◌-◌, ℕ, length};
-ghost use Rattle.stream_base.specs.declared.limits.TheConstants.{TIME_MAX};
 ghost use Rattle.stream_base.specs.Model.Changes.{Moment};
 ghost use Rattle.window_laws.specs.After.{at_water};
 ghost use Rattle.window_laws.specs.Settled.{without_first};
 ghost use Rattle.agg_store.specs.Stored.{Stored};
-ghost use Rattle.key_windows.specs.Calls.{IsWater};
-ghost use Rattle.key_parts.specs.Calls.{window_at};
+ghost use Rattle.key_windows.specs.Calls.{IsWater, LeadsOn};
+ghost use Rattle.key_parts.specs.Calls.{MayTell, window_at};
 ghost use Rattle.key_parts.specs.Moves.{SettlesUpTo};
-ghost use Rattle.key_slicer.specs.Parts.{AllLoseSettled, AllStandAt, AreStanding, EachPart, IsLeastOf, rooms};
+ghost use Rattle.key_slicer.specs.Parts.{AllAhead, AllLoseSettled, AllStandAt, AreStanding, EachPart, IsLeastOf, all_credit};
 
 use crate::parts::{Parts, window_count};
 use key_parts::KeyPart;
@@ -18,9 +17,8 @@ impl<P: KeyPart> Parts<P> {
     // Up to which time all tuples are settled under a watermark, its own or a later one: the least
     // of the watermark minus the lateness and of the times of the windows.
     pub fn first_unsettled(&self, defs: &Defs, water: u64) -> u64
-        requires stands { (m : Moment) × (n : ℕ) × (s : Stored) × (w : ℕ)
-            × AllStandAt P.stands defs.now w s self.now.list.items m n × (w ≤ water) }
-        requires water { IsWater water }
+        requires { (m : Moment) × (n : ℕ) × (s : Stored) × (w : ℕ)
+            × AllStandAt P.stands defs.now w s self.now.list.items m n × LeadsOn w water }
         ensures least { IsLeastOf (λ i part. P.settles_at defs.now i water part)
             (water - (defs.now).lateness) self.now.list.items result }
         ensures settles { (m : Moment) (n : ℕ) (s : Stored) (w : ℕ) → w ≤ water
@@ -39,9 +37,7 @@ impl<P: KeyPart> Parts<P> {
     // By which watermark tuples at a time lie before the least of the watermark minus the lateness
     // and of the times of the windows, and by none before.
     pub fn settled_by(&self, defs: &Defs, time: u64) -> u64
-        requires stands { (m : Moment) × (n : ℕ) × (s : Stored) × (w : ℕ)
-            × AllStandAt P.stands defs.now w s self.now.list.items m n }
-        requires time { time ≤ TIME_MAX }
+        requires { MayTell (AllStandAt P.stands defs.now) time self.now.list.items }
         ensures later { time < result }
         ensures before { (water least : ℕ) → water < result
             → IsLeastOf (λ i part. P.settles_at defs.now i water part)
@@ -70,12 +66,12 @@ impl<P: KeyPart> Parts<P> {
             → AllLoseSettled P.stands defs.now water time self.old.list.items m n before more after
             → EachPart (λ i part. time ≤ P.settles_at defs.now i water part) self.old.list.items
             → AreStanding P.stands defs.now m more after self.new.list.items }
-        ensures credit { rooms (λ i part. P.credit part) self.new.list.items
-            ≤ rooms (λ i part. P.credit part) self.old.list.items }
+        ensures credit { all_credit P.credit self.new.list.items
+            ≤ all_credit P.credit self.old.list.items }
         ensures ahead { (m : Moment) (n time : ℕ) (before : Stored) (more : ℕ) (after : Stored)
             → AllLoseSettled P.stands defs.now water time self.old.list.items m n before more after
-            → EachPart (λ i part. P.is_ahead defs.now i water before part) self.old.list.items
-            → EachPart (λ i part. P.is_ahead defs.now i water after part) self.new.list.items }
+            → AllAhead P.is_ahead defs.now water before self.old.list.items
+            → AllAhead P.is_ahead defs.now water after self.new.list.items }
     {
         for window in 0..window_count(defs) {
             self.list[window as usize].drop_settled(defs, window, water);

@@ -1,14 +1,13 @@
 //! When the next of the tuples in the state of a key are settled.
-ghost use Rattle.std.specs.Prelude.{◌≡◌, ◌≢◌, ◌≤◌, ◌<◌, ℕ, List, All, false, true};
+ghost use Rattle.std.specs.Prelude.{◌≡◌, ◌≢◌, ◌≤◌, ◌<◌, ℕ, List, false, true};
 ghost use Rattle.std.specs.List.{Contains, list_all};
 ghost use Rattle.stream_base.specs.declared.kept.Kept.{Kept};
-ghost use Rattle.stream_base.specs.declared.limits.TheConstants.{FINAL, TIME_MAX};
+ghost use Rattle.stream_base.specs.declared.limits.TheConstants.{FINAL};
 ghost use Rattle.stream_base.specs.Model.Slices.{is_events, is_settled, unsettled};
-ghost use Rattle.stream_base.specs.Model.Windows.{first_time};
 ghost use Rattle.agg_store.specs.Stored.{tuples_of};
 ghost use Rattle.key_windows.specs.Calls.{IsWater, moment};
 ghost use Rattle.held_laws.specs.Settling.{NoneSettled};
-ghost use Rattle.key_slicer.specs.States.{Fits};
+ghost use Rattle.key_slicer.specs.States.{Fits, FitsSome, IsFirstTime};
 
 use crate::key_state::{KeyState, all_count_events, first_time, vouch};
 use agg_laws::AggTree;
@@ -20,9 +19,8 @@ impl<T: AggTree<Bundle>, P: KeyPart> KeyState<T, P> {
     // The first watermark at which a tuple in the store is settled. Later than the final one where
     // none can be.
     pub fn next_settled(&self, defs: &Defs, water: u64) -> u64
-        requires stands { (kept : List Kept) × (marks : List ℕ) × Fits P.stands defs.now kept marks
-            water self.now.next self.now.store self.now.parts.list.items }
-        requires water { IsWater water }
+        requires { FitsSome P.stands defs.now water self.now.next self.now.store
+            self.now.parts.list.items }
         ensures none_before { (kept : List Kept) (marks : List ℕ) (new : ℕ)
             → Fits P.stands defs.now kept marks
             water self.now.next self.now.store self.now.parts.list.items
@@ -46,12 +44,10 @@ impl<T: AggTree<Bundle>, P: KeyPart> KeyState<T, P> {
 
     // By which watermark the tuples at a time are settled, where no tuple in the store is earlier.
     fn settled_by(&self, defs: &Defs, water: u64, time: u64) -> u64
-        requires stands { (kept : List Kept) × (marks : List ℕ) × Fits P.stands defs.now kept marks
-            water self.now.next self.now.store self.now.parts.list.items }
-        requires water { IsWater water }
+        requires stands { FitsSome P.stands defs.now water self.now.next self.now.store
+            self.now.parts.list.items }
         requires some { list_all (λ w. is_events w.kind) (defs.now).windows ≡ false }
-        requires time { time ≤ TIME_MAX }
-        requires first { All (λ run. time ≤ first_time run) self.now.store.slices }
+        requires first { IsFirstTime self.now.store time }
         ensures none_before { (kept : List Kept) (marks : List ℕ) (new : ℕ)
             → Fits P.stands defs.now kept marks
             water self.now.next self.now.store self.now.parts.list.items

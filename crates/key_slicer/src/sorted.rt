@@ -1,15 +1,16 @@
 //! Changes window by window, in the order of an engine's.
-ghost use Rattle.std.specs.Prelude.{◌≡◌, ◌≤◌, ◌-◌, ◌++◌, not, length, filter, vec_len, vec_capacity};
+ghost use Rattle.std.specs.Prelude.{◌≡◌, ◌≤◌, ◌++◌, not, length, filter};
+ghost use Rattle.stream_base.specs.Vectors.{Appends, room};
 ghost use Rattle.key_slicer.specs.Sorted.{is_gone};
 
 use stream_base::Change;
 
 /// Appends all retractions of these changes, and then all others.
 pub fn append_sorted(changes: &[Change], out: &mut Vec<Change>)
-    requires spare { length changes.now ≤ vec_capacity out.old - vec_len out.old }
-    ensures items { out.new.items ≡ out.old.items
-        ++ (filter is_gone changes.now ++ filter (λ change. not (is_gone change)) changes.now) }
-    ensures capacity { vec_capacity out.new ≡ vec_capacity out.old }
+    requires { length changes.now ≤ room out.old }
+    ensures { Appends
+        (filter is_gone changes.now ++ filter (λ change. not (is_gone change)) changes.now)
+        out.old out.new }
 {
     append_gone(changes, out);
     append_others(changes, out);
@@ -17,11 +18,9 @@ pub fn append_sorted(changes: &[Change], out: &mut Vec<Change>)
 
 // Appends the retractions of these changes. The others may still be appended then.
 fn append_gone(changes: &[Change], out: &mut Vec<Change>)
-    requires spare { length changes.now ≤ vec_capacity out.old - vec_len out.old }
-    ensures items { out.new.items ≡ out.old.items ++ filter is_gone changes.now }
-    ensures spare { length (filter (λ change. not (is_gone change)) changes.now)
-        ≤ vec_capacity out.new - vec_len out.new }
-    ensures capacity { vec_capacity out.new ≡ vec_capacity out.old }
+    requires { length changes.now ≤ room out.old }
+    ensures gone { Appends (filter is_gone changes.now) out.old out.new }
+    ensures spare { length (filter (λ change. not (is_gone change)) changes.now) ≤ room out.new }
 {
     for change in changes {
         if is_gone(change) {
@@ -32,11 +31,8 @@ fn append_gone(changes: &[Change], out: &mut Vec<Change>)
 
 // Appends those of these changes that are no retractions.
 fn append_others(changes: &[Change], out: &mut Vec<Change>)
-    requires spare { length (filter (λ change. not (is_gone change)) changes.now)
-        ≤ vec_capacity out.old - vec_len out.old }
-    ensures items { out.new.items
-        ≡ out.old.items ++ filter (λ change. not (is_gone change)) changes.now }
-    ensures capacity { vec_capacity out.new ≡ vec_capacity out.old }
+    requires { length (filter (λ change. not (is_gone change)) changes.now) ≤ room out.old }
+    ensures { Appends (filter (λ change. not (is_gone change)) changes.now) out.old out.new }
 {
     for change in changes {
         if !is_gone(change) {

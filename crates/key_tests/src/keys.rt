@@ -50,13 +50,13 @@ fn fresh<K: KeyWindows>(alloc: Global, defs: &Defs, key: KeyText, water: u64) ->
     K::fresh(alloc, defs, key)
 }
 
-// Room is made for a tuple, and it is put.
+// Room is made for a tuple, and it is put. Times of 32 bits are within the limit here and below.
 fn put<K: KeyWindows>(
     alloc: Global,
     state: &mut K,
     defs: &Defs,
     x: Kept,
-    water: u64,
+    water: u32,
     steps: &mut Steps<Work>,
 ) -> Result<Vec<Change>, NoMemory>
     requires stands { (kept : List Kept) × (marks : List ℕ)
@@ -64,12 +64,12 @@ fn put<K: KeyWindows>(
     requires time { x.time ≤ TIME_MAX }
     requires position { K.next_position state.old ≤ x.position }
     requires few { x.position < JOURNAL_MAX }
-    requires water { water ≤ TIME_MAX }
     requires accepted { water ≤ x.time + (defs.now).lateness }
     ensures next { OnOk result (K.next_position state.new ≡ x.position + 1) }
     ensures stands { OnOk result ((kept : List Kept) × (marks : List ℕ)
         × K.fits defs.now kept marks water state.new) }
 {
+    let water = water as u64;
     let room = state.reserve_put(defs, x.time, water)?;
     let mut out = Vec::with_capacity(alloc, room as usize)?;
     state.put(defs, x.position, x.time, x.value, water, &mut out, steps);
@@ -81,19 +81,18 @@ fn mark<K: KeyWindows>(
     alloc: Global,
     state: &mut K,
     defs: &Defs,
-    time: u64,
-    water: u64,
+    time: u32,
+    water: u32,
     steps: &mut Steps<Work>,
 ) -> Result<Vec<Change>, NoMemory>
     requires stands { (kept : List Kept) × (marks : List ℕ)
         × K.fits defs.now kept marks water state.old }
-    requires time { time ≤ TIME_MAX }
-    requires water { water ≤ TIME_MAX }
     requires accepted { water ≤ time + (defs.now).lateness }
     ensures next { OnOk result (K.next_position state.new ≡ K.next_position state.old) }
     ensures stands { OnOk result ((kept : List Kept) × (marks : List ℕ)
         × K.fits defs.now kept marks water state.new) }
 {
+    let (time, water) = (time as u64, water as u64);
     let room = state.reserve_mark(defs, time, water)?;
     let mut out = Vec::with_capacity(alloc, room as usize)?;
     state.mark(defs, time, water, &mut out, steps);
@@ -105,40 +104,38 @@ fn advance<K: KeyWindows>(
     alloc: Global,
     state: &mut K,
     defs: &Defs,
-    old: u64,
-    new: u64,
+    old: u32,
+    new: u32,
     steps: &mut Steps<Work>,
 ) -> Result<Vec<Change>, NoMemory>
     requires stands { (kept : List Kept) × (marks : List ℕ)
         × K.fits defs.now kept marks old state.old }
     requires rises { old ≤ new }
-    requires water { new ≤ TIME_MAX }
     ensures next { OnOk result (K.next_position state.new ≡ K.next_position state.old) }
     ensures stands { OnOk result ((kept : List Kept) × (marks : List ℕ)
         × K.fits defs.now kept marks new state.new) }
 {
+    let (old, new) = (old as u64, new as u64);
     let room = state.reserve_water(defs, old, new)?;
     let mut out = Vec::with_capacity(alloc, room as usize)?;
     state.water(defs, old, new, &mut out, steps);
     Ok(out)
 }
 
-fn due<K: KeyWindows>(state: &K, defs: &Defs, water: u64) -> u64
-    requires stands { (kept : List Kept) × (marks : List ℕ)
+fn due<K: KeyWindows>(state: &K, defs: &Defs, water: u32) -> u64
+    requires { (kept : List Kept) × (marks : List ℕ)
         × K.fits defs.now kept marks water state.now }
-    requires water { water ≤ TIME_MAX }
 {
-    state.next_due(defs, water)
+    state.next_due(defs, water as u64)
 }
 
 // The slices under a watermark of a state that stands under this one or an earlier one.
-fn slices<K: KeyWindows>(state: &K, defs: &Defs, old: u64, water: u64) -> u64
+fn slices<K: KeyWindows>(state: &K, defs: &Defs, old: u32, water: u32) -> u64
     requires stands { (kept : List Kept) × (marks : List ℕ)
         × K.fits defs.now kept marks old state.now }
     requires rises { old ≤ water }
-    requires water { water ≤ TIME_MAX }
 {
-    state.slice_count(defs, water)
+    state.slice_count(defs, water as u64)
 }
 
 fn kept(position: u64, time: u64, value: i64) -> Kept

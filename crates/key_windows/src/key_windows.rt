@@ -1,11 +1,11 @@
 //! What an engine for the windows of one key promises.
-ghost use Rattle.std.specs.Prelude.{◌≡◌, ◌≤◌, ◌<◌, ◌+◌, ◌-◌, ◌++◌, [], ℕ, List, length, IfOk, OnErr, vec_len, vec_capacity};
+ghost use Rattle.std.specs.Prelude.{◌≡◌, ◌≤◌, ◌<◌, ◌+◌, [], ℕ, List, length, IfOk, vec_len};
 ghost use Rattle.std.specs.BTreeSet.{insert_key};
 ghost use Rattle.std.specs.Ordering.{nat_cmp};
 ghost use Rattle.stream_base.specs.declared.kept.Kept.{Kept};
-ghost use Rattle.stream_base.specs.declared.limits.TheConstants.{FINAL, JOURNAL_MAX, TIME_MAX};
+ghost use Rattle.stream_base.specs.declared.limits.TheConstants.{FINAL, JOURNAL_MAX};
 ghost use Rattle.stream_base.specs.Model.Journal.{put_in_order};
-ghost use Rattle.key_windows.specs.Calls.{BringsMore, IsWater, changes_by_mark, changes_by_move, changes_by_put, kept_at, moment, slices_at};
+ghost use Rattle.key_windows.specs.Calls.{BringsMore, IsWater, MakesRoom, MayReserve, MayTakeIn, StandsUnder, StaysAhead, TakesIn, changes_by_move, kept_at, moment, slices_at};
 ghost use Rattle.key_windows.specs.Calls.Call.{Put, Mark, Move};
 
 use agg_laws::Steps;
@@ -76,18 +76,9 @@ pub trait KeyWindows: Drop {
 
     /// Makes room for a tuple at a time.
     fn reserve_put(&mut self, defs: &Defs, time: u64, water: u64) -> Result<u64, NoMemory>
-        requires stands { (kept : List Kept) × (marks : List ℕ)
-            × fits defs.now kept marks water self.old }
-        requires time { time ≤ TIME_MAX }
-        requires water { IsWater water }
-        ensures key { key_of self.new ≡ key_of self.old }
-        ensures next { next_position self.new ≡ next_position self.old }
-        ensures stays { (kept : List Kept) (marks : List ℕ) (w : ℕ)
-            → fits defs.now kept marks w self.old → fits defs.now kept marks w self.new }
-        ensures ready { IfOk result (λ n. is_ready defs.now (Put time water) self.new) }
-        ensures promised { IfOk result (λ n. promised self.new ≡ n) }
-        ensures credit { credit self.new ≤ credit self.old }
-        ensures ahead { (w : ℕ) → is_ahead defs.now w self.old → is_ahead defs.now w self.new };
+        requires { MayReserve fits defs.now (Put time water) self.old }
+        ensures { MakesRoom fits defs.now key_of next_position is_ready promised credit is_ahead
+            (Put time water) self.old self.new result };
 
     /// Takes in an accepted tuple.
     fn put<L>(
@@ -100,23 +91,13 @@ pub trait KeyWindows: Drop {
         out: &mut Vec<Change>,
         steps: &mut Steps<L>,
     )
-        requires stands { (kept : List Kept) × (marks : List ℕ)
-            × fits defs.now kept marks water self.old }
-        requires time { time ≤ TIME_MAX }
+        requires comes { MayTakeIn fits defs.now is_ready promised (Put time water)
+            self.old out.old }
         requires position { next_position self.old ≤ pos }
         requires few { pos < JOURNAL_MAX }
-        requires accepted { water ≤ time + (defs.now).lateness }
-        requires ready { is_ready defs.now (Put time water) self.old }
-        requires spare { promised self.old ≤ vec_capacity out.old - vec_len out.old }
-        ensures key { key_of self.new ≡ key_of self.old }
-        ensures next { next_position self.new ≡ pos + 1 }
-        ensures fits { (kept : List Kept) (marks : List ℕ) → fits defs.now kept marks water self.old
-            → fits defs.now (put_in_order kept (kept_at pos time value)) marks water self.new }
-        ensures changes { (kept : List Kept) (marks : List ℕ)
-            → fits defs.now kept marks water self.old → out.new.items
-            ≡ out.old.items ++ changes_by_put defs.now (key_of self.old) kept marks water
-            (kept_at pos time value) }
-        ensures capacity { vec_capacity out.new ≡ vec_capacity out.old }
+        ensures taken { TakesIn fits defs.now key_of next_position water
+            (λ kept marks. moment (put_in_order kept (kept_at pos time value)) marks water)
+            (pos + 1) self.old self.new out.old out.new }
         ensures work { (kept : List Kept) (marks : List ℕ)
             → fits defs.now kept marks water self.old
             → steps.new ≤ steps.old + put_work defs.now (moment kept marks water)
@@ -126,24 +107,13 @@ pub trait KeyWindows: Drop {
             × bounds_put defs.now (key_of self.old) (moment kept marks water)
             (moment (put_in_order kept (kept_at pos time value)) marks water) time bound
             × (steps.new ≤ steps.old + bound) }
-        ensures credit { credit self.new ≤ credit self.old }
-        ensures ahead { water ≤ time → is_ahead defs.now water self.old
-            → is_ahead defs.now water self.new };
+        ensures pace { StaysAhead credit is_ahead defs.now time water self.old self.new };
 
     /// Makes room for a mark at a time.
     fn reserve_mark(&mut self, defs: &Defs, time: u64, water: u64) -> Result<u64, NoMemory>
-        requires stands { (kept : List Kept) × (marks : List ℕ)
-            × fits defs.now kept marks water self.old }
-        requires time { time ≤ TIME_MAX }
-        requires water { IsWater water }
-        ensures key { key_of self.new ≡ key_of self.old }
-        ensures next { next_position self.new ≡ next_position self.old }
-        ensures stays { (kept : List Kept) (marks : List ℕ) (w : ℕ)
-            → fits defs.now kept marks w self.old → fits defs.now kept marks w self.new }
-        ensures ready { IfOk result (λ n. is_ready defs.now (Mark time water) self.new) }
-        ensures promised { IfOk result (λ n. promised self.new ≡ n) }
-        ensures credit { credit self.new ≤ credit self.old }
-        ensures ahead { (w : ℕ) → is_ahead defs.now w self.old → is_ahead defs.now w self.new };
+        requires { MayReserve fits defs.now (Mark time water) self.old }
+        ensures { MakesRoom fits defs.now key_of next_position is_ready promised credit is_ahead
+            (Mark time water) self.old self.new result };
 
     /// Takes in an accepted mark.
     fn mark<L>(
@@ -154,20 +124,10 @@ pub trait KeyWindows: Drop {
         out: &mut Vec<Change>,
         steps: &mut Steps<L>,
     )
-        requires stands { (kept : List Kept) × (marks : List ℕ)
-            × fits defs.now kept marks water self.old }
-        requires time { time ≤ TIME_MAX }
-        requires accepted { water ≤ time + (defs.now).lateness }
-        requires ready { is_ready defs.now (Mark time water) self.old }
-        requires spare { promised self.old ≤ vec_capacity out.old - vec_len out.old }
-        ensures key { key_of self.new ≡ key_of self.old }
-        ensures next { next_position self.new ≡ next_position self.old }
-        ensures fits { (kept : List Kept) (marks : List ℕ) → fits defs.now kept marks water self.old
-            → fits defs.now kept (insert_key nat_cmp marks time) water self.new }
-        ensures changes { (kept : List Kept) (marks : List ℕ)
-            → fits defs.now kept marks water self.old → out.new.items
-            ≡ out.old.items ++ changes_by_mark defs.now (key_of self.old) kept marks water time }
-        ensures capacity { vec_capacity out.new ≡ vec_capacity out.old }
+        requires { MayTakeIn fits defs.now is_ready promised (Mark time water) self.old out.old }
+        ensures taken { TakesIn fits defs.now key_of next_position water
+            (λ kept marks. moment kept (insert_key nat_cmp marks time) water)
+            (next_position self.old) self.old self.new out.old out.new }
         ensures work { (kept : List Kept) (marks : List ℕ)
             → fits defs.now kept marks water self.old
             → steps.new ≤ steps.old + mark_work defs.now (moment kept marks water)
@@ -177,24 +137,13 @@ pub trait KeyWindows: Drop {
             × bounds_mark defs.now (key_of self.old) (moment kept marks water)
             (moment kept (insert_key nat_cmp marks time) water) time bound
             × (steps.new ≤ steps.old + bound) }
-        ensures credit { credit self.new ≤ credit self.old }
-        ensures ahead { water ≤ time → is_ahead defs.now water self.old
-            → is_ahead defs.now water self.new };
+        ensures pace { StaysAhead credit is_ahead defs.now time water self.old self.new };
 
     /// Makes room for a move of the watermark.
     fn reserve_water(&mut self, defs: &Defs, old: u64, new: u64) -> Result<u64, NoMemory>
-        requires stands { (kept : List Kept) × (marks : List ℕ)
-            × fits defs.now kept marks old self.old }
-        requires rises { old ≤ new }
-        requires water { IsWater new }
-        ensures key { key_of self.new ≡ key_of self.old }
-        ensures next { next_position self.new ≡ next_position self.old }
-        ensures stays { (kept : List Kept) (marks : List ℕ) (w : ℕ)
-            → fits defs.now kept marks w self.old → fits defs.now kept marks w self.new }
-        ensures ready { IfOk result (λ n. is_ready defs.now (Move old new) self.new) }
-        ensures promised { IfOk result (λ n. promised self.new ≡ n) }
-        ensures credit { credit self.new ≤ credit self.old }
-        ensures ahead { (w : ℕ) → is_ahead defs.now w self.old → is_ahead defs.now w self.new };
+        requires { MayReserve fits defs.now (Move old new) self.old }
+        ensures { MakesRoom fits defs.now key_of next_position is_ready promised credit is_ahead
+            (Move old new) self.old self.new result };
 
     /// Takes in a move of the watermark.
     fn water<L>(
@@ -205,22 +154,11 @@ pub trait KeyWindows: Drop {
         out: &mut Vec<Change>,
         steps: &mut Steps<L>,
     )
-        requires stands { (kept : List Kept) × (marks : List ℕ)
-            × fits defs.now kept marks old self.old }
-        requires rises { old ≤ new }
-        requires water { IsWater new }
-        requires ready { is_ready defs.now (Move old new) self.old }
-        requires spare { promised self.old ≤ vec_capacity out.old - vec_len out.old }
-        ensures key { key_of self.new ≡ key_of self.old }
-        ensures next { next_position self.new ≡ next_position self.old }
-        ensures fits { (kept : List Kept) (marks : List ℕ)
-            → fits defs.now kept marks old self.old → fits defs.now kept marks new self.new }
-        ensures changes { (kept : List Kept) (marks : List ℕ)
-            → fits defs.now kept marks old self.old
-            → out.new.items ≡ out.old.items ++ changes_by_move defs.now
-            (key_of self.old) kept marks old new }
+        requires { MayTakeIn fits defs.now is_ready promised (Move old new) self.old out.old }
+        ensures taken { TakesIn fits defs.now key_of next_position old
+            (λ kept marks. moment kept marks new)
+            (next_position self.old) self.old self.new out.old out.new }
         ensures room { vec_len out.new ≤ vec_len out.old + promised self.old }
-        ensures capacity { vec_capacity out.new ≡ vec_capacity out.old }
         ensures ahead { IsWater old → is_ahead defs.now new self.new }
         ensures work_ahead { (kept : List Kept) (marks : List ℕ)
             → fits defs.now kept marks old self.old → is_ahead defs.now old self.old
@@ -237,9 +175,7 @@ pub trait KeyWindows: Drop {
     /// stands as it is: a move to below it changes nothing, and need not be told. Later than the final
     /// watermark where nothing is left to become so.
     fn next_due(&self, defs: &Defs, water: u64) -> u64
-        requires stands { (kept : List Kept) × (marks : List ℕ)
-            × fits defs.now kept marks water self.now }
-        requires water { IsWater water }
+        requires { StandsUnder fits defs.now water self.now }
         ensures none_before { (kept : List Kept) (marks : List ℕ) (new : ℕ)
             → fits defs.now kept marks water self.now
             → water ≤ new → new < result → changes_by_move defs.now
@@ -253,9 +189,7 @@ pub trait KeyWindows: Drop {
 
     /// How many slices its unsettled tuples have under a watermark, its own or a later one.
     fn slice_count(&self, defs: &Defs, water: u64) -> u64
-        requires stands { (kept : List Kept) × (marks : List ℕ) × (w : ℕ)
-            × fits defs.now kept marks w self.now × (w ≤ water) }
-        requires water { IsWater water }
+        requires { (w : ℕ) × MayReserve fits defs.now (Move w water) self.now }
         ensures { (kept : List Kept) (marks : List ℕ) (w : ℕ) → fits defs.now kept marks w self.now
             → w ≤ water → result ≡ length (slices_at defs.now (moment kept marks water)) };
 }

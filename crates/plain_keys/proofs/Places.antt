@@ -7,6 +7,7 @@ use Rattle.std.specs.Ordering.{match_ordering, nat_cmp}
 use Rattle.std.specs.declared.cmp.Ordering.TheVariants.{Less, Equal, Greater}
 use Rattle.std.proofs.lemmas.Bool.{and_parts, eqb-true, le-ltb, lt-ltb, ltb-true}
 use Rattle.std.proofs.lemmas.Bool.Decides.{nat_tests}
+use Rattle.std.proofs.lemmas.List.{get_or_default}
 use Rattle.std.proofs.lemmas.List.Sums.{position_or_len_is}
 use Rattle.stream_base.specs.declared.kept.Kept.{Kept}
 use Rattle.stream_base.specs.Laws.{TimesDoNotFall}
@@ -20,15 +21,17 @@ place_is kept time place d h =
     (λ k l. le-ltb time (get_or kept k d).time (let h2 : (get_or kept k d).time < time + 1 = h.before k d (omega arith) l in omega arith))
     (λ l. lt-ltb time (get_or kept place d).time (let h2 : time + 1 ≤ (get_or kept place d).time = h.behind place d (omega arith) l in omega arith))
 
--- at the end, where none is of a later time
-pub place_is_end : (kept : List Kept) (time : ℕ) (d : Kept) → TimesDoNotFall kept → ((i : ℕ) → i + 1 ≡ length kept → (get_or kept i d).time ≤ time) → position_or_len (λ (y : Kept). nat_lt time y.time) kept ≡ length kept
-place_is_end kept time d h last =
-    position_or_len_is (λ (y : Kept). nat_lt time y.time) kept (length kept) d (omega arith)
-    (λ k l. le-ltb time (get_or kept k d).time
-    (let le : (get_or kept k d).time ≤ (get_or kept (length kept - 1) d).time = h k (length kept - 1) d (omega arith) (omega arith) in
-    let end : (get_or kept (length kept - 1) d).time ≤ time = last (length kept - 1) (omega arith) in
-    omega arith))
-    (λ l. absurd (omega arith))
+-- where the last one isn't of a later time, it is the end
+pub end_is : (kept : List Kept) (time : ℕ) (d : Kept) → TimesDoNotFall kept → ((i : ℕ) → i + 1 ≡ length kept → (get_or kept i d).time ≤ time) → IsPlaceOf (λ x. x.time) kept (time + 1) (length kept)
+end_is kept time d h last = record {
+  within = omega arith;
+  before = λ k e from l.
+      let same : get_or kept k d ≡ get_or kept k e = get_or_default kept k d e l in
+      let le : (get_or kept k d).time ≤ (get_or kept (length kept - 1) d).time = h k (length kept - 1) d (omega arith) (omega arith) in
+      let end : (get_or kept (length kept - 1) d).time ≤ time = last (length kept - 1) (omega arith) in
+      subst (λ (x : Kept). x.time < time + 1) same (omega arith);
+  behind = λ k e from l. absurd (omega arith);
+}
 
 -- ---- marks
 less : (a b : ℕ) → a < b → nat_cmp a b ≡ Less
@@ -74,5 +77,5 @@ unmarked marks xs ys time place e f h t =
     differs mark n l le t = grind (arith, nat_tests)
 
 -- a tuple at its place is in order
-pub put_there : (kept ks : List Kept) (x : Kept) (place : ℕ) → ks ≡ kept → place ≡ position_or_len (λ (y : Kept). nat_lt x.time y.time) ks → insert kept place x ≡ put_in_order kept x
-put_there kept ks x place e is = ap (λ n. insert kept n x) (is ∙ ap (position_or_len (λ (y : Kept). nat_lt x.time y.time)) e)
+pub put_there : (kept ks : List Kept) (x : Kept) (place : ℕ) → ks ≡ kept → IsPlaceOf (λ y. y.time) ks (x.time + 1) place → insert kept place x ≡ put_in_order kept x
+put_there kept ks x place e is = ap (λ n. insert kept n x) (sym (place_is ks x.time place x is) ∙ ap (position_or_len (λ (y : Kept). nat_lt x.time y.time)) e)

@@ -1,11 +1,13 @@
 -- What a `PlainKey` keeps, and for which call it has room.
 use Rattle.std.specs.Prelude.{◌≡◌, ◌≤◌, ◌<◌, ◌+◌, ◌-◌, ◌^◌, ℕ, pos, List, Result, IfOk, OnOk, length, All}
 use Rattle.std.specs.BTreeSet.{insert_key}
+use Rattle.std.specs.List.Sorted.{IsStrictlyIncreasing}
 use Rattle.std.specs.Ordering.{nat_cmp}
 use Rattle.stream_base.specs.declared.change.Change.{Change}
 use Rattle.stream_base.specs.declared.def.Def.{Def}
 use Rattle.stream_base.specs.declared.kept.Kept.{Kept}
 use Rattle.stream_base.specs.declared.limits.TheConstants.{JOURNAL_MAX, TIME_MAX}
+use Rattle.stream_base.specs.Laws.{TimesDoNotFall}
 use Rattle.stream_base.specs.Limits.{Definitions}
 use Rattle.stream_base.specs.Model.Changes.{changes_between}
 use Rattle.stream_base.specs.Model.Journal.{put_in_order}
@@ -113,6 +115,16 @@ pub record MayPut (old : State) (x : Kept) : Type 0 where
   pub time : x.time ≤ TIME_MAX
   pub position : old.next ≤ x.position
   pub few : x.position < JOURNAL_MAX
+
+-- a tuple at a time within the limits has a place among others in event order
+pub record HasPlace (kept : List Kept) (time : ℕ) : Type 0 where
+  pub in_order : TimesDoNotFall kept
+  pub within : time ≤ TIME_MAX
+
+-- a mark within the limits may come among rising ones
+pub record MayMark (marks : List ℕ) (mark : ℕ) : Type 0 where
+  pub rising : IsStrictlyIncreasing marks
+  pub within : mark ≤ TIME_MAX
 
 -- one tuple more is kept
 pub record IsPut (old : State) (x : Kept) (new : State) : Type 0 where

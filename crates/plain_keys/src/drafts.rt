@@ -1,13 +1,10 @@
 //! A key's lists with one tuple or mark more.
-ghost use Rattle.std.specs.Prelude.{◌≡◌, ◌<◌, ◌≤◌, ◌==◌, ◌&&◌, OnOk, nat_lt, length, slice_index, vec_len, vec_capacity};
+ghost use Rattle.std.specs.Prelude.{◌≡◌, ◌<◌, ◌+◌, ◌==◌, ◌&&◌, OnOk, nat_lt, length, slice_index, vec_len, vec_capacity};
 ghost use Rattle.std.specs.BTreeSet.{insert_key};
-ghost use Rattle.std.specs.List.{position_or_len};
-ghost use Rattle.std.specs.List.Sorted.{IsStrictlyIncreasing};
 ghost use Rattle.std.specs.Ordering.{nat_cmp};
-ghost use Rattle.stream_base.specs.declared.limits.TheConstants.{TIME_MAX};
-ghost use Rattle.stream_base.specs.Laws.{TimesDoNotFall};
 ghost use Rattle.stream_base.specs.Model.Journal.{put_in_order};
-ghost use Rattle.plain_keys.specs.States.{stand_in};
+ghost use Rattle.plain_windows.specs.Places.{IsPlaceOf};
+ghost use Rattle.plain_keys.specs.States.{HasPlace, MayMark, stand_in};
 
 use plain_windows::{marks_before, tuples_before};
 use stream_base::{Kept, NoMemory};
@@ -15,10 +12,8 @@ use stream_base::{Kept, NoMemory};
 /// The place of a tuple at a time in event order: before the first tuple of a later time. A tuple
 /// that comes in order takes one look at the last one.
 pub fn place_of(kept: &[Kept], time: u64) -> usize
-    requires in_order { TimesDoNotFall kept.now }
-    requires time { time ≤ TIME_MAX }
-    ensures within { result ≤ length kept.now }
-    ensures value { result ≡ position_or_len (λ y. nat_lt time y.time) kept.now }
+    requires { HasPlace kept.now time }
+    ensures { IsPlaceOf (λ y. y.time) kept.now (time + 1) result }
 {
     if kept.is_empty() {
         return 0;
@@ -31,8 +26,7 @@ pub fn place_of(kept: &[Kept], time: u64) -> usize
 
 /// Makes a list that of the kept tuples with one more in its place.
 pub fn draw_put(kept: &[Kept], x: Kept, out: &mut Vec<Kept>) -> Result<(), NoMemory>
-    requires in_order { TimesDoNotFall kept.now }
-    requires time { x.time ≤ TIME_MAX }
+    requires { HasPlace kept.now x.time }
     ensures { OnOk result (out.new.items ≡ put_in_order kept.now x) }
 {
     out.clear();
@@ -43,8 +37,7 @@ pub fn draw_put(kept: &[Kept], x: Kept, out: &mut Vec<Kept>) -> Result<(), NoMem
 
 /// Puts a tuple in its place, where there is room for one.
 pub fn put_in(kept: &mut Vec<Kept>, x: Kept)
-    requires in_order { TimesDoNotFall kept.old.items }
-    requires time { x.time ≤ TIME_MAX }
+    requires place { HasPlace kept.old.items x.time }
     requires room { vec_len kept.old < vec_capacity kept.old }
     ensures { kept.new.items ≡ put_in_order kept.old.items x }
 {
@@ -58,8 +51,7 @@ pub fn put_in(kept: &mut Vec<Kept>, x: Kept)
 
 /// Puts a tuple in the place of its stand-in.
 pub fn fill_in(kept: &[Kept], x: Kept, drawn: &mut Vec<Kept>)
-    requires in_order { TimesDoNotFall kept.now }
-    requires time { x.time ≤ TIME_MAX }
+    requires place { HasPlace kept.now x.time }
     requires stands_in { drawn.old.items ≡ put_in_order kept.now (stand_in x.time) }
     ensures { drawn.new.items ≡ put_in_order kept.now x }
 {
@@ -69,7 +61,7 @@ pub fn fill_in(kept: &[Kept], x: Kept, drawn: &mut Vec<Kept>)
 
 /// Makes a list that of the marks with one more among them.
 pub fn draw_mark(marks: &[u64], time: u64, out: &mut Vec<u64>) -> Result<(), NoMemory>
-    requires { IsStrictlyIncreasing marks.now }
+    requires { MayMark marks.now time }
     ensures { OnOk result (out.new.items ≡ insert_key nat_cmp marks.now time) }
 {
     out.clear();
@@ -81,7 +73,7 @@ pub fn draw_mark(marks: &[u64], time: u64, out: &mut Vec<u64>) -> Result<(), NoM
 
 /// Adds a mark among rising ones, unless it is there.
 pub fn add_mark(marks: &mut Vec<u64>, time: u64)
-    requires rising { IsStrictlyIncreasing marks.old.items }
+    requires mark { MayMark marks.old.items time }
     requires room { vec_len marks.old < vec_capacity marks.old }
     ensures { marks.new.items ≡ insert_key nat_cmp marks.old.items time }
 {

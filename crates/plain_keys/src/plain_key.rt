@@ -3,13 +3,14 @@ ghost use Rattle.std.specs.Prelude.{◌≡◌, ◌≤◌, ◌<◌, ◌-◌, ◌+
 ghost use Rattle.std.specs.BTreeSet.{insert_key};
 ghost use Rattle.std.specs.List.{enumerate_from, flat_map};
 ghost use Rattle.std.specs.Ordering.{nat_cmp};
-ghost use Rattle.stream_base.specs.declared.limits.TheConstants.{JOURNAL_MAX, TIME_MAX};
+ghost use Rattle.stream_base.specs.declared.limits.TheConstants.{JOURNAL_MAX};
 ghost use Rattle.stream_base.specs.Laws.{completions};
 ghost use Rattle.stream_base.specs.Model.Changes.{changes_between, rows_at};
 ghost use Rattle.stream_base.specs.Model.Journal.{put_in_order};
-ghost use Rattle.plain_windows.specs.Changing.{Appends, IsDue, room};
-ghost use Rattle.key_windows.specs.Calls.{kept_at, moment};
-ghost use Rattle.plain_keys.specs.States.{Fits, HasDrawnMark, HasDrawnTuple, IsMarked, IsOfSame, IsPut, IsReady, IsState, MayPut, Prepares, by_one_mark, by_tuple, most_steps, stand_in};
+ghost use Rattle.stream_base.specs.Vectors.{Appends, room};
+ghost use Rattle.plain_windows.specs.Changing.{IsDue};
+ghost use Rattle.key_windows.specs.Calls.{IsAccepted, IsEntryAt, kept_at, moment};
+ghost use Rattle.plain_keys.specs.States.{Fits, HasDrawnMark, HasDrawnTuple, IsMarked, IsOfSame, IsPut, IsReady, IsState, MayMark, MayPut, Prepares, by_one_mark, by_tuple, most_steps, stand_in};
 
 use crate::drafts::{add_mark, draw_mark, draw_put, fill_in, put_in};
 use agg_laws::Steps;
@@ -132,7 +133,7 @@ impl PlainKey {
     // Waits for the least bound with those that a tuple at a time after the watermark brought,
     // where the time alone tells them, and else looks for it.
     fn look_behind(&mut self, defs: &Defs, time: u64, water: u64)
-        requires { time ≤ TIME_MAX }
+        requires { IsAccepted defs.now time water }
         ensures same { IsOfSame self.old self.new }
         ensures ahead { (kept : List Kept) (x : Kept) → x.time ≡ time
             → self.old.kept ≡ put_in_order kept x → water < time
@@ -173,7 +174,7 @@ impl PlainKey {
 
     // Draws the kept tuples with a stand-in, and counts what that changes.
     fn draw_tuple(&mut self, defs: &Defs, time: u64, water: u64) -> Result<u64, NoMemory>
-        requires time { time ≤ TIME_MAX }
+        requires entry { IsEntryAt time water }
         requires few { self.old.next < JOURNAL_MAX }
         ensures { Prepares (HasDrawnTuple (defs.now).windows self.old water time)
             self.old self.new result }
@@ -188,7 +189,7 @@ impl PlainKey {
 
     // Draws the marks with one more, and counts what that changes.
     fn draw_one_mark(&mut self, defs: &Defs, time: u64, water: u64) -> Result<u64, NoMemory>
-        requires time { time ≤ TIME_MAX }
+        requires { IsEntryAt time water }
         ensures { Prepares (HasDrawnMark (defs.now).windows self.old water time)
             self.old self.new result }
     {
@@ -237,7 +238,7 @@ impl PlainKey {
 
     // Adds a mark in the place that was made for it.
     fn mark_ahead(&mut self, time: u64)
-        requires time { time ≤ TIME_MAX }
+        requires mark { MayMark self.old.marks time }
         requires room { 1 ≤ self.old.marks_spare }
         ensures { IsMarked self.old time self.new }
     {
@@ -253,7 +254,7 @@ impl PlainKey {
         out: &mut Vec<Change>,
         steps: &mut Steps<L>,
     )
-        requires time { time ≤ TIME_MAX }
+        requires mark { MayMark self.old.marks time }
         requires drawn { self.old.next_marks ≡ insert_key nat_cmp self.old.marks time }
         requires spare { length (by_one_mark (defs.now).windows self.old.key self.old water time)
             ≤ room out.old }

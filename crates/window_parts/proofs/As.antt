@@ -13,13 +13,13 @@ module _ {P Q : Type 0} {S : Standing P} {R : Standing Q} {d : Definitions} {win
   stands_as {water} {s} {m} {n} t = record { water_is = t.water_is; lists = t.lists; store = t.store; held = t.held; stood = same m n s t.stood }
 
   pub mark_as : {water time : ℕ} {after : Stored} {m : Moment} {n : ℕ} {before : Stored} → TakesMark S d window water time after p m n before → TakesMark R d window water time after q m n before
-  mark_as {water} {time} {after} {m} {n} {before} t = record { water_is = t.water_is; step = t.step; stood = same m n before t.stood }
+  mark_as {water} {time} {after} {m} {n} {before} t = record { water_is = t.water_is; is_water = t.is_water; step = t.step; stood = same m n before t.stood }
 
   pub loss_as : {water time : ℕ} {m : Moment} {n : ℕ} {before : Stored} {more : ℕ} {after : Stored} → LosesSettled S d window water time p m n before more after → LosesSettled R d window water time q m n before more after
   loss_as {water} {time} {m} {n} {before} {more} {after} t = record { water_is = t.water_is; purge = t.purge; stood = same m n before t.stood }
 
   pub tuple_as : {A : Definitions → ℕ → Moment → ℕ → P → Type 0} {B : Definitions → ℕ → Moment → ℕ → Q → Type 0} {water : ℕ} {x : Kept} {after : Stored} → ((m : Moment) → A d window m x.time p → B d window m x.time q) → {m : Moment} {n : ℕ} {before : Stored} {more : ℕ} → TakesTuple S d window A water x after p m n before more → TakesTuple R d window B water x after q m n before more
-  tuple_as {A} {B} {water} {x} {after} asks {m} {n} {before} {more} t = record { water_is = t.water_is; step = t.step; stood = same m n before t.stood; asked = asks m t.asked }
+  tuple_as {A} {B} {water} {x} {after} asks {m} {n} {before} {more} t = record { water_is = t.water_is; is_water = t.is_water; step = t.step; stood = same m n before t.stood; asked = asks m t.asked }
 
   -- the same where the value of the tuple is written in another way
   pub stands_with : {A : Definitions → ℕ → Moment → ℕ → P → Type 0} {B : Definitions → ℕ → Moment → ℕ → Q → Type 0} {water pos time : ℕ} {value other : ℤ} {after : Stored} {now : Q} → ((m : Moment) → A d window m time p → B d window m time q) → other ≡ value → ((m : Moment) (n : ℕ) (before : Stored) (more : ℕ) → TakesTuple R d window B water (kept_at pos time other) after q m n before more → R d window (with_tuple m (kept_at pos time other)) more after now) → {m : Moment} {n : ℕ} {before : Stored} {more : ℕ} → TakesTuple S d window A water (kept_at pos time value) after p m n before more → R d window (with_tuple m (kept_at pos time value)) more after now

@@ -7,7 +7,7 @@ use Rattle.stream_base.specs.declared.kind.Kind.TheVariants.{Tumbling, Sliding, 
 use Rattle.stream_base.specs.Laws.{is_timed}
 use Rattle.stream_base.specs.Model.Windows.{first_time}
 use Rattle.window_laws.specs.Late.{length_of}
-use Rattle.window_laws.specs.Runs.{runs_within}
+use Rattle.run_laws.specs.Runs.{runs_within}
 use Rattle.agg_store.specs.Stored.{Stored}
 use Rattle.time_lanes.specs.Moves.{slices_between, slices_in_last}
 use Rattle.interval_walks.specs.Spans.{last_end, last_end_of}

@@ -8,11 +8,7 @@ returns-in_err-first-clause-none g c =
     let bare : c.args.store.now.slices ≡ [] = none_found c.args.store.now.slices (sym c.in_err-first.was ∙ c.slice_from.ensures.first) in
     search rules
 
-pub returns-clause-least : goal.returns-clause-least
-returns-clause-least g c = (first_found c.args.store.now.slices c.in_ok-first.first (sym c.in_ok-first.was ∙ c.slice_from.ensures.first) c.slice_from.ensures.holds.slices).least
-
-pub returns-clause-is_one : goal.returns-clause-is_one
-returns-clause-is_one g c = (first_found c.args.store.now.slices c.in_ok-first.first (sym c.in_ok-first.was ∙ c.slice_from.ensures.first) c.slice_from.ensures.holds.slices).is_one
-
-pub returns-clause-early : goal.returns-clause-early
-returns-clause-early g c = (first_found c.args.store.now.slices c.in_ok-first.first (sym c.in_ok-first.was ∙ c.slice_from.ensures.first) c.slice_from.ensures.holds.slices).early
+pub returns-clause-first : goal.returns-clause-first
+returns-clause-first g c =
+    let first = first_found c.args.store.now.slices c.in_ok-first.first (sym c.in_ok-first.was ∙ c.slice_from.ensures.first) c.slice_from.ensures.holds.slices in
+    record { least = first.least; is_one = first.is_one; early = first.early }

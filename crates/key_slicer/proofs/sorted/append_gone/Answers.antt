@@ -7,6 +7,6 @@ use Rattle.key_slicer.proofs.sorted.append_gone.Goals as goal
 pub loop-change-init : goal.loop-change-init
 loop-change-init c = record {
   capacity = refl;
-  room = omega (arith, length-filter_both is_gone (λ change. not (is_gone change)) (λ x. refl) c.args.changes.now, c.requires.spare);
+  room = omega (arith, length-filter_both is_gone (λ change. not (is_gone change)) (λ x. refl) c.args.changes.now, c.requires);
   all = refl;
 }

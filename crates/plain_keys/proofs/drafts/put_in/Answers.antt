@@ -13,9 +13,9 @@ returns-then-place-len c =
     c.push_reserved.ensures.items
     ∙ sym (insert_end kept c.args.x)
     ∙ ap (λ n. insert kept n c.args.x) end
-    ∙ put_there kept c.deref.result.now c.args.x place c.deref.ensures.value c.place_of-place.ensures.value
+    ∙ put_there kept c.deref.result.now c.args.x place c.deref.ensures.value c.place_of-place.ensures
 
 pub returns-else-place-len : goal.returns-else-place-len
 returns-else-place-len c =
     let put : c.insert.new.self.items ≡ insert c.args.kept.now.items c.place_of-place.result c.args.x = search rules in
-    put ∙ put_there c.args.kept.now.items c.deref.result.now c.args.x c.place_of-place.result c.deref.ensures.value c.place_of-place.ensures.value
+    put ∙ put_there c.args.kept.now.items c.deref.result.now c.args.x c.place_of-place.result c.deref.ensures.value c.place_of-place.ensures

@@ -1,5 +1,5 @@
 -- The store and the parts took the tuple in.
-use Rattle.std.proofs.Common.{◌≡◌, ◌≤◌, ◌+◌, ◌-◌, ◌++◌, ℕ, length, vec_len, arith, refl, subst, to_z, of_z, w64}
+use Rattle.std.proofs.Common.{◌≡◌, ◌≤◌, ◌+◌, ◌-◌, ◌++◌, ℕ, length, vec_len, arith, refl, rules, subst, to_z, of_z, w64}
 use Rattle.std.proofs.lemmas.Int.{to_z-of_z}
 use Rattle.std.specs.List.{enumerate_from, flat_map}
 use Rattle.stream_base.specs.Model.Changes.{changes_between}
@@ -17,7 +17,7 @@ use Rattle.key_slicer.proofs.engine.KeyStateKeyWindows.put.Goals as goal
 
 pub put-requires-clause-takes : goal.put-requires-clause-takes
 put-requires-clause-takes g c =
-    let r = c.requires.stands in
+    let r = c.requires.comes.stands in
     let x = kept_at c.args.pos c.args.time (to_z w64 (of_z w64 c.args.value)) in
     let s = c.args.self.now in
     let d = c.args.defs.now in
@@ -25,38 +25,41 @@ put-requires-clause-takes g c =
     let f = r.2.known in
     let more = (c.put_in.ensures.comes f.without).0 in
     let all : AllTakeTuple g.P.KeyPart.stands d g.P.KeyPart.is_asked c.args.water x c.put_in.new.store c.before-2.new.self.list.items m f.without s.store more =
-    all_take g.P.KeyPart.stands d g.P.KeyPart.is_asked m c.args.water s.next s.store s.parts.list.items c.before-2.new.self.list.items x c.put_in.new.store refl c.vouch.ensures.holds f
-    c.requires.position c.requires.few c.requires.time c.requires.accepted c.put_in.ensures.comes c.before-2.ensures.stays c.before-2.ensures.asked in
+    all_take g.P.KeyPart.stands d g.P.KeyPart.is_asked m c.args.water s.next s.store s.parts.list.items c.before-2.new.self.list.items x c.put_in.new.store refl c.requires.comes.ready.water_is c.vouch.ensures.holds f
+    c.requires.position c.requires.few c.requires.comes.in_time.within c.requires.comes.in_time.accepted c.put_in.ensures.comes c.before-2.ensures.stays c.before-2.ensures.asked in
     (m, f.without, s.store, more, all)
 
-pub returns-clause-fits : goal.returns-clause-fits
-returns-clause-fits g c = λ kept marks fits.
-    let x = kept_at c.args.pos c.args.time (to_z w64 (of_z w64 c.args.value)) in
-    let s = c.args.self.now in
-    let d = c.args.defs.now in
-    let m = moment kept marks c.args.water in
-    let f = fits.known in
-    let more = (c.put_in.ensures.comes f.without).0 in
-    let all : AllTakeTuple g.P.KeyPart.stands d g.P.KeyPart.is_asked c.args.water x c.put_in.new.store c.before-2.new.self.list.items m f.without s.store more =
-    all_take g.P.KeyPart.stands d g.P.KeyPart.is_asked m c.args.water s.next s.store s.parts.list.items c.before-2.new.self.list.items x c.put_in.new.store refl c.vouch.ensures.holds f
-    c.requires.position c.requires.few c.requires.time c.requires.accepted c.put_in.ensures.comes c.before-2.ensures.stays c.before-2.ensures.asked in
-    subst (λ v. Fits g.P.KeyPart.stands d (put_in_order kept (kept_at c.args.pos c.args.time v)) marks c.args.water (c.args.pos + 1) c.put_in.new.store c.put.new.self.list.items) (to_z-of_z w64 c.args.value c.ranges.value)
-    (fits_put g.P.KeyPart.stands d kept marks c.args.water f.without s.store x more c.put_in.new.store c.put.new.self.list.items c.requires.ready.water_is fits.none_settled all.step (c.put.ensures.stands m f.without s.store more all) c.put_in.ensures.bare)
-
-pub returns-clause-changes : goal.returns-clause-changes
-returns-clause-changes g c = λ kept marks fits.
-    let x = kept_at c.args.pos c.args.time (to_z w64 (of_z w64 c.args.value)) in
-    let s = c.args.self.now in
-    let d = c.args.defs.now in
-    let m = moment kept marks c.args.water in
-    let f = fits.known in
-    let more = (c.put_in.ensures.comes f.without).0 in
-    let all : AllTakeTuple g.P.KeyPart.stands d g.P.KeyPart.is_asked c.args.water x c.put_in.new.store c.before-2.new.self.list.items m f.without s.store more =
-    all_take g.P.KeyPart.stands d g.P.KeyPart.is_asked m c.args.water s.next s.store s.parts.list.items c.before-2.new.self.list.items x c.put_in.new.store refl c.vouch.ensures.holds f
-    c.requires.position c.requires.few c.requires.time c.requires.accepted c.put_in.ensures.comes c.before-2.ensures.stays c.before-2.ensures.asked in
-    subst (λ v. c.append_sorted.new.out.items ≡ c.args.out.now.items ++ changes_by_put d s.key kept marks c.args.water (kept_at c.args.pos c.args.time v)) (to_z-of_z w64 c.args.value c.ranges.value)
-    (appended_sorted s.key m (with_tuple m x) d.windows s.scratch.items c.put.new.out.items c.as_slice.result.now c.args.out.now.items c.append_sorted.new.out.items c.requires.ready.empty
-    (c.put.ensures.changes m f.without s.store more all) c.as_slice.ensures.value c.append_sorted.ensures.items)
+pub returns-clause-taken : goal.returns-clause-taken
+returns-clause-taken g c = record {
+  key = search rules;
+  next = search rules;
+  changes = λ kept marks fits.
+      let x = kept_at c.args.pos c.args.time (to_z w64 (of_z w64 c.args.value)) in
+      let s = c.args.self.now in
+      let d = c.args.defs.now in
+      let m = moment kept marks c.args.water in
+      let f = fits.known in
+      let more = (c.put_in.ensures.comes f.without).0 in
+      let all : AllTakeTuple g.P.KeyPart.stands d g.P.KeyPart.is_asked c.args.water x c.put_in.new.store c.before-2.new.self.list.items m f.without s.store more =
+      all_take g.P.KeyPart.stands d g.P.KeyPart.is_asked m c.args.water s.next s.store s.parts.list.items c.before-2.new.self.list.items x c.put_in.new.store refl c.requires.comes.ready.water_is c.vouch.ensures.holds f
+      c.requires.position c.requires.few c.requires.comes.in_time.within c.requires.comes.in_time.accepted c.put_in.ensures.comes c.before-2.ensures.stays c.before-2.ensures.asked in
+      subst (λ v. c.append_sorted.new.out.items ≡ c.args.out.now.items ++ changes_by_put d s.key kept marks c.args.water (kept_at c.args.pos c.args.time v)) (to_z-of_z w64 c.args.value c.ranges.value)
+      (appended_sorted s.key m (with_tuple m x) d.windows s.scratch.items c.put.new.out.items c.as_slice.result.now c.args.out.now.items c.append_sorted.new.out.items c.requires.comes.ready.empty
+      (c.put.ensures.changes m f.without s.store more all) c.as_slice.ensures.value c.append_sorted.ensures.items);
+  capacity = c.append_sorted.ensures.capacity;
+  fits = λ kept marks fits.
+      let x = kept_at c.args.pos c.args.time (to_z w64 (of_z w64 c.args.value)) in
+      let s = c.args.self.now in
+      let d = c.args.defs.now in
+      let m = moment kept marks c.args.water in
+      let f = fits.known in
+      let more = (c.put_in.ensures.comes f.without).0 in
+      let all : AllTakeTuple g.P.KeyPart.stands d g.P.KeyPart.is_asked c.args.water x c.put_in.new.store c.before-2.new.self.list.items m f.without s.store more =
+      all_take g.P.KeyPart.stands d g.P.KeyPart.is_asked m c.args.water s.next s.store s.parts.list.items c.before-2.new.self.list.items x c.put_in.new.store refl c.requires.comes.ready.water_is c.vouch.ensures.holds f
+      c.requires.position c.requires.few c.requires.comes.in_time.within c.requires.comes.in_time.accepted c.put_in.ensures.comes c.before-2.ensures.stays c.before-2.ensures.asked in
+      subst (λ v. Fits g.P.KeyPart.stands d (put_in_order kept (kept_at c.args.pos c.args.time v)) marks c.args.water (c.args.pos + 1) c.put_in.new.store c.put.new.self.list.items) (to_z-of_z w64 c.args.value c.ranges.value)
+      (fits_put g.P.KeyPart.stands d kept marks c.args.water f.without s.store x more c.put_in.new.store c.put.new.self.list.items c.requires.comes.ready.water_is fits.none_settled all.step (c.put.ensures.stands m f.without s.store more all) c.put_in.ensures.bare);
+}
 
 pub returns-clause-work : goal.returns-clause-work
 returns-clause-work g c = λ kept marks fits.
@@ -67,13 +70,13 @@ returns-clause-work g c = λ kept marks fits.
     let f = fits.known in
     let more = (c.put_in.ensures.comes f.without).0 in
     let all : AllTakeTuple g.P.KeyPart.stands d g.P.KeyPart.is_asked c.args.water x c.put_in.new.store c.before-2.new.self.list.items m f.without s.store more =
-    all_take g.P.KeyPart.stands d g.P.KeyPart.is_asked m c.args.water s.next s.store s.parts.list.items c.before-2.new.self.list.items x c.put_in.new.store refl c.vouch.ensures.holds f
-    c.requires.position c.requires.few c.requires.time c.requires.accepted c.put_in.ensures.comes c.before-2.ensures.stays c.before-2.ensures.asked in
+    all_take g.P.KeyPart.stands d g.P.KeyPart.is_asked m c.args.water s.next s.store s.parts.list.items c.before-2.new.self.list.items x c.put_in.new.store refl c.requires.comes.ready.water_is c.vouch.ensures.holds f
+    c.requires.position c.requires.few c.requires.comes.in_time.within c.requires.comes.in_time.accepted c.put_in.ensures.comes c.before-2.ensures.stays c.before-2.ensures.asked in
     let changed = vec_len c.put.new.out - vec_len s.scratch in
     let many : changed ≡ length (changes_between d.windows s.key m (with_tuple m x)) = omega (arith, as_many_turns s.key m (with_tuple m x) d.windows, grown s.scratch.items c.put.new.out.items (flat_map (turns s.key m (with_tuple m x)) (enumerate_from 0 d.windows)) (c.put.ensures.changes m f.without s.store more all)) in
     subst (λ v. c.put.new.steps ≤ c.args.steps.now + put_work d s.key m (with_tuple m (kept_at c.args.pos c.args.time v)) c.args.time s.store) (to_z-of_z w64 c.args.value c.ranges.value)
     (put_cost d s.key m (with_tuple m x) c.args.time s.store c.put_in.new.store.reach (rooms (λ (i : ℕ) (part : g.row.P.Denot). g.P.KeyPart.owed part) c.before-2.new.self.list.items) changed c.args.steps.now c.before-2.new.steps c.put_in.new.steps c.put.new.steps
-    c.before-2.ensures.work c.put_in.ensures.work (c.put.ensures.work m f.without s.store more all) c.put.ensures.owed c.put_in.ensures.reach many)
+    c.before-2.ensures.cost.work c.put_in.ensures.work (c.put.ensures.work m f.without s.store more all) c.put.ensures.owed c.put_in.ensures.reach many)
 
 pub returns-clause-bound : goal.returns-clause-bound
 returns-clause-bound g c = λ kept marks fits.
@@ -82,20 +85,23 @@ returns-clause-bound g c = λ kept marks fits.
     let m = moment kept marks c.args.water in
     let new = moment (put_in_order kept (kept_at c.args.pos c.args.time c.args.value)) marks c.args.water in (
       put_work d s.key m new c.args.time s.store,
-      put_is_bounded g.T.AggTree.bounded d s.key m fits.known.without c.args.time s.store fits.known.held c.vouch.ensures.holds fits.none_settled c.vouch.ensures.reach new c.requires.accepted,
+      put_is_bounded g.T.AggTree.bounded d s.key m fits.known.without c.args.time s.store fits.known.held c.vouch.ensures.holds fits.none_settled c.vouch.ensures.reach new c.requires.comes.in_time.accepted,
       returns-clause-work g c kept marks fits,
     )
 
-pub returns-clause-ahead : goal.returns-clause-ahead
-returns-clause-ahead g c = λ le each.
-    let r = c.requires.stands in
-    let x = kept_at c.args.pos c.args.time (to_z w64 (of_z w64 c.args.value)) in
-    let s = c.args.self.now in
-    let d = c.args.defs.now in
-    let m = moment r.0 r.1 c.args.water in
-    let f = r.2.known in
-    let more = (c.put_in.ensures.comes f.without).0 in
-    let all : AllTakeTuple g.P.KeyPart.stands d g.P.KeyPart.is_asked c.args.water x c.put_in.new.store c.before-2.new.self.list.items m f.without s.store more =
-    all_take g.P.KeyPart.stands d g.P.KeyPart.is_asked m c.args.water s.next s.store s.parts.list.items c.before-2.new.self.list.items x c.put_in.new.store refl c.vouch.ensures.holds f
-    c.requires.position c.requires.few c.requires.time c.requires.accepted c.put_in.ensures.comes c.before-2.ensures.stays c.before-2.ensures.asked in
-    c.put.ensures.ahead m f.without s.store more all le (c.before-2.ensures.ahead c.args.water s.store each)
+pub returns-clause-pace : goal.returns-clause-pace
+returns-clause-pace g c = record {
+  credit = search rules;
+  ahead = λ le each.
+      let r = c.requires.comes.stands in
+      let x = kept_at c.args.pos c.args.time (to_z w64 (of_z w64 c.args.value)) in
+      let s = c.args.self.now in
+      let d = c.args.defs.now in
+      let m = moment r.0 r.1 c.args.water in
+      let f = r.2.known in
+      let more = (c.put_in.ensures.comes f.without).0 in
+      let all : AllTakeTuple g.P.KeyPart.stands d g.P.KeyPart.is_asked c.args.water x c.put_in.new.store c.before-2.new.self.list.items m f.without s.store more =
+      all_take g.P.KeyPart.stands d g.P.KeyPart.is_asked m c.args.water s.next s.store s.parts.list.items c.before-2.new.self.list.items x c.put_in.new.store refl c.requires.comes.ready.water_is c.vouch.ensures.holds f
+      c.requires.position c.requires.few c.requires.comes.in_time.within c.requires.comes.in_time.accepted c.put_in.ensures.comes c.before-2.ensures.stays c.before-2.ensures.asked in
+      c.put.ensures.ahead m f.without s.store more all le (c.before-2.ensures.ahead c.args.water s.store each);
+}

@@ -1,5 +1,5 @@
 -- The parts and the store go on to stand for what they did.
-use Rattle.std.proofs.Common.{◌-◌, ap, arith}
+use Rattle.std.proofs.Common.{◌-◌, ap, arith, rules}
 use Rattle.std.specs.Prelude.{vec_capacity, vec_len}
 use Rattle.key_slicer.specs.declared.parts.Parts.{Parts}
 use Rattle.key_slicer.specs.Parts.{rooms}
@@ -7,62 +7,76 @@ use Rattle.key_slicer.proofs.AheadFacts.{ahead_reserved, ahead_same}
 use Rattle.key_slicer.proofs.StateFacts.{fits_reserved, fits_same, no_more_room, ready_to_take}
 use Rattle.key_slicer.proofs.engine.KeyStateKeyWindows.reserve_mark.Goals as goal
 
-pub returns-in_err-room-clause-stays : goal.returns-in_err-room-clause-stays
-returns-in_err-room-clause-stays g c = λ kept marks w fits.
-    let s = c.args.self.now in
-    fits_reserved g.P.KeyPart.stands c.args.defs.now (g.met.P.KeyPart.stands_with_room c.args.defs.now) kept marks w s.next s.store s.store s.parts.list.items c.reserve_mark.new.self.list.items c.reserve_mark.ensures.stays (no_more_room s.store) fits
+pub returns-in_err-room : goal.returns-in_err-room
+returns-in_err-room g c = record {
+  key = search rules;
+  next = search rules;
+  stays = λ kept marks w fits.
+      let s = c.args.self.now in
+      fits_reserved g.P.KeyPart.stands c.args.defs.now (g.met.P.KeyPart.stands_with_room c.args.defs.now) kept marks w s.next s.store s.store s.parts.list.items c.reserve_mark.new.self.list.items c.reserve_mark.ensures.stays (no_more_room s.store) fits;
+  ready = search rules;
+  promised = search rules;
+  credit = search rules;
+  ahead = search rules;
+}
 
-pub returns-in_err-reserve-clause-stays : goal.returns-in_err-reserve-clause-stays
-returns-in_err-reserve-clause-stays g c = λ kept marks w fits.
-    let s = c.args.self.now in
-    fits_reserved g.P.KeyPart.stands c.args.defs.now (g.met.P.KeyPart.stands_with_room c.args.defs.now) kept marks w s.next s.store c.reserve.new.self s.parts.list.items c.reserve_mark.new.self.list.items c.reserve_mark.ensures.stays c.reserve.ensures.kept fits
+pub returns-in_err-reserve : goal.returns-in_err-reserve
+returns-in_err-reserve g c = record {
+  key = search rules;
+  next = search rules;
+  stays = λ kept marks w fits.
+      let s = c.args.self.now in
+      fits_reserved g.P.KeyPart.stands c.args.defs.now (g.met.P.KeyPart.stands_with_room c.args.defs.now) kept marks w s.next s.store c.reserve.new.self s.parts.list.items c.reserve_mark.new.self.list.items c.reserve_mark.ensures.stays c.reserve.ensures.kept fits;
+  ready = search rules;
+  promised = search rules;
+  credit = search rules;
+  ahead = λ w each.
+      let s = c.args.self.now in
+      let d = c.args.defs.now in
+      ahead_reserved (g.P.KeyPart.is_ahead d) (g.met.P.KeyPart.ahead_with_room d) w s.store c.reserve.new.self s.parts.list.items c.reserve_mark.new.self.list.items c.reserve_mark.ensures.ahead c.reserve.ensures.kept each;
+}
 
-pub returns-in_err-make_room-clause-stays : goal.returns-in_err-make_room-clause-stays
-returns-in_err-make_room-clause-stays g c = λ kept marks w fits.
-    let s = c.args.self.now in
-    let t = c.make_room.new.self in
-    fits_same g.P.KeyPart.stands c.args.defs.now kept marks w s.next t.next c.reserve.new.self t.store c.reserve_mark.new.self.list.items t.parts.list.items c.make_room.ensures.next c.make_room.ensures.store (ap (λ (p : Parts g.row.P.Denot). p.list.items) c.make_room.ensures.parts)
-    (fits_reserved g.P.KeyPart.stands c.args.defs.now (g.met.P.KeyPart.stands_with_room c.args.defs.now) kept marks w s.next s.store c.reserve.new.self s.parts.list.items c.reserve_mark.new.self.list.items c.reserve_mark.ensures.stays c.reserve.ensures.kept fits)
+pub returns-in_err-make_room : goal.returns-in_err-make_room
+returns-in_err-make_room g c = record {
+  key = search rules;
+  next = search rules;
+  stays = λ kept marks w fits.
+      let s = c.args.self.now in
+      let t = c.make_room.new.self in
+      fits_same g.P.KeyPart.stands c.args.defs.now kept marks w s.next t.next c.reserve.new.self t.store c.reserve_mark.new.self.list.items t.parts.list.items c.make_room.ensures.next c.make_room.ensures.store (ap (λ (p : Parts g.row.P.Denot). p.list.items) c.make_room.ensures.parts)
+      (fits_reserved g.P.KeyPart.stands c.args.defs.now (g.met.P.KeyPart.stands_with_room c.args.defs.now) kept marks w s.next s.store c.reserve.new.self s.parts.list.items c.reserve_mark.new.self.list.items c.reserve_mark.ensures.stays c.reserve.ensures.kept fits);
+  ready = search rules;
+  promised = search rules;
+  credit = omega (arith, ap (λ (p : Parts g.row.P.Denot). rooms (λ i part. g.P.KeyPart.credit part) p.list.items) c.make_room.ensures.parts, c.reserve_mark.ensures.credit);
+  ahead = λ w each.
+      let s = c.args.self.now in
+      let d = c.args.defs.now in
+      let t = c.make_room.new.self in
+      ahead_same (g.P.KeyPart.is_ahead d) w c.reserve.new.self t.store c.reserve_mark.new.self.list.items t.parts.list.items c.make_room.ensures.store (ap (λ (p : Parts g.row.P.Denot). p.list.items) c.make_room.ensures.parts)
+      (ahead_reserved (g.P.KeyPart.is_ahead d) (g.met.P.KeyPart.ahead_with_room d) w s.store c.reserve.new.self s.parts.list.items c.reserve_mark.new.self.list.items c.reserve_mark.ensures.ahead c.reserve.ensures.kept each);
+}
 
-pub returns-clause-stays : goal.returns-clause-stays
-returns-clause-stays g c = λ kept marks w fits.
-    let s = c.args.self.now in
-    let t = c.make_room.new.self in
-    fits_same g.P.KeyPart.stands c.args.defs.now kept marks w s.next t.next c.reserve.new.self t.store c.reserve_mark.new.self.list.items t.parts.list.items c.make_room.ensures.next c.make_room.ensures.store (ap (λ (p : Parts g.row.P.Denot). p.list.items) c.make_room.ensures.parts)
-    (fits_reserved g.P.KeyPart.stands c.args.defs.now (g.met.P.KeyPart.stands_with_room c.args.defs.now) kept marks w s.next s.store c.reserve.new.self s.parts.list.items c.reserve_mark.new.self.list.items c.reserve_mark.ensures.stays c.reserve.ensures.kept fits)
-
-pub returns-clause-ready : goal.returns-clause-ready
-returns-clause-ready g c =
-    let d = c.args.defs.now in
-    let t = c.make_room.new.self in
-    ready_to_take (λ i part. g.P.KeyPart.is_ready d i c.args.time c.args.water part) (λ i part. g.P.KeyPart.mark_room d i c.args.time c.args.water part) c.args.water c.reserve.new.self t.store c.reserve_mark.new.self.list.items t.parts.list.items
-    c.in_ok-room.room t.promise t.scratch.items (vec_capacity t.scratch - vec_len t.scratch) c.requires.water c.in_ok-room.ensures.ready c.in_ok-reserve.ensures.room c.in_ok-room.ensures.room c.make_room.ensures.store (ap (λ (p : Parts g.row.P.Denot). p.list.items) c.make_room.ensures.parts)
-    c.in_ok-make_room.ensures.promised c.in_ok-make_room.ensures.empty c.in_ok-make_room.ensures.fits_in
-
-pub returns-in_err-reserve-clause-ahead : goal.returns-in_err-reserve-clause-ahead
-returns-in_err-reserve-clause-ahead g c = λ w each.
-    let s = c.args.self.now in
-    let d = c.args.defs.now in
-    ahead_reserved (g.P.KeyPart.is_ahead d) (g.met.P.KeyPart.ahead_with_room d) w s.store c.reserve.new.self s.parts.list.items c.reserve_mark.new.self.list.items c.reserve_mark.ensures.ahead c.reserve.ensures.kept each
-
-pub returns-in_err-make_room-clause-ahead : goal.returns-in_err-make_room-clause-ahead
-returns-in_err-make_room-clause-ahead g c = λ w each.
-    let s = c.args.self.now in
-    let d = c.args.defs.now in
-    let t = c.make_room.new.self in
-    ahead_same (g.P.KeyPart.is_ahead d) w c.reserve.new.self t.store c.reserve_mark.new.self.list.items t.parts.list.items c.make_room.ensures.store (ap (λ (p : Parts g.row.P.Denot). p.list.items) c.make_room.ensures.parts)
-    (ahead_reserved (g.P.KeyPart.is_ahead d) (g.met.P.KeyPart.ahead_with_room d) w s.store c.reserve.new.self s.parts.list.items c.reserve_mark.new.self.list.items c.reserve_mark.ensures.ahead c.reserve.ensures.kept each)
-
-pub returns-clause-ahead : goal.returns-clause-ahead
-returns-clause-ahead g c = λ w each.
-    let s = c.args.self.now in
-    let d = c.args.defs.now in
-    let t = c.make_room.new.self in
-    ahead_same (g.P.KeyPart.is_ahead d) w c.reserve.new.self t.store c.reserve_mark.new.self.list.items t.parts.list.items c.make_room.ensures.store (ap (λ (p : Parts g.row.P.Denot). p.list.items) c.make_room.ensures.parts)
-    (ahead_reserved (g.P.KeyPart.is_ahead d) (g.met.P.KeyPart.ahead_with_room d) w s.store c.reserve.new.self s.parts.list.items c.reserve_mark.new.self.list.items c.reserve_mark.ensures.ahead c.reserve.ensures.kept each)
-
-pub returns-in_err-make_room-clause-credit : goal.returns-in_err-make_room-clause-credit
-returns-in_err-make_room-clause-credit g c = omega (arith, ap (λ (p : Parts g.row.P.Denot). rooms (λ i part. g.P.KeyPart.credit part) p.list.items) c.make_room.ensures.parts, c.reserve_mark.ensures.credit)
-
-pub returns-clause-credit : goal.returns-clause-credit
-returns-clause-credit g c = omega (arith, ap (λ (p : Parts g.row.P.Denot). rooms (λ i part. g.P.KeyPart.credit part) p.list.items) c.make_room.ensures.parts, c.reserve_mark.ensures.credit)
+pub returns : goal.returns
+returns g c = record {
+  key = search rules;
+  next = search rules;
+  stays = λ kept marks w fits.
+      let s = c.args.self.now in
+      let t = c.make_room.new.self in
+      fits_same g.P.KeyPart.stands c.args.defs.now kept marks w s.next t.next c.reserve.new.self t.store c.reserve_mark.new.self.list.items t.parts.list.items c.make_room.ensures.next c.make_room.ensures.store (ap (λ (p : Parts g.row.P.Denot). p.list.items) c.make_room.ensures.parts)
+      (fits_reserved g.P.KeyPart.stands c.args.defs.now (g.met.P.KeyPart.stands_with_room c.args.defs.now) kept marks w s.next s.store c.reserve.new.self s.parts.list.items c.reserve_mark.new.self.list.items c.reserve_mark.ensures.stays c.reserve.ensures.kept fits);
+  ready =
+      let d = c.args.defs.now in
+      let t = c.make_room.new.self in
+      ready_to_take (λ i part. g.P.KeyPart.is_ready d i c.args.time c.args.water part) (λ i part. g.P.KeyPart.mark_room d i c.args.time c.args.water part) c.args.water c.reserve.new.self t.store c.reserve_mark.new.self.list.items t.parts.list.items
+      c.in_ok-room.room t.promise t.scratch.items (vec_capacity t.scratch - vec_len t.scratch) c.requires.to_come.is_water c.in_ok-room.ensures.ready c.in_ok-reserve.ensures.room c.in_ok-room.ensures.room c.make_room.ensures.store (ap (λ (p : Parts g.row.P.Denot). p.list.items) c.make_room.ensures.parts)
+      c.in_ok-make_room.ensures.promised c.in_ok-make_room.ensures.empty c.in_ok-make_room.ensures.fits_in;
+  promised = search rules;
+  credit = omega (arith, ap (λ (p : Parts g.row.P.Denot). rooms (λ i part. g.P.KeyPart.credit part) p.list.items) c.make_room.ensures.parts, c.reserve_mark.ensures.credit);
+  ahead = λ w each.
+      let s = c.args.self.now in
+      let d = c.args.defs.now in
+      let t = c.make_room.new.self in
+      ahead_same (g.P.KeyPart.is_ahead d) w c.reserve.new.self t.store c.reserve_mark.new.self.list.items t.parts.list.items c.make_room.ensures.store (ap (λ (p : Parts g.row.P.Denot). p.list.items) c.make_room.ensures.parts)
+      (ahead_reserved (g.P.KeyPart.is_ahead d) (g.met.P.KeyPart.ahead_with_room d) w s.store c.reserve.new.self s.parts.list.items c.reserve_mark.new.self.list.items c.reserve_mark.ensures.ahead c.reserve.ensures.kept each);
+}

@@ -1,53 +1,59 @@
 -- The parts took the move in, and else there is nothing that it could complete.
-use Rattle.std.proofs.Common.{◌≡◌, ◌∙◌, ◌++◌, [], ap, append-nil, arith, refl, sym, true, ⊎_elim}
+use Rattle.std.proofs.Common.{◌≡◌, ◌∙◌, ◌++◌, [], ap, append-nil, arith, refl, rules, sym, true, ⊎_elim}
 use Rattle.key_windows.specs.Calls.{moment}
 use Rattle.key_slicer.specs.States.{IsBlank, StandsFor}
 use Rattle.key_slicer.proofs.StateFacts.{all_stand, fits_blank, move_is, nothing_moves, stands_moved}
 use Rattle.key_slicer.proofs.engine.KeyStateKeyWindows.water.Goals as goal
 
-pub purge-requires-clause-stands : goal.purge-requires-clause-stands
-purge-requires-clause-stands g c =
+pub purge-requires : goal.purge-requires
+purge-requires g c =
     let r = c.requires.stands in
     let s = c.args.self.now in
     let d = c.args.defs.now in
     let m = moment r.0 r.1 c.args.old in
     let moved : StandsFor g.P.KeyPart.stands d (moment r.0 r.1 c.args.new) s.next s.store c.water.new.self.list.items =
-    stands_moved g.P.KeyPart.stands d r.0 r.1 c.args.old c.args.new s.next s.store s.parts.list.items c.water.new.self.list.items c.requires.rises r.2.known
+    stands_moved g.P.KeyPart.stands d r.0 r.1 c.args.old c.args.new s.next s.store s.parts.list.items c.water.new.self.list.items c.requires.in_time.rises r.2.known
     (c.water.ensures.stands m r.2.known.without (all_stand g.P.KeyPart.stands d m c.args.old s.next s.store s.parts.list.items refl c.vouch.ensures.holds r.2.known)) in
-    (r.0, r.1, moved)
+    record { is_water = c.requires.in_time.is_water; key = (r.0, r.1, moved) }
 
-pub returns-then-is_water-clause-fits : goal.returns-then-is_water-clause-fits
-returns-then-is_water-clause-fits g c = λ kept marks fits.
-    let s = c.args.self.now in
-    let d = c.args.defs.now in
-    let m = moment kept marks c.args.old in
-    let moved : StandsFor g.P.KeyPart.stands d (moment kept marks c.args.new) s.next s.store c.water.new.self.list.items =
-    stands_moved g.P.KeyPart.stands d kept marks c.args.old c.args.new s.next s.store s.parts.list.items c.water.new.self.list.items c.requires.rises fits.known
-    (c.water.ensures.stands m fits.known.without (all_stand g.P.KeyPart.stands d m c.args.old s.next s.store s.parts.list.items refl c.vouch.ensures.holds fits.known)) in
-    c.purge.ensures.fits kept marks moved
+pub returns-then-is_water-clause-taken : goal.returns-then-is_water-clause-taken
+returns-then-is_water-clause-taken g c = record {
+  key = search rules;
+  next = search rules;
+  changes = λ kept marks fits.
+      let s = c.args.self.now in
+      let d = c.args.defs.now in
+      let m = moment kept marks c.args.old in
+      c.water.ensures.changes m fits.known.without (all_stand g.P.KeyPart.stands d m c.args.old s.next s.store s.parts.list.items refl c.vouch.ensures.holds fits.known)
+      ∙ ap (λ cs. c.args.out.now.items ++ cs) (sym (move_is d s.key kept marks c.args.old c.args.new s.next c.windows-windows.ensures.limits fits.known.lists c.requires.in_time.rises));
+  capacity = c.water.ensures.adds.capacity;
+  fits = λ kept marks fits.
+      let s = c.args.self.now in
+      let d = c.args.defs.now in
+      let m = moment kept marks c.args.old in
+      let moved : StandsFor g.P.KeyPart.stands d (moment kept marks c.args.new) s.next s.store c.water.new.self.list.items =
+      stands_moved g.P.KeyPart.stands d kept marks c.args.old c.args.new s.next s.store s.parts.list.items c.water.new.self.list.items c.requires.in_time.rises fits.known
+      (c.water.ensures.stands m fits.known.without (all_stand g.P.KeyPart.stands d m c.args.old s.next s.store s.parts.list.items refl c.vouch.ensures.holds fits.known)) in
+      c.purge.ensures.fits kept marks moved;
+}
 
-pub returns-else-is_water-clause-fits : goal.returns-else-is_water-clause-fits
-returns-else-is_water-clause-fits g c = λ kept marks fits.
-    let s = c.args.self.now in
-    let d = c.args.defs.now in
-    ⊎_elim (λ is. let yes : c.is_water.result ≡ true = c.is_water.ensures.no is in cc (c.if-is_water.false))
-    (λ (b : IsBlank g.P.KeyPart.stands d kept marks s.next s.store s.parts.list.items). fits_blank g.P.KeyPart.stands d kept marks c.args.new s.next s.store s.parts.list.items b) fits.clock
-
-pub returns-then-is_water-clause-changes : goal.returns-then-is_water-clause-changes
-returns-then-is_water-clause-changes g c = λ kept marks fits.
-    let s = c.args.self.now in
-    let d = c.args.defs.now in
-    let m = moment kept marks c.args.old in
-    c.water.ensures.changes m fits.known.without (all_stand g.P.KeyPart.stands d m c.args.old s.next s.store s.parts.list.items refl c.vouch.ensures.holds fits.known)
-    ∙ ap (λ cs. c.args.out.now.items ++ cs) (sym (move_is d s.key kept marks c.args.old c.args.new s.next c.windows-windows.ensures.limits fits.known.lists c.requires.rises))
-
-pub returns-else-is_water-clause-changes : goal.returns-else-is_water-clause-changes
-returns-else-is_water-clause-changes g c = λ kept marks fits.
-    let s = c.args.self.now in
-    let d = c.args.defs.now in
-    let none : kept ≡ [] = ⊎_elim (λ is. let yes : c.is_water.result ≡ true = c.is_water.ensures.no is in cc (c.if-is_water.false)) (λ (b : IsBlank g.P.KeyPart.stands d kept marks s.next s.store s.parts.list.items). b.no_tuple) fits.clock in
-    sym (append-nil c.args.out.now.items)
-    ∙ ap (λ cs. c.args.out.now.items ++ cs) (sym (nothing_moves d s.key kept marks c.args.old c.args.new s.next c.windows-windows.ensures.limits fits.known.lists c.requires.rises none))
+pub returns-else-is_water-clause-taken : goal.returns-else-is_water-clause-taken
+returns-else-is_water-clause-taken g c = record {
+  key = search rules;
+  next = search rules;
+  changes = λ kept marks fits.
+      let s = c.args.self.now in
+      let d = c.args.defs.now in
+      let none : kept ≡ [] = ⊎_elim (λ is. let yes : c.is_water.result ≡ true = c.is_water.ensures.no is in cc (c.if-is_water.false)) (λ (b : IsBlank g.P.KeyPart.stands d kept marks s.next s.store s.parts.list.items). b.no_tuple) fits.clock in
+      sym (append-nil c.args.out.now.items)
+      ∙ ap (λ cs. c.args.out.now.items ++ cs) (sym (nothing_moves d s.key kept marks c.args.old c.args.new s.next c.windows-windows.ensures.limits fits.known.lists c.requires.in_time.rises none));
+  capacity = refl;
+  fits = λ kept marks fits.
+      let s = c.args.self.now in
+      let d = c.args.defs.now in
+      ⊎_elim (λ is. let yes : c.is_water.result ≡ true = c.is_water.ensures.no is in cc (c.if-is_water.false))
+      (λ (b : IsBlank g.P.KeyPart.stands d kept marks s.next s.store s.parts.list.items). fits_blank g.P.KeyPart.stands d kept marks c.args.new s.next s.store s.parts.list.items b) fits.clock;
+}
 
 pub returns-then-is_water-clause-ahead : goal.returns-then-is_water-clause-ahead
 returns-then-is_water-clause-ahead g c = λ is.

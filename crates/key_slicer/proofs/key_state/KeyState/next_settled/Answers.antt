@@ -20,6 +20,6 @@ pub returns-in-Some-clause-some_at : goal.returns-in-Some-clause-some_at
 returns-in-Some-clause-some_at g c = λ kept marks fits final.
     let s = c.args.self.now in
     let d = c.args.defs.now in
-    let one = c.in-Some.ensures.is_one in
+    let one = c.in-Some.ensures.first.is_one in
     let by = c.settled_by.ensures.by_then kept marks one.0 fits one.1 (omega (arith, one.2)) final in
     (by.0, one_less g.P.KeyPart.stands d kept marks c.args.water c.settled_by.result s.next s.store s.parts.list.items one.0 fits one.1 by.1)

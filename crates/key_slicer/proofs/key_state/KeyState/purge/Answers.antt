@@ -9,7 +9,7 @@ use Rattle.key_slicer.proofs.key_state.KeyState.purge.Goals as goal
 
 pub drop_settled-requires : goal.drop_settled-requires
 drop_settled-requires g c =
-    let r = c.requires.stands in
+    let r = c.requires.key in
     let s = c.args.self.now in
     let d = c.args.defs.now in
     let m = moment r.0 r.1 c.args.water in
@@ -26,7 +26,7 @@ returns-then-begins_before-clause-fits g c = λ kept marks f.
     let p = purge_step g.P.KeyPart.stands d (λ i part. g.P.KeyPart.settles_at d i c.args.water part) (sym c.all_count_events.ensures ∙ c.if-all_count_events.false) m s.next s.store c.drop_settled.new.self s.parts.list.items time c.vouch.ensures.holds f
     c.first_unsettled-time.ensures.least (c.first_unsettled-time.ensures.settles m f.without s.store c.args.water (omega arith) (all_stand g.P.KeyPart.stands d m c.args.water s.next s.store s.parts.list.items refl c.vouch.ensures.holds f))
     (record { slices = c.drop_settled.ensures.slices; marks = c.drop_settled.ensures.marks; dropped = c.drop_settled.ensures.dropped }) (c.drop_settled.ensures.sliced d.windows) in
-    fits_purged g.P.KeyPart.stands d (λ i part. g.P.KeyPart.settles_at d i c.args.water part) (sym c.all_count_events.ensures ∙ c.if-all_count_events.false) kept marks c.args.water s.next f.without time p.0 s.store c.drop_settled.new.self c.drop_settled-then-begins_before.new.self.list.items c.requires.water f.lists p.1
+    fits_purged g.P.KeyPart.stands d (λ i part. g.P.KeyPart.settles_at d i c.args.water part) (sym c.all_count_events.ensures ∙ c.if-all_count_events.false) kept marks c.args.water s.next f.without time p.0 s.store c.drop_settled.new.self c.drop_settled-then-begins_before.new.self.list.items c.requires.is_water f.lists p.1
     (c.drop_settled-then-begins_before.ensures.stands m f.without time s.store p.0 c.drop_settled.new.self (record { water_is = refl; purge = p.1; stood = f.stood }) c.first_unsettled-time.ensures.least.by_each)
     f.bare
     (open_left g.P.KeyPart.stands d (λ i part. g.P.KeyPart.settles_at d i c.args.water part) (sym c.all_count_events.ensures ∙ c.if-all_count_events.false) m s.next s.store c.drop_settled.new.self s.parts.list.items time c.vouch.ensures.holds f
@@ -42,7 +42,7 @@ returns-else-begins_before-clause-fits g c = λ kept marks f.
       none_settled = open_left g.P.KeyPart.stands d (λ i part. g.P.KeyPart.settles_at d i c.args.water part) (sym c.all_count_events.ensures ∙ c.if-all_count_events.false) m s.next s.store s.store s.parts.list.items c.first_unsettled-time.result c.vouch.ensures.holds f
           c.first_unsettled-time.ensures.least (c.first_unsettled-time.ensures.settles m f.without s.store c.args.water (omega arith) (all_stand g.P.KeyPart.stands d m c.args.water s.next s.store s.parts.list.items refl c.vouch.ensures.holds f))
           (sym (c.begins_before.ensures c.if-begins_before.false));
-      clock = inl c.requires.water;
+      clock = inl c.requires.is_water;
     }
 
 pub returns-then-all_count_events-clause-fits : goal.returns-then-all_count_events-clause-fits
@@ -52,7 +52,7 @@ returns-then-all_count_events-clause-fits g c = λ kept marks f.
     record {
       known = f;
       none_settled = none_in_bare d (moment kept marks c.args.water) s.store (f.bare (sym c.all_count_events.ensures ∙ c.if-all_count_events.true));
-      clock = inl c.requires.water;
+      clock = inl c.requires.is_water;
     }
 
 pub returns-then-begins_before-clause-work : goal.returns-then-begins_before-clause-work
@@ -65,7 +65,7 @@ returns-then-begins_before-clause-work g c =
 
 pub returns-then-begins_before-clause-ahead : goal.returns-then-begins_before-clause-ahead
 returns-then-begins_before-clause-ahead g c = λ each.
-    let r = c.requires.stands in
+    let r = c.requires.key in
     let s = c.args.self.now in
     let d = c.args.defs.now in
     let m = moment r.0 r.1 c.args.water in

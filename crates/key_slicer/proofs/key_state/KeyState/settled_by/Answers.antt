@@ -19,7 +19,7 @@ returns-clause-none_before g c = λ kept marks new fits rises below is.
     let early : new < c.settled_by.result = ⊎_elim (λ lt. lt) (λ (le : c.settled_by.result ≤ new). absurd (omega (arith, below, c.water_from.ensures.first new is le))) (cases_lt new c.settled_by.result) in
     open_at g.P.KeyPart.stands d (λ i part. g.P.KeyPart.settles_at d i new part) c.requires.some kept marks c.args.water new s.next s.store s.parts.list.items c.args.time c.vouch.ensures.holds rises f
     (c.settled_by.ensures.settles m f.without s.store c.args.water new rises is (all_stand g.P.KeyPart.stands d m c.args.water s.next s.store s.parts.list.items refl c.vouch.ensures.holds f))
-    (λ least o. c.settled_by.ensures.before new least early o) c.requires.first
+    (λ least o. c.settled_by.ensures.before new least early o) c.requires.first.least
 
 pub returns-clause-by_then : goal.returns-clause-by_then
 returns-clause-by_then g c = λ kept marks x fits there le final.
@@ -41,6 +41,6 @@ returns-clause-by_then g c = λ kept marks x fits there le final.
     let late : c.settled_by.result ≤ water = omega (arith, ge, c.water_from.ensures.from) in
     let settled : is_settled d m x ≡ true =
     settled_then g.P.KeyPart.stands d (λ i part. g.P.KeyPart.settles_at d i water part) c.requires.some kept marks water water s.next s.store s.parts.list.items c.args.time x (omega arith) f
-    (c.settled_by.ensures.settles m f.without s.store water water (omega arith) c.requires.water stand) (λ least o. c.settled_by.ensures.by_then water least late o) there le in
+    (c.settled_by.ensures.settles m f.without s.store water water (omega arith) c.requires.stands.is_water stand) (λ least o. c.settled_by.ensures.by_then water least late o) there le in
     absurd (false≢true (sym (All-contains (λ (x : Kept). is_settled d m x ≡ false) (tuples_of s.store) x fits.none_settled there) ∙ settled)))
     (cases_lt c.args.water due)

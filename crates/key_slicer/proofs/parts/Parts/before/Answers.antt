@@ -21,8 +21,8 @@ loop-window-preserved g c =
       stepped = one_stepped step i start now c.index_mut.result.now c.before-in-loop-window.new.self within c.loop-window.invariant.stepped c.index_mut.ensures.value
           (record { stays = c.before-in-loop-window.ensures.stays; asked = c.before-in-loop-window.ensures.asked; ready = c.before-in-loop-window.ensures.ready; same_room = c.before-in-loop-window.ensures.room });
       work = work_more (64 * (c.args.store.now.reach + 2)) (rooms owed (take i now)) (owed i c.before-in-loop-window.new.self) (rooms owed (take (i + 1) (set now i c.before-in-loop-window.new.self))) c.args.steps.now c.loop-window.steps c.before-in-loop-window.new.steps
-          c.loop-window.invariant.work c.before-in-loop-window.ensures.work (room_more owed i now c.before-in-loop-window.new.self here);
-      credit = credit_less g.P.KeyPart.credit i (rooms (λ j part. g.P.KeyPart.credit part) start) now c.index_mut.result.now c.before-in-loop-window.new.self here c.index_mut.ensures.value c.before-in-loop-window.ensures.credit c.loop-window.invariant.credit;
+          c.loop-window.invariant.work c.before-in-loop-window.ensures.cost.work (room_more owed i now c.before-in-loop-window.new.self here);
+      credit = credit_less g.P.KeyPart.credit i (rooms (λ j part. g.P.KeyPart.credit part) start) now c.index_mut.result.now c.before-in-loop-window.new.self here c.index_mut.ensures.value c.before-in-loop-window.ensures.cost.credit c.loop-window.invariant.credit;
       ahead = ahead_set (g.P.KeyPart.is_ahead d) i start now c.index_mut.result.now c.before-in-loop-window.new.self here c.index_mut.ensures.value c.before-in-loop-window.ensures.ahead c.loop-window.invariant.ahead;
     }
 
@@ -32,8 +32,11 @@ returns-clause-room g c =
     rooms_same (λ i part. g.P.KeyPart.put_room d i c.args.time c.args.water part) c.args.self.now.list.items c.loop-window.self.list.items c.loop-window.invariant.stepped.as_many
     (λ j x l. (c.loop-window.invariant.stepped.done j x (omega arith)).same_room)
 
-pub returns-clause-work : goal.returns-clause-work
-returns-clause-work g c =
+pub returns-clause-cost : goal.returns-clause-cost
+returns-clause-cost g c =
     let now = c.loop-window.self.list.items in
     let all : length now ≤ c.loop-window.window = omega (arith, c.loop-window.invariant.stepped.as_many) in
-    subst (λ ps. c.loop-window.steps ≤ c.args.steps.now + 64 * (c.args.store.now.reach + 2) * rooms (λ i part. g.P.KeyPart.owed part) ps) (take_all c.loop-window.window now all) c.loop-window.invariant.work
+    record {
+      work = subst (λ ps. c.loop-window.steps ≤ c.args.steps.now + 64 * (c.args.store.now.reach + 2) * rooms (λ i part. g.P.KeyPart.owed part) ps) (take_all c.loop-window.window now all) c.loop-window.invariant.work;
+      credit = c.loop-window.invariant.credit;
+    }

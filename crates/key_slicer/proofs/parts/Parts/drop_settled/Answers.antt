@@ -17,7 +17,7 @@ loop-window-preserved g c =
     record {
       stepped = one_stepped (IsRid g.P.KeyPart.stands d g.P.KeyPart.is_ahead (λ j part. g.P.KeyPart.settles_at d j c.args.water part) c.args.water) i start now c.index_mut.result.now c.drop_settled.new.self within c.loop-window.invariant.stepped c.index_mut.ensures.value
           (record { stands_on = c.drop_settled.ensures.stands; ahead = c.drop_settled.ensures.ahead });
-      credit = credit_less g.P.KeyPart.credit i (rooms (λ j part. g.P.KeyPart.credit part) start) now c.index_mut.result.now c.drop_settled.new.self here c.index_mut.ensures.value c.drop_settled.ensures.credit c.loop-window.invariant.credit;
+      credit = credit_less g.P.KeyPart.credit i (rooms (λ j part. g.P.KeyPart.credit part) start) now c.index_mut.result.now c.drop_settled.new.self here c.index_mut.ensures.value (omega (arith, c.drop_settled.ensures.credit)) c.loop-window.invariant.credit;
     }
 
 pub returns-clause-stands : goal.returns-clause-stands

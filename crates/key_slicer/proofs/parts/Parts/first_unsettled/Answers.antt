@@ -14,7 +14,7 @@ loop-window-preserved g c =
     let d = c.args.defs.now in
     let i = c.loop-window.window in
     let parts = c.args.self.now.list.items in
-    let within : i < length parts = omega (arith, c.requires.stands.4.stood.as_many) in
+    let within : i < length parts = omega (arith, c.requires.4.stood.as_many) in
     let there = is_there parts i c.index.result.now within c.index.ensures in
     let time_of = λ (j : ℕ) (part : g.row.P.Denot). g.P.KeyPart.settles_at d j c.args.water part in
     record {
@@ -30,7 +30,7 @@ loop-window-preserved g c =
 pub returns-clause-least : goal.returns-clause-least
 returns-clause-least g c =
     let d = c.args.defs.now in
-    least_all (λ (j : ℕ) (part : g.row.P.Denot). g.P.KeyPart.settles_at d j c.args.water part) (c.args.water - d.lateness) c.args.self.now.list.items c.loop-window.window c.loop-window.time (omega (arith, c.requires.stands.4.stood.as_many)) c.loop-window.invariant.least
+    least_all (λ (j : ℕ) (part : g.row.P.Denot). g.P.KeyPart.settles_at d j c.args.water part) (c.args.water - d.lateness) c.args.self.now.list.items c.loop-window.window c.loop-window.time (omega (arith, c.requires.4.stood.as_many)) c.loop-window.invariant.least
 
 pub returns-clause-settles : goal.returns-clause-settles
 returns-clause-settles g c = λ m n s w le all i x l. c.loop-window.invariant.settles m n s w le all i x (omega (arith, all.stood.as_many))

@@ -29,13 +29,13 @@ loop-window-preserved g c =
       changes = λ m n before all.
           appended_more (turns c.args.key.now m (with_mark m c.args.time)) d.windows i (record { kind = Marks; func = Count }) c.args.out.now.items c.loop-window.out.items c.mark.new.out.items (omega (arith, all.stood.as_many)) (c.loop-window.invariant.changes m n before all)
           (c.mark.ensures.changes m n before (mark_for_one g.P.KeyPart.stands d c.args.water c.args.time c.args.store.now start m n before i c.index_mut.result.now within untouched all));
-      spare = omega (arith, first, same, c.mark.ensures.room, c.mark.ensures.capacity, c.loop-window.invariant.spare);
-      room = omega (arith, first, same, c.mark.ensures.room, c.loop-window.invariant.room);
-      capacity = c.mark.ensures.capacity ∙ c.loop-window.invariant.capacity;
+      spare = omega (arith, first, same, c.mark.ensures.adds.number, c.mark.ensures.adds.capacity, c.loop-window.invariant.spare);
+      room = omega (arith, first, same, c.mark.ensures.adds.number, c.loop-window.invariant.room);
+      capacity = c.mark.ensures.adds.capacity ∙ c.loop-window.invariant.capacity;
       grown = omega (arith, more, c.loop-window.invariant.grown);
       work = work_grown (64 * (c.args.store.now.reach + 2)) (vec_len c.args.out.now) (vec_len c.loop-window.out) (vec_len c.mark.new.out) c.args.steps.now c.loop-window.steps c.mark.new.steps
-          c.loop-window.invariant.grown more c.loop-window.invariant.work c.mark.ensures.work;
-      credit = credit_less g.P.KeyPart.credit i (rooms (λ j part. g.P.KeyPart.credit part) start) now c.index_mut.result.now c.mark.new.self here c.index_mut.ensures.value c.mark.ensures.credit c.loop-window.invariant.credit;
+          c.loop-window.invariant.grown more c.loop-window.invariant.work c.mark.ensures.cost.work;
+      credit = credit_less g.P.KeyPart.credit i (rooms (λ j part. g.P.KeyPart.credit part) start) now c.index_mut.result.now c.mark.new.self here c.index_mut.ensures.value c.mark.ensures.cost.credit c.loop-window.invariant.credit;
     }
 
 pub returns-clause-changes : goal.returns-clause-changes
@@ -47,4 +47,4 @@ returns-clause-ahead g c = λ m n before all le each.
     let d = c.args.defs.now in
     let start = c.args.self.now.list.items in
     each_done (λ j part. g.P.KeyPart.is_ahead d j c.args.water c.args.store.now part) (IsMarkedIn g.P.KeyPart.stands d g.P.KeyPart.is_ahead c.args.water c.args.time c.args.store.now) c.loop-window.window start c.loop-window.self.list.items (omega (arith, all.stood.as_many)) c.loop-window.invariant.stepped
-    (λ j y l h. h.ahead m n before (record { water_is = all.water_is; step = all.step; stood = all.stood.each j y l }) le (each j y l))
+    (λ j y l h. h.ahead m n before (record { water_is = all.water_is; is_water = all.is_water; step = all.step; stood = all.stood.each j y l }) le (each j y l))

@@ -44,9 +44,9 @@ loop-window-preserved g c =
       changes = λ m n before more all.
           appended_more (turns c.args.key.now m (with_tuple m x)) d.windows i (record { kind = Marks; func = Count }) c.args.out.now.items c.loop-window.out.items c.put.new.out.items (omega (arith, all.stood.as_many)) (c.loop-window.invariant.changes m n before more all)
           (c.put.ensures.changes m n before more (tuple_for_one g.P.KeyPart.stands d asked c.args.water x c.args.store.now start m n before more i c.index_mut.result.now within untouched all));
-      spare = omega (arith, first, same, c.put.ensures.room, c.put.ensures.capacity, c.loop-window.invariant.spare);
-      room = omega (arith, first, same, c.put.ensures.room, c.loop-window.invariant.room);
-      capacity = c.put.ensures.capacity ∙ c.loop-window.invariant.capacity;
+      spare = omega (arith, first, same, c.put.ensures.adds.number, c.put.ensures.adds.capacity, c.loop-window.invariant.spare);
+      room = omega (arith, first, same, c.put.ensures.adds.number, c.loop-window.invariant.room);
+      capacity = c.put.ensures.adds.capacity ∙ c.loop-window.invariant.capacity;
       grown = omega (arith, more, c.loop-window.invariant.grown);
       owed = omega (arith, asked_first, asked_same, more, c.put.ensures.owed, c.loop-window.invariant.grown, c.loop-window.invariant.owed);
       work = λ m n before more all.
@@ -57,8 +57,8 @@ loop-window-preserved g c =
                 (c.put.ensures.changes m n before more (tuple_for_one g.P.KeyPart.stands d asked c.args.water x c.args.store.now start m n before more i c.index_mut.result.now within untouched all)),
           ) in
           turned_more c.args.key.now m (with_tuple m x) c.args.store.now.reach d.windows i (record { kind = Marks; func = Count }) (vec_len c.put.new.out - vec_len c.loop-window.out) c.args.steps.now c.loop-window.steps c.put.new.steps (omega (arith, all.stood.as_many))
-          (c.loop-window.invariant.work m n before more all) many c.put.ensures.work;
-      credit = credit_less g.P.KeyPart.credit i (rooms (λ j part. g.P.KeyPart.credit part) start) now c.index_mut.result.now c.put.new.self here c.index_mut.ensures.value c.put.ensures.credit c.loop-window.invariant.credit;
+          (c.loop-window.invariant.work m n before more all) many c.put.ensures.cost.work;
+      credit = credit_less g.P.KeyPart.credit i (rooms (λ j part. g.P.KeyPart.credit part) start) now c.index_mut.result.now c.put.new.self here c.index_mut.ensures.value c.put.ensures.cost.credit c.loop-window.invariant.credit;
     }
 
 pub returns-clause-changes : goal.returns-clause-changes
@@ -100,4 +100,4 @@ returns-clause-ahead g c =
     → EachPart (λ i part. g.P.KeyPart.is_ahead d i c.args.water before part) start → EachPart (λ i part. g.P.KeyPart.is_ahead d i c.args.water c.args.store.now part) now)
     (to_z-of_z w64 c.args.value c.ranges.value)
     (λ m n before more all le each. each_done (λ j part. g.P.KeyPart.is_ahead d j c.args.water c.args.store.now part) (IsPutIn g.P.KeyPart.stands d g.P.KeyPart.is_asked g.P.KeyPart.is_ahead c.args.water x c.args.store.now) c.loop-window.window start now (omega (arith, all.stood.as_many)) c.loop-window.invariant.stepped
-    (λ j y l h. h.ahead m n before more (record { water_is = all.water_is; step = all.step; stood = all.stood.each j y l; asked = all.asked j y l }) le (each j y l)))
+    (λ j y l h. h.ahead m n before more (record { water_is = all.water_is; is_water = all.is_water; step = all.step; stood = all.stood.each j y l; asked = all.asked j y l }) le (each j y l)))

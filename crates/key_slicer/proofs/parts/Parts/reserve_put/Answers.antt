@@ -1,5 +1,5 @@
 -- One part more has room.
-use Rattle.std.proofs.Common.{◌∙◌, ◌+◌, ◌<◌, arith, length, sym}
+use Rattle.std.proofs.Common.{◌∙◌, ◌+◌, ◌<◌, arith, length, rules, sym}
 use Rattle.key_slicer.specs.Parts.{rooms}
 use Rattle.key_slicer.proofs.AheadFacts.{ahead_set, credit_less}
 use Rattle.key_slicer.proofs.Loops.{one_stepped, room_more}
@@ -23,14 +23,26 @@ loop-window-preserved g c =
       ahead = ahead_set (g.P.KeyPart.is_ahead d) i start now c.index_mut.result.now c.reserve_put.new.self here c.index_mut.ensures.value c.reserve_put.ensures.ahead c.loop-window.invariant.ahead;
     }
 
-pub returns-in_err-more-clause-credit : goal.returns-in_err-more-clause-credit
-returns-in_err-more-clause-credit g c =
+pub returns-in_err-more : goal.returns-in_err-more
+returns-in_err-more g c =
     let now = c.loop-window.self.list.items in
     let here : c.loop-window.window < length now = omega (arith, c.loop-window.invariant.stepped.as_many) in
-    credit_less g.P.KeyPart.credit c.loop-window.window (rooms (λ j part. g.P.KeyPart.credit part) c.args.self.now.list.items) now c.index_mut.result.now c.reserve_put.new.self here c.index_mut.ensures.value c.reserve_put.ensures.credit c.loop-window.invariant.credit
+    record {
+      stays = search rules;
+      ready = search rules;
+      room = search rules;
+      credit = credit_less g.P.KeyPart.credit c.loop-window.window (rooms (λ j part. g.P.KeyPart.credit part) c.args.self.now.list.items) now c.index_mut.result.now c.reserve_put.new.self here c.index_mut.ensures.value c.reserve_put.ensures.credit c.loop-window.invariant.credit;
+      ahead = ahead_set (g.P.KeyPart.is_ahead c.args.defs.now) c.loop-window.window c.args.self.now.list.items now c.index_mut.result.now c.reserve_put.new.self here c.index_mut.ensures.value c.reserve_put.ensures.ahead c.loop-window.invariant.ahead;
+    }
 
-pub returns-in_err-room-clause-credit : goal.returns-in_err-room-clause-credit
-returns-in_err-room-clause-credit g c =
+pub returns-in_err-room : goal.returns-in_err-room
+returns-in_err-room g c =
     let now = c.loop-window.self.list.items in
     let here : c.loop-window.window < length now = omega (arith, c.loop-window.invariant.stepped.as_many) in
-    credit_less g.P.KeyPart.credit c.loop-window.window (rooms (λ j part. g.P.KeyPart.credit part) c.args.self.now.list.items) now c.index_mut.result.now c.reserve_put.new.self here c.index_mut.ensures.value c.reserve_put.ensures.credit c.loop-window.invariant.credit
+    record {
+      stays = search rules;
+      ready = search rules;
+      room = search rules;
+      credit = credit_less g.P.KeyPart.credit c.loop-window.window (rooms (λ j part. g.P.KeyPart.credit part) c.args.self.now.list.items) now c.index_mut.result.now c.reserve_put.new.self here c.index_mut.ensures.value c.reserve_put.ensures.credit c.loop-window.invariant.credit;
+      ahead = ahead_set (g.P.KeyPart.is_ahead c.args.defs.now) c.loop-window.window c.args.self.now.list.items now c.index_mut.result.now c.reserve_put.new.self here c.index_mut.ensures.value c.reserve_put.ensures.ahead c.loop-window.invariant.ahead;
+    }

@@ -13,7 +13,7 @@ loop-window-preserved g c =
     let d = c.args.defs.now in
     let i = c.loop-window.window in
     let parts = c.args.self.now.list.items in
-    let within : i < length parts = omega (arith, c.requires.stands.4.stood.as_many) in
+    let within : i < length parts = omega (arith, c.requires.key.4.stood.as_many) in
     let there = is_there parts i c.index.result.now within c.index.ensures in
     record {
       due = due_more (λ water j part. g.P.KeyPart.settles_at d j water part) d.lateness parts c.args.time i c.loop-window.due c.settled_by.result c.max-due.result c.index.result.now there c.max-due.ensures
@@ -33,14 +33,14 @@ pub returns-clause-before : goal.returns-clause-before
 returns-clause-before g c = λ water least l o.
     let d = c.args.defs.now in
     let parts = c.args.self.now.list.items in
-    let all : c.loop-window.window ≡ length parts = omega (arith, c.requires.stands.4.stood.as_many) in
+    let all : c.loop-window.window ≡ length parts = omega (arith, c.requires.key.4.stood.as_many) in
     due_before (λ water i part. g.P.KeyPart.settles_at d i water part) d.lateness parts c.args.time c.loop-window.window c.loop-window.due water least all c.loop-window.invariant.due l o
 
 pub returns-clause-by_then : goal.returns-clause-by_then
 returns-clause-by_then g c = λ water least l o.
     let d = c.args.defs.now in
     let parts = c.args.self.now.list.items in
-    let all : c.loop-window.window ≡ length parts = omega (arith, c.requires.stands.4.stood.as_many) in
+    let all : c.loop-window.window ≡ length parts = omega (arith, c.requires.key.4.stood.as_many) in
     due_by_then (λ water i part. g.P.KeyPart.settles_at d i water part) d.lateness parts c.args.time c.loop-window.window c.loop-window.due water least all c.loop-window.invariant.due l o
 
 pub returns-clause-settles : goal.returns-clause-settles

@@ -38,9 +38,9 @@ loop-window-preserved g c =
       changes = λ m n all.
           appended_more (completions c.args.key.now m c.args.new) d.windows i (record { kind = Marks; func = Count }) c.args.out.now.items c.loop-window.out.items c.water.new.out.items (omega (arith, all.stood.as_many)) (c.loop-window.invariant.changes m n all)
           (c.water.ensures.changes m n (stands_for_one g.P.KeyPart.stands d c.args.old c.args.store.now start m n i c.index_mut.result.now within untouched all));
-      spare = omega (arith, first, same, c.water.ensures.room, c.water.ensures.capacity, c.loop-window.invariant.spare);
-      room = omega (arith, first, same, c.water.ensures.room, c.loop-window.invariant.room);
-      capacity = c.water.ensures.capacity ∙ c.loop-window.invariant.capacity;
+      spare = omega (arith, first, same, c.water.ensures.adds.number, c.water.ensures.adds.capacity, c.loop-window.invariant.spare);
+      room = omega (arith, first, same, c.water.ensures.adds.number, c.loop-window.invariant.room);
+      capacity = c.water.ensures.adds.capacity ∙ c.loop-window.invariant.capacity;
       work_ahead = λ m n all each.
           let one = stands_for_one g.P.KeyPart.stands d c.args.old c.args.store.now start m n i c.index_mut.result.now within untouched all in
           let many = completed m (c.water.ensures.changes m n one) in

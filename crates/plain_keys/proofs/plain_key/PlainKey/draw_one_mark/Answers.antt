@@ -11,4 +11,4 @@ new-new-requires c =
     let s = c.self.inside in
     let marks : insert_key nat_cmp s.marks.items c.args.time ≡ c.deref-5.result.now = sym (c.deref-5.ensures.value ∙ c.in_ok-draw_mark.ensures ∙ ap (λ ms. insert_key nat_cmp ms c.args.time) c.deref.ensures.value) in
     subst (AreKeyLists c.deref-4.result.now) marks
-    (subst (λ ks. AreKeyLists ks (insert_key nat_cmp s.marks.items c.args.time)) (sym c.deref-4.ensures.value) (lists_mark s.kept.items s.marks.items c.args.time c.self.invariant.lists c.requires.time))
+    (subst (λ ks. AreKeyLists ks (insert_key nat_cmp s.marks.items c.args.time)) (sym c.deref-4.ensures.value) (lists_mark s.kept.items s.marks.items c.args.time c.self.invariant.lists c.requires.within))

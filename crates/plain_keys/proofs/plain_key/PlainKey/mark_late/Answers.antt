@@ -15,11 +15,11 @@ new-new-requires g c =
     let marks : insert_key nat_cmp s.marks.items c.args.time ≡ c.deref-4.result.now = sym (c.deref-4.ensures.value ∙ drawn) in
     let kept : s.kept.items ≡ c.deref-3.result.now = sym c.deref-3.ensures.value in
     subst (λ (ks : List Kept). AreKeyLists ks c.deref-4.result.now) kept
-    (subst (λ (ms : List ℕ). AreKeyLists s.kept.items ms) marks (lists_mark s.kept.items s.marks.items c.args.time c.self.invariant.lists c.requires.time))
+    (subst (λ (ms : List ℕ). AreKeyLists s.kept.items ms) marks (lists_mark s.kept.items s.marks.items c.args.time c.self.invariant.lists c.requires.mark.within))
 
 pub invariant_of-self : goal.invariant_of-self
 invariant_of-self g c =
     let s = c.self.inside in
     let drawn : s.next_marks.items ≡ insert_key nat_cmp s.marks.items c.args.time = subst (λ (t : State). t.next_marks ≡ insert_key nat_cmp t.marks c.args.time) (sym c.self.view_is) c.requires.drawn in
     let marks : insert_key nat_cmp s.marks.items c.args.time ≡ c.swap.new.x.items = sym (ap (λ v. v.items) c.swap.ensures.x_after ∙ drawn) in
-    subst (λ (ms : List ℕ). IsState s.kept.items ms s.next) marks (state_mark s.kept.items s.marks.items s.next c.args.time c.self.invariant c.requires.time)
+    subst (λ (ms : List ℕ). IsState s.kept.items ms s.next) marks (state_mark s.kept.items s.marks.items s.next c.args.time c.self.invariant c.requires.mark.within)

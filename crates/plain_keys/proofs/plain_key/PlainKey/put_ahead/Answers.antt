@@ -6,8 +6,11 @@ use Rattle.plain_keys.specs.States.{IsState, State}
 use Rattle.plain_keys.proofs.Keeps.{state_put}
 use Rattle.plain_keys.proofs.plain_key.PlainKey.put_ahead.Goals as goal
 
-pub put_in-requires-clause-in_order : goal.put_in-requires-clause-in_order
-put_in-requires-clause-in_order c = times_do_not_fall c.self.inside.kept.items c.self.invariant.lists.in_order
+pub put_in-requires-clause-place : goal.put_in-requires-clause-place
+put_in-requires-clause-place c = record {
+  in_order = times_do_not_fall c.self.inside.kept.items c.self.invariant.lists.in_order;
+  within = c.requires.next.time;
+}
 
 pub invariant_of-self : goal.invariant_of-self
 invariant_of-self c =

@@ -9,8 +9,11 @@ use Rattle.plain_keys.specs.States.{IsState, State}
 use Rattle.plain_keys.proofs.Keeps.{state_put}
 use Rattle.plain_keys.proofs.plain_key.PlainKey.put_late.Goals as goal
 
-pub fill_in-requires-clause-in_order : goal.fill_in-requires-clause-in_order
-fill_in-requires-clause-in_order g c = subst TimesDoNotFall (sym c.deref.ensures.value) (times_do_not_fall c.self.inside.kept.items c.self.invariant.lists.in_order)
+pub fill_in-requires-clause-place : goal.fill_in-requires-clause-place
+fill_in-requires-clause-place g c = record {
+  in_order = subst TimesDoNotFall (sym c.deref.ensures.value) (times_do_not_fall c.self.inside.kept.items c.self.invariant.lists.in_order);
+  within = c.requires.next.time;
+}
 
 pub new-new-requires : goal.new-new-requires
 new-new-requires g c =

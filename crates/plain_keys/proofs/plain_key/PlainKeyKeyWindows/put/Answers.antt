@@ -1,5 +1,5 @@
 -- A tuple after the watermark changes nothing, and an earlier one as much as its stand-in.
-use Rattle.std.proofs.Common.{◌≡◌, ◌∙◌, ◌++◌, ◌-◌, ◌<◌, ◌≤◌, [], ℕ, List, length, vec_len, ap, sym, subst, append-nil, arith, to_z, of_z, w64}
+use Rattle.std.proofs.Common.{◌≡◌, ◌∙◌, ◌+◌, ◌++◌, ◌-◌, ◌<◌, ◌≤◌, [], length, vec_len, ap, refl, sym, subst, append-nil, arith, to_z, of_z, w64}
 use Rattle.std.specs.Prelude.{vec_capacity}
 use Rattle.std.proofs.lemmas.Int.{to_z-of_z}
 use Rattle.stream_base.specs.declared.kept.Kept.{Kept}
@@ -7,8 +7,7 @@ use Rattle.stream_base.specs.declared.limits.TheConstants.{JOURNAL_MAX}
 use Rattle.stream_base.specs.Model.Changes.{changes_between}
 use Rattle.stream_base.specs.Model.Journal.{put_in_order}
 use Rattle.key_windows.specs.Calls.{changes_by_put, kept_at, moment}
-use Rattle.plain_windows.specs.Changing.{IsDue}
-use Rattle.plain_keys.proofs.Keeps.{fits_put, put_count, put_nothing}
+use Rattle.plain_keys.proofs.Keeps.{due_same, fits_put, put_count, put_nothing}
 use Rattle.plain_keys.proofs.plain_key.PlainKeyKeyWindows.put.Goals as goal
 
 pub put_late-requires-clause-spare : goal.put_late-requires-clause-spare
@@ -19,36 +18,48 @@ put_late-requires-clause-spare g c =
     let counted : length (changes_between d.windows s.key (moment s.kept s.marks c.args.water) (moment (put_in_order s.kept c.kept_at-x.result) s.marks c.args.water)) ≡ s.promise =
     (λ i. length (changes_between d.windows s.key (moment s.kept s.marks c.args.water) (moment (put_in_order s.kept (c.kept_at-x.ensures i)) s.marks c.args.water)))
     ∙ put_count d s.key s.kept s.marks s.next c.args.pos c.args.time (to_z w64 (of_z w64 c.args.value)) c.args.water c.vouch.ensures c.requires.position c.requires.few
-    ∙ sym (c.requires.ready.promised c.if-water-time.false few s.key) in
-    subst (λ n. n ≤ vec_capacity c.args.out.now - vec_len c.args.out.now) (sym counted) c.requires.spare
+    ∙ sym (c.requires.comes.ready.promised c.if-water-time.false few s.key) in
+    subst (λ n. n ≤ vec_capacity c.args.out.now - vec_len c.args.out.now) (sym counted) c.requires.comes.spare
 
-pub returns-then-water-time-clause-changes : goal.returns-then-water-time-clause-changes
-returns-then-water-time-clause-changes g c = λ kept marks fits.
+pub returns-then-water-time-clause-taken : goal.returns-then-water-time-clause-taken
+returns-then-water-time-clause-taken g c =
     let d = c.args.defs.now in
     let s = c.args.self.now in
-    let x = kept_at c.args.pos c.args.time c.args.value in
-    let none : changes_by_put d s.key kept marks c.args.water x ≡ [] =
-    (λ i. changes_by_put d s.key (sym fits.0 i) (sym fits.1 i) c.args.water x)
-    ∙ put_nothing d s.key s.kept s.marks c.args.water x c.windows-windows.ensures.limits c.vouch.ensures.lists c.if-water-time.true in
-    sym (append-nil c.args.out.now.items) ∙ ap (λ cs. c.args.out.now.items ++ cs) (sym none)
-
-pub returns-then-water-time-clause-fits : goal.returns-then-water-time-clause-fits
-returns-then-water-time-clause-fits g c = λ kept marks fits.
     let x = c.kept_at-x.result in
     let y = kept_at c.args.pos c.args.time c.args.value in
     let is : x ≡ y = c.kept_at-x.ensures ∙ ap (kept_at c.args.pos c.args.time) (to_z-of_z w64 c.args.value c.ranges.value) in
-    fits_put c.args.defs.now kept marks c.args.water c.args.time c.args.self.now c.put_ahead.new.self c.look_behind.new.self x y fits c.put_ahead.ensures c.look_behind.ensures.same is
-    (ap (λ (y : Kept). y.time) c.kept_at-x.ensures) (λ k z at put. c.look_behind.ensures.ahead k z at put c.if-water-time.true)
+    record {
+      key = c.look_behind.ensures.same.key ∙ c.put_ahead.ensures.key;
+      next = c.look_behind.ensures.same.next ∙ c.put_ahead.ensures.next ∙ ap (λ (k : Kept). k.position + 1) is;
+      changes = λ kept marks fits.
+          let none : changes_by_put d s.key kept marks c.args.water y ≡ [] =
+          (λ i. changes_by_put d s.key (sym fits.0 i) (sym fits.1 i) c.args.water y)
+          ∙ put_nothing d s.key s.kept s.marks c.args.water y c.windows-windows.ensures.limits c.vouch.ensures.lists c.if-water-time.true in
+          sym (append-nil c.args.out.now.items) ∙ ap (λ cs. c.args.out.now.items ++ cs) (sym none);
+      capacity = refl;
+      fits = λ kept marks fits.
+          fits_put d kept marks c.args.water c.args.time s c.put_ahead.new.self c.look_behind.new.self x y fits c.put_ahead.ensures c.look_behind.ensures.same is
+          (ap (λ (k : Kept). k.time) c.kept_at-x.ensures) (λ k z at put. c.look_behind.ensures.ahead k z at put c.if-water-time.true);
+    }
 
-pub returns-else-water-time-clause-fits : goal.returns-else-water-time-clause-fits
-returns-else-water-time-clause-fits g c = λ kept marks fits.
+pub returns-else-water-time-clause-taken : goal.returns-else-water-time-clause-taken
+returns-else-water-time-clause-taken g c =
     let d = c.args.defs.now in
-    let x = c.kept_at-x.result in
+    let s = c.args.self.now in
     let y = kept_at c.args.pos c.args.time c.args.value in
-    let is : x ≡ y = c.kept_at-x.ensures ∙ ap (kept_at c.args.pos c.args.time) (to_z-of_z w64 c.args.value c.ranges.value) in
+    let is : c.kept_at-x.result ≡ y = c.kept_at-x.ensures ∙ ap (kept_at c.args.pos c.args.time) (to_z-of_z w64 c.args.value c.ranges.value) in
     let new = c.look_ahead.new.self in
     let same = c.look_ahead.ensures.same in
     let put = c.put_late.ensures.put in
-    let ks : new.kept ≡ put_in_order kept y = same.kept ∙ put.kept ∙ (λ i. put_in_order (fits.0 i) (is i)) in
-    let ms : new.marks ≡ marks = same.marks ∙ put.marks ∙ fits.1 in
-    (ks, ms, subst (λ (k : List Kept). IsDue d.windows k marks c.args.water new.due) ks (subst (λ (m : List ℕ). IsDue d.windows new.kept m c.args.water new.due) ms c.look_ahead.ensures.ahead))
+    record {
+      key = same.key ∙ put.key;
+      next = same.next ∙ put.next ∙ ap (λ (k : Kept). k.position + 1) is;
+      changes = λ kept marks fits.
+          c.put_late.ensures.changes.items
+          ∙ (λ i. c.args.out.now.items ++ changes_between d.windows s.key (moment (fits.0 i) (fits.1 i) c.args.water) (moment (put_in_order (fits.0 i) (is i)) (fits.1 i) c.args.water));
+      capacity = c.put_late.ensures.changes.capacity;
+      fits = λ kept marks fits.
+          let ks : new.kept ≡ put_in_order kept y = same.kept ∙ put.kept ∙ (λ i. put_in_order (fits.0 i) (is i)) in
+          let ms : new.marks ≡ marks = same.marks ∙ put.marks ∙ fits.1 in
+          (ks, ms, due_same d.windows new.kept (put_in_order kept y) new.marks marks c.args.water new.due new.due (sym ks) (sym ms) refl c.look_ahead.ensures.ahead);
+    }

@@ -1,16 +1,52 @@
--- The part of each kind stands for the same.
-use Rattle.std.proofs.Common.{subst}
-use Rattle.window_parts.specs.Any.{stands_any}
+-- The part of each kind makes room.
+use Rattle.std.proofs.Common.{ap, arith, subst}
+use Rattle.window_parts.specs.Any.{ahead_any, credit_any, stands_any}
 use Rattle.window_parts.proofs.window_part.WindowPartKeyPart.reserve_water.Goals as goal
 
-pub returns-in-Intervals-clause-stays : goal.returns-in-Intervals-clause-stays
-returns-in-Intervals-clause-stays g c = λ m n s h. c.reserve_water.ensures.stays m n s (subst (λ p. stands_any c.args.defs.now c.args.window m n s p) c.in-Intervals.is h)
+pub returns-in-Intervals : goal.returns-in-Intervals
+returns-in-Intervals g c =
+    let d = c.args.defs.now in
+    let window = c.args.window in
+    record {
+      stays = λ m n s h. c.reserve_water.ensures.stays m n s (subst (λ p. stands_any d window m n s p) c.in-Intervals.is h);
+      ready = c.reserve_water.ensures.ready;
+      room = c.reserve_water.ensures.room;
+      credit = omega (arith, c.reserve_water.ensures.credit, ap credit_any c.in-Intervals.is);
+      ahead = λ w s h. c.reserve_water.ensures.ahead w s (subst (λ p. ahead_any d window w s p) c.in-Intervals.is h);
+    }
 
-pub returns-in-Sessions-clause-stays : goal.returns-in-Sessions-clause-stays
-returns-in-Sessions-clause-stays g c = λ m n s h. c.reserve_water-in-Sessions.ensures.stays m n s (subst (λ p. stands_any c.args.defs.now c.args.window m n s p) c.in-Sessions.is h)
+pub returns-in-Sessions : goal.returns-in-Sessions
+returns-in-Sessions g c =
+    let d = c.args.defs.now in
+    let window = c.args.window in
+    record {
+      stays = λ m n s h. c.reserve_water-in-Sessions.ensures.stays m n s (subst (λ p. stands_any d window m n s p) c.in-Sessions.is h);
+      ready = c.reserve_water-in-Sessions.ensures.ready;
+      room = c.reserve_water-in-Sessions.ensures.room;
+      credit = omega (arith, c.reserve_water-in-Sessions.ensures.credit, ap credit_any c.in-Sessions.is);
+      ahead = λ w s h. c.reserve_water-in-Sessions.ensures.ahead w s (subst (λ p. ahead_any d window w s p) c.in-Sessions.is h);
+    }
 
-pub returns-in-Marks-clause-stays : goal.returns-in-Marks-clause-stays
-returns-in-Marks-clause-stays g c = λ m n s h. c.reserve_water-in-Marks.ensures.stays m n s (subst (λ p. stands_any c.args.defs.now c.args.window m n s p) c.in-Marks.is h)
+pub returns-in-Marks : goal.returns-in-Marks
+returns-in-Marks g c =
+    let d = c.args.defs.now in
+    let window = c.args.window in
+    record {
+      stays = λ m n s h. c.reserve_water-in-Marks.ensures.stays m n s (subst (λ p. stands_any d window m n s p) c.in-Marks.is h);
+      ready = c.reserve_water-in-Marks.ensures.ready;
+      room = c.reserve_water-in-Marks.ensures.room;
+      credit = omega (arith, c.reserve_water-in-Marks.ensures.credit, ap credit_any c.in-Marks.is);
+      ahead = λ w s h. c.reserve_water-in-Marks.ensures.ahead w s (subst (λ p. ahead_any d window w s p) c.in-Marks.is h);
+    }
 
-pub returns-in-Events-clause-stays : goal.returns-in-Events-clause-stays
-returns-in-Events-clause-stays g c = λ m n s h. c.reserve_water-in-Events.ensures.stays m n s (subst (λ p. stands_any c.args.defs.now c.args.window m n s p) c.in-Events.is h)
+pub returns-in-Events : goal.returns-in-Events
+returns-in-Events g c =
+    let d = c.args.defs.now in
+    let window = c.args.window in
+    record {
+      stays = λ m n s h. c.reserve_water-in-Events.ensures.stays m n s (subst (λ p. stands_any d window m n s p) c.in-Events.is h);
+      ready = c.reserve_water-in-Events.ensures.ready;
+      room = c.reserve_water-in-Events.ensures.room;
+      credit = omega (arith, c.reserve_water-in-Events.ensures.credit, ap credit_any c.in-Events.is);
+      ahead = λ w s h. c.reserve_water-in-Events.ensures.ahead w s (subst (λ p. ahead_any d window w s p) c.in-Events.is h);
+    }
