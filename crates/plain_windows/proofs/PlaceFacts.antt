@@ -2,10 +2,11 @@
 use Rattle.std.proofs.Common.{◌≡◌, ◌∙◌, ℕ, ◌+◌, ◌-◌, ◌<◌, ◌≤◌, Bool, true, false, cond, List, [], ◌∷◌, ◌++◌, length, get_or, take, drop, ap, sym, refl, subst, pos, arith, length-take, length-drop, get_or-take, get_or-drop}
 use Rattle.std.specs.Prelude.{nat_le, nat_lt}
 use Rattle.std.specs.List.{All, AllWithin, Contains, filter}
-use Rattle.std.specs.List.Sorted.{IsNonDecreasing, IsPartitionPoint, IsStrictlyIncreasing}
+use Rattle.std.specs.List.Sorted.{IsNonDecreasing, IsPartitionPoint, IsPartitionedBy, IsStrictlyIncreasing}
 use Rattle.std.proofs.lemmas.Bool.{ltb-true, ltb-false, le-leb, lt-ltb, le-ltb, lt-leb, and_from, and_left, and_right}
 use Rattle.std.proofs.lemmas.List.{take-append-drop, drop-drop, append-nil, get_or_default}
 use Rattle.std.proofs.lemmas.List.Elements.{All-head, All-tail, filter-append}
+use Rattle.std.proofs.lemmas.List.Sorted.{IsNonDecreasingBy-drop, IsPartitionedBy-ltb}
 use Rattle.std.proofs.lemmas.Map.Keys.{sorted_from_strictly_increasing, non_decreasing_from_sorted}
 use Rattle.stream_base.specs.declared.kept.Kept.{Kept}
 use Rattle.stream_base.specs.Laws.{TimesDoNotFall}
@@ -73,6 +74,14 @@ module _ {X : Type 0} (time_of : X → ℕ) (xs : List X) (time start at : ℕ) 
     before = λ k d low high. early_behind k d high (nat_lt k start) refl;
     behind = late_behind;
   }
+
+-- where the tuples up to a start lie before the time, a search among the others finds the place
+pub searched_behind : (kept : List Kept) (time start at : ℕ) (near : List Kept) → TimesDoNotFall kept → start ≤ length kept → AllWithin (λ (x : Kept). x.time < time) kept 0 start → near ≡ drop start kept → at ≤ length near
+    → (IsPartitionedBy (λ (x : Kept). nat_lt x.time time) near → IsPartitionPoint (λ (x : Kept). nat_lt x.time time ≡ true) (λ (x : Kept). nat_lt x.time time ≡ false) near at) → IsPlaceOf (λ (x : Kept). x.time) kept time (start + at)
+searched_behind kept time start at near sorted le front same bound point =
+    let parted = subst (λ l. IsPartitionedBy (λ (x : Kept). nat_lt x.time time) l) (sym same) (IsPartitionedBy-ltb (λ (x : Kept). x.time) (drop start kept) time (IsNonDecreasingBy-drop (λ (x : Kept). x.time) start kept sorted)) in
+    let place = place_from_point (λ (x : Kept). x.time) near time at bound (point parted) in
+    place_behind (λ (x : Kept). x.time) kept time start at le front (subst (λ l. IsPlaceOf (λ (x : Kept). x.time) l time at) same place)
 
 -- the tuple at a place is the first at or after the time
 pub first_behind : (kept : List Kept) (time place : ℕ) (d x : Kept) → TimesDoNotFall kept → IsPlaceOf (λ (x : Kept). x.time) kept time place → Contains kept x → time ≤ x.time → (place < length kept) × ((get_or kept place d).time ≤ x.time)

@@ -1,5 +1,5 @@
 -- What becomes of one instance from one moment to the next, and the bounds that lie ahead.
-use Rattle.std.specs.Prelude.{◌==◌, ◌≡◌, ◌++◌, ◌⊎◌, ◌≤◌, ◌<◌, ◌&&◌, ◌-◌, ℕ, Bool, List, Vec, map, filter, nat_lt, vec_capacity, vec_len}
+use Rattle.std.specs.Prelude.{◌==◌, ◌≡◌, ◌⊎◌, ◌≤◌, ◌<◌, ◌&&◌, ℕ, Bool, List, map, filter, nat_lt}
 use Rattle.std.specs.List.{Contains, enumerate_from, flat_map}
 use Rattle.std.specs.Option.{option_to_list}
 use Rattle.stream_base.specs.declared.change.Change.{Change}
@@ -13,15 +13,6 @@ use Rattle.stream_base.specs.Model.Journal.{put_in_order}
 use Rattle.stream_base.specs.Model.Windows.{Instance, instances_of}
 use Rattle.plain_windows.specs.declared.extent.Extent.{Extent}
 use Rattle.plain_windows.specs.declared.fold.Owner.{Owner}
-
--- how many elements more a vector takes in without memory
-abbrev pub room : {X Z : Type 0} → Vec X Z → ℕ
-room v = vec_capacity v - vec_len v
-
--- a vector has these elements more at its end, and took no memory for them
-pub record Appends {X Z : Type 0} (more : List X) (old new : Vec X Z) : Type 0 where
-  pub items : new.items ≡ old.items ++ more
-  pub capacity : vec_capacity new ≡ vec_capacity old
 
 -- a window with its place among the definitions
 abbrev pub window_of : Owner → ℕ × Def

@@ -3,7 +3,8 @@ ghost use Rattle.std.specs.Prelude.{◌≡◌, ◌≤◌, ◌-◌, ◌+◌, ◌*
 ghost use Rattle.std.specs.List.{enumerate_from, flat_map};
 ghost use Rattle.stream_base.specs.declared.limits.TheConstants.{TIME_MAX, WINDOWS_MAX};
 ghost use Rattle.stream_base.specs.Model.Changes.{changes_between, emissions, retractions};
-ghost use Rattle.plain_windows.specs.Changing.{Appends, all_emissions, all_retractions, room, window_of};
+ghost use Rattle.stream_base.specs.Vectors.{Appends, room};
+ghost use Rattle.plain_windows.specs.Changing.{all_emissions, all_retractions, window_of};
 
 use crate::fate::{come, count_come, count_gone, gone};
 use crate::fold::Owner;

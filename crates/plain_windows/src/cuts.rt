@@ -5,6 +5,7 @@ ghost use Rattle.stream_base.specs.declared.limits.TheConstants.{TIME_MAX};
 ghost use Rattle.stream_base.specs.Model.Cuts.{bounds_up_to, cuts_between, has_bound, has_cut};
 
 use crate::places::marks_before;
+use crate::time::EventTime;
 use crate::view::View;
 use crate::window::{Window, windows_of};
 use stream_base::{Defs, Kind};
@@ -69,18 +70,19 @@ fn has_bound(offset: u64, slide: u64, times: Times) -> bool
     requires { 1 ≤ slide }
     ensures { result ≡ has_bound offset slide times.low times.high }
 {
-    bounds_up_to(offset, slide, times.low) < bounds_up_to(offset, slide, times.high)
+    let low = EventTime { time: times.low };
+    let high = EventTime { time: times.high };
+    bounds_up_to(offset, slide, low) < bounds_up_to(offset, slide, high)
 }
 
 // How many of those times are at most a time.
-fn bounds_up_to(offset: u64, slide: u64, time: u64) -> u64
-    requires slide { 1 ≤ slide }
-    requires time { time ≤ TIME_MAX }
-    ensures { result ≡ bounds_up_to offset slide time }
+fn bounds_up_to(offset: u64, slide: u64, at: EventTime) -> u64
+    requires { 1 ≤ slide }
+    ensures { result ≡ bounds_up_to offset slide at.time }
 {
-    if time < offset {
+    if at.time < offset {
         0
     } else {
-        (time - offset) / slide + 1
+        (at.time - offset) / slide + 1
     }
 }

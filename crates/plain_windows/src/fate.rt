@@ -2,7 +2,8 @@
 ghost use Rattle.std.specs.Prelude.{◌≡◌, ◌≤◌, ◌-◌, ◌++◌, ◌==◌, ◌&&◌, ℕ, List, length, nat_le, vec_len, vec_capacity};
 ghost use Rattle.std.specs.List.{find};
 ghost use Rattle.stream_base.specs.Model.Changes.{are_same_tuples, standing_at};
-ghost use Rattle.plain_windows.specs.Changing.{Appends, come_of, gone_of, is_over, room, window_of};
+ghost use Rattle.stream_base.specs.Vectors.{Appends, room};
+ghost use Rattle.plain_windows.specs.Changing.{come_of, gone_of, is_over, window_of};
 ghost use Rattle.plain_windows.specs.Extents.{IsExtentIn, Tells, instance_in};
 
 use crate::extent::Extent;

@@ -6,6 +6,7 @@ ghost use Rattle.stream_base.specs.Model.Windows.{instances_of};
 ghost use Rattle.plain_windows.specs.Extents.{Tells};
 
 use crate::extent::Extent;
+use crate::ranks::RunLength;
 use crate::spans::Spacing;
 use crate::view::View;
 use crate::window::Window;
@@ -30,7 +31,7 @@ pub fn first_from(window: &Window, view: &View, from: u64) -> Option<Extent>
         }
         Kind::Session { gap } => sessions::first_from(gap, view, from),
         Kind::Marks => stretches::first_from(view, from),
-        Kind::Events { count } => ranks::first_from(count, view, from),
+        Kind::Events { count } => ranks::first_from(RunLength { count }, view, from),
     }
 }
 
@@ -52,7 +53,7 @@ pub fn first_above(window: &Window, view: &View, water: u64) -> Option<Extent>
         }
         Kind::Session { gap } => sessions::first_above(gap, view, water),
         Kind::Marks => stretches::first_above(view, water),
-        Kind::Events { count } => ranks::first_above(count, view, water),
+        Kind::Events { count } => ranks::first_above(RunLength { count }, view, water),
     }
 }
 
@@ -73,7 +74,7 @@ pub fn bound_above(window: &Window, view: &View, water: u64) -> Option<u64>
         }
         Kind::Session { gap } => sessions::first_above(gap, view, water),
         Kind::Marks => stretches::first_above(view, water),
-        Kind::Events { count } => ranks::first_above(count, view, water),
+        Kind::Events { count } => ranks::first_above(RunLength { count }, view, water),
     };
     Some(extent?.bound)
 }

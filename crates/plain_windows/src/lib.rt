@@ -23,6 +23,7 @@ mod sessions;
 mod slices;
 mod spans;
 mod stretches;
+mod time;
 mod view;
 mod walk;
 mod window;

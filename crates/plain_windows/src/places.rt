@@ -1,6 +1,4 @@
 //! Places in lists that are sorted by time, found by halves.
-ghost use Rattle.std.specs.Prelude.{◌≤◌, ◌<◌, length};
-ghost use Rattle.std.specs.List.{AllWithin};
 ghost use Rattle.std.specs.List.Sorted.{IsStrictlyIncreasing};
 ghost use Rattle.stream_base.specs.Laws.{TimesDoNotFall};
 ghost use Rattle.plain_windows.specs.Places.{IsPlaceOf};
@@ -13,22 +11,12 @@ pub fn tuples_before(kept: &[Kept], time: u64) -> usize
     requires { TimesDoNotFall kept.now }
     ensures { IsPlaceOf (λ x. x.time) kept.now time result }
 {
-    let start = step_back(kept, time);
-    let (_before, near) = kept.split_at(start);
-    start + near.partition_point(|x| x.time < time)
-}
-
-// A place before which all tuples lie before a time.
-fn step_back(kept: &[Kept], time: u64) -> usize
-    requires { TimesDoNotFall kept.now }
-    ensures within { result ≤ length kept.now }
-    ensures before { AllWithin (λ x. x.time < time) kept.now 0 result }
-{
     let mut start = kept.len().saturating_sub(8);
     while start > 0 && time <= kept[start].time {
         start = start.saturating_sub(kept.len() - start);
     }
-    start
+    let (_before, near) = kept.split_at(start);
+    start + near.partition_point(|x| x.time < time)
 }
 
 /// How many marks lie before a time.

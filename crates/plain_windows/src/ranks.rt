@@ -12,13 +12,20 @@ use crate::places::tuples_before;
 use crate::view::View;
 use stream_base::{Kept, TIME_MAX};
 
+/// How many tuples a run has, within the limits of a window.
+#[derive(Clone, Copy)]
+pub struct RunLength {
+    pub count: u64,
+    ghost within: { IsKindWithin (Events count) },
+}
+
 /// The first run of so many tuples that starts at or after a rank, if it is all there.
-pub fn first_from(count: u64, view: &View, from: u64) -> Option<Extent>
-    requires kind { IsKindWithin (Events count) }
+pub fn first_from(run: RunLength, view: &View, from: u64) -> Option<Extent>
     ensures { Tells view.now.kept result
-        (find (λ i. nat_le from i.low) (counted count view.now.kept)) }
+        (find (λ i. nat_le from i.low) (counted run.count view.now.kept)) }
 {
     let kept = view.kept;
+    let count = run.count;
     if from > kept.len() as u64 {
         return None;
     }
@@ -32,12 +39,12 @@ pub fn first_from(count: u64, view: &View, from: u64) -> Option<Extent>
 
 /// The first run of so many tuples whose last lies after a watermark, if it is all there: runs of
 /// tuples up to the watermark are complete.
-pub fn first_above(count: u64, view: &View, water: u64) -> Option<Extent>
-    requires kind { IsKindWithin (Events count) }
+pub fn first_above(run: RunLength, view: &View, water: u64) -> Option<Extent>
     ensures { Tells view.now.kept result
-        (find (λ i. nat_lt water i.bound) (counted count view.now.kept)) }
+        (find (λ i. nat_lt water i.bound) (counted run.count view.now.kept)) }
 {
     let kept = view.kept;
+    let count = run.count;
     if water >= TIME_MAX {
         return None;
     }

@@ -8,7 +8,7 @@ ghost use Rattle.stream_base.specs.Limits.{IsKindWithin};
 ghost use Rattle.stream_base.specs.Model.Windows.{session, sessions};
 ghost use Rattle.plain_windows.specs.Extents.{IsExtentIn, Tells, instance_in};
 ghost use Rattle.plain_windows.specs.Places.{IsPlaceOf};
-ghost use Rattle.plain_windows.specs.Runs.{is_apart, runs_of};
+ghost use Rattle.plain_windows.specs.Runs.{IsFirstRun, is_apart, runs_of};
 
 use crate::extent::Extent;
 use crate::places::tuples_before;
@@ -86,10 +86,7 @@ fn start_behind(gap: u64, kept: &[Kept], place: usize) -> usize
 // The place behind the run of tuples that begins at a place.
 fn end_of(gap: u64, kept: &[Kept], first: usize) -> usize
     requires { first < length kept.now }
-    ensures behind { first < result }
-    ensures within { result ≤ length kept.now }
-    ensures run { runs_of gap (drop first kept.now)
-        ≡ take (result - first) (drop first kept.now) ∷ runs_of gap (drop result kept.now) }
+    ensures { IsFirstRun gap kept.now first result }
 {
     for end in first + 1..kept.len() {
         if are_apart(gap, &kept[end - 1], &kept[end]) {
@@ -101,10 +98,7 @@ fn end_of(gap: u64, kept: &[Kept], first: usize) -> usize
 
 // The place at which the run of tuples begins whose rest stands from one place up to another.
 fn start_of(gap: u64, kept: &[Kept], place: usize, end: usize) -> usize
-    requires before { place < end }
-    requires within { end ≤ length kept.now }
-    requires rest { runs_of gap (drop place kept.now)
-        ≡ take (end - place) (drop place kept.now) ∷ runs_of gap (drop end kept.now) }
+    requires { IsFirstRun gap kept.now place end }
     ensures before { result ≤ place }
     ensures run { runs_of gap kept.now ≡ runs_of gap (take result kept.now)
         ++ take (end - result) (drop result kept.now) ∷ runs_of gap (drop end kept.now) }

@@ -12,8 +12,9 @@ ghost use Rattle.plain_windows.specs.Changing.{HasBound};
 ghost use Rattle.plain_windows.specs.Extents.{Tells};
 
 use crate::extent::Extent;
-use crate::intervals::interval_over;
+use crate::intervals::{Interval, interval_over};
 use crate::places::tuples_before;
+use crate::time::EventTime;
 use crate::view::View;
 use stream_base::TIME_MAX;
 
@@ -31,7 +32,8 @@ pub fn first_from(spacing: Spacing, view: &View, from: u64) -> Option<Extent>
         (find (λ i. nat_le from i.low) (spans spacing.length spacing.slide view.now.kept)) }
 {
     let low = start_from(spacing, view, from)?;
-    Some(interval_over(view, low, low + spacing.length))
+    let high = low + spacing.length;
+    Some(interval_over(view, Interval { low, high }))
 }
 
 // The start of that interval.
@@ -62,19 +64,18 @@ pub fn first_above(spacing: Spacing, view: &View, water: u64) -> Option<Extent>
 }
 
 /// The bound of the first interval that holds a time: none that holds it has an earlier one.
-pub fn bound_holding(spacing: Spacing, time: u64) -> u64
-    requires time { time ≤ TIME_MAX }
-    ensures none_below { (kept : List Kept) (x : Kept) (i : Instance) → x.time ≡ time
+pub fn bound_holding(spacing: Spacing, at: EventTime) -> u64
+    ensures none_below { (kept : List Kept) (x : Kept) (i : Instance) → x.time ≡ at.time
         → Contains (spans spacing.length spacing.slide (put_in_order kept x)) i
         → HasBound (spans spacing.length spacing.slide kept) i.bound ⊎ (result ≤ i.bound) }
-    ensures later { time < result }
-    ensures brought { (kept : List Kept) (x : Kept) → x.time ≡ time
+    ensures later { at.time < result }
+    ensures brought { (kept : List Kept) (x : Kept) → x.time ≡ at.time
         → HasBound (spans spacing.length spacing.slide (put_in_order kept x)) result }
     ensures stay { (kept : List Kept) (x : Kept) (i : Instance)
         → Contains (spans spacing.length spacing.slide kept) i
         → HasBound (spans spacing.length spacing.slide (put_in_order kept x)) i.bound }
 {
-    let first = (time + spacing.slide).saturating_sub(spacing.length) / spacing.slide;
+    let first = (at.time + spacing.slide).saturating_sub(spacing.length) / spacing.slide;
     first * spacing.slide + spacing.length
 }
 

@@ -1,8 +1,8 @@
 ghost use Rattle.std.specs.Prelude.{◌≡◌, ℕ, [], ◌∷◌, Some, IfSome};
-ghost use Rattle.turnstile.specs.declared.view.Stage.TheVariants.{Serving, Idle};
+ghost use Rattle.turnstile.specs.declared.view.Stage.TheVariants.{Serving};
 ghost use Rattle.turnstile.specs.History.{AddsAtMostOne};
 ghost use Rattle.turnstile.specs.Passes.{fixed, IsPassOf, IsSamePass, IsTurn};
-ghost use Rattle.turnstile.specs.Steps.{as_pass, at_stage, turned_to, Fits, IsReady};
+ghost use Rattle.turnstile.specs.Steps.{as_pass, at_stage, Fits};
 
 use crate::keeps::{Call, Keeps};
 use crate::pass::{Pass, Place};
@@ -22,9 +22,11 @@ impl<T: Keeps> Turnstile<T> {
         ensures turn { IsTurn (C.does call) pass.old pass.new result }
     {
         let number = pass.number;
-        self.enter(rt, &mut pass.seat);
-        let reply = self.serve(&mut pass.seat, number, call);
-        self.leave(&mut pass.seat);
+        let place = &mut pass.seat;
+        self.enter(rt, place);
+        let reply = self.serve(place, number, call);
+        // The value goes back, and the next ticket is served.
+        self.table.shared.fetch_add::<PassOn<T>>(place, SERVING, 1);
         reply
     }
 
@@ -59,23 +61,5 @@ impl<T: Keeps> Turnstile<T> {
     {
         let value = place.slot_mut(&self.table.shared, 0);
         call.run(value, number)
-    }
-
-    // Gives the value back, and lets the next ticket be served.
-    fn leave(&self, place: &mut Place<T>)
-        requires own { place.old.table_id ≡ self.now.table.shared.table_id }
-        requires ready { IsReady T.items T.fixed place.old.me }
-        ensures own { place.new.table_id ≡ place.old.table_id }
-        ensures gave { (y : T) → place.old.me.1 ≡ (0, y) ∷ []
-            → (place.new.me ≡ (
-              record place.old.me.0 {
-                main = turned_to
-                    (T.items y) place.old.me.0.main;
-                stage = Idle;
-              },
-              [],
-            )) }
-    {
-        self.table.shared.fetch_add::<PassOn<T>>(place, SERVING, 1);
     }
 }

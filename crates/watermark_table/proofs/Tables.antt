@@ -204,15 +204,15 @@ module _ (w : Watched) (journal : List Entry) (source : ℕ) (s : StandsFor w jo
   pub own_standing : (x : Standing) → source < sources_of w → x ≡ get_or w.standings source x → x ≡ standing_in journal source
   own_standing x known is = is ∙ ap (λ l. get_or l source x) s.standings ∙ standing_at (sources_of w) source journal x known
 
-  pub raised_are : (x : Standing) (time : ℕ) → x ≡ standing_in journal source → time ≤ TIME_MAX → set w.standings source (raised time x) ≡ standings_in (sources_of w) (journal ++ water_entry source time ∷ [])
-  raised_are x time is h =
-      (λ i. set (s.standings i) source (raised time (is i)))
+  pub raised_are : (x : Standing) (time : ℕ) → source < sources_of w → x ≡ get_or w.standings source x → time ≤ TIME_MAX → set w.standings source (raised time x) ≡ standings_in (sources_of w) (journal ++ water_entry source time ∷ [])
+  raised_are x time known is h =
+      (λ i. set (s.standings i) source (raised time (own_standing x known is i)))
       ∙ ap (set (standings_in (sources_of w) journal) source) (sym (standing_raised source time journal h))
       ∙ sym (standings_push (sources_of w) journal (water_entry source time))
 
-  pub rested_are : (x : Standing) → x ≡ standing_in journal source → set w.standings source (rested x) ≡ standings_in (sources_of w) (journal ++ idle_entry source ∷ [])
-  rested_are x is =
-      (λ i. set (s.standings i) source (rested (is i)))
+  pub rested_are : (x : Standing) → source < sources_of w → x ≡ get_or w.standings source x → set w.standings source (rested x) ≡ standings_in (sources_of w) (journal ++ idle_entry source ∷ [])
+  rested_are x known is =
+      (λ i. set (s.standings i) source (rested (own_standing x known is i)))
       ∙ ap (set (standings_in (sources_of w) journal) source) (sym (standing_rested source journal))
       ∙ sym (standings_push (sources_of w) journal (idle_entry source))
 

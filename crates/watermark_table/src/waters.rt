@@ -4,9 +4,9 @@ ghost use Rattle.stream_base.specs.declared.limits.TheConstants.{FINAL, TIME_MAX
 ghost use Rattle.stream_base.specs.Model.Journals.{is_entry_within};
 ghost use Rattle.stream_base.specs.Model.Watermark.{has_ended, water_of};
 ghost use Rattle.stream_base.specs.Model.What.{key_in};
-ghost use Rattle.watermark_table.specs.Standings.{raised, standing_in};
+ghost use Rattle.watermark_table.specs.Standings.{raised};
 ghost use Rattle.watermark_table.specs.Tallies.{least_of, no_source, tallied};
-ghost use Rattle.watermark_table.specs.Watched.{IsSameTable, StandsFor, Watched, end_entry, idle_entry, sources_of, water_entry};
+ghost use Rattle.watermark_table.specs.Watched.{CanTake, HasTaken, IsWaterBehind, StandsFor, Watched, end_entry, idle_entry, sources_of, water_entry};
 ghost use Rattle.watermark_table.specs.declared.verdict.Verdict.TheVariants.{Late};
 
 use crate::standing::Standing;
@@ -74,67 +74,52 @@ impl Waters {
         ensures ended { (journal : List Entry) → StandsFor self.now journal → time ≡ FINAL
             → result ≡ water_of (sources_of self.now) (journal ++ end_entry source ∷ []) }
     {
-        let standing = self.standing(source);
+        let standing = self.standings[source as usize];
         self.after_standing(source as usize, standing_after(standing, time))
     }
 
     /// What `idle` would answer.
     pub fn after_idle(&self, source: u16) -> u64
-        requires source { source < sources_of self.now }
-        ensures { (journal : List Entry) → StandsFor self.now journal
-            → result ≡ water_of (sources_of self.now) (journal ++ idle_entry source ∷ []) }
+        requires { CanTake self.now (idle_entry source) }
+        ensures { IsWaterBehind self.now (idle_entry source) result }
     {
-        let standing = self.standing(source);
+        let standing = self.standings[source as usize];
         self.after_standing(source as usize, standing.rested())
     }
 
     /// Takes in a watermark of a source, and answers the new watermark. It wakes the source.
     pub fn raise(&mut self, source: u16, time: u64) -> u64
-        requires source { source < sources_of self.old }
-        requires time { time ≤ TIME_MAX }
-        ensures same { IsSameTable self.old self.new }
-        ensures stands { (journal : List Entry) → StandsFor self.old journal
-            → StandsFor self.new (journal ++ water_entry source time ∷ []) }
-        ensures water { (journal : List Entry) → StandsFor self.old journal
-            → result ≡ water_of (sources_of self.old) (journal ++ water_entry source time ∷ []) }
+        requires { CanTake self.old (water_entry source time) }
+        ensures { HasTaken self.old (water_entry source time) self.new result }
     {
-        let standing = self.standing(source);
+        let standing = self.standings[source as usize];
         self.put_standing(source as usize, standing.raised(time))
     }
 
     /// Takes in the word of a source that it is idle, and answers the new watermark.
     pub fn idle(&mut self, source: u16) -> u64
-        requires source { source < sources_of self.old }
-        ensures same { IsSameTable self.old self.new }
-        ensures stands { (journal : List Entry) → StandsFor self.old journal
-            → StandsFor self.new (journal ++ idle_entry source ∷ []) }
-        ensures water { (journal : List Entry) → StandsFor self.old journal
-            → result ≡ water_of (sources_of self.old) (journal ++ idle_entry source ∷ []) }
+        requires { CanTake self.old (idle_entry source) }
+        ensures { HasTaken self.old (idle_entry source) self.new result }
     {
-        let standing = self.standing(source);
+        let standing = self.standings[source as usize];
         self.put_standing(source as usize, standing.rested())
     }
 
     /// Takes in the end of a source, and answers the new watermark.
     pub fn end(&mut self, source: u16) -> u64
-        requires source { source < sources_of self.old }
-        ensures same { IsSameTable self.old self.new }
-        ensures stands { (journal : List Entry) → StandsFor self.old journal
-            → StandsFor self.new (journal ++ end_entry source ∷ []) }
-        ensures water { (journal : List Entry) → StandsFor self.old journal
-            → result ≡ water_of (sources_of self.old) (journal ++ end_entry source ∷ []) }
+        requires { CanTake self.old (end_entry source) }
+        ensures { HasTaken self.old (end_entry source) self.new result }
     {
         self.put_standing(source as usize, Standing::Ended)
     }
 
     /// `Late` exactly where the time plus the lateness is below the watermark.
     pub fn verdict(&self, time: u64) -> Verdict
-        requires { time ≤ TIME_MAX }
         ensures { (journal : List Entry) → StandsFor self.now journal
             → (result ≡ Late) ↔ (time + (self.now).lateness < water_of
             (sources_of self.now) journal) }
     {
-        if time + self.lateness < self.water {
+        if time < self.water.saturating_sub(self.lateness) {
             Verdict::Late
         } else {
             Verdict::Accepted
@@ -147,16 +132,7 @@ impl Waters {
         ensures { (journal : List Entry) → StandsFor self.now journal
             → result ≡ has_ended source journal }
     {
-        self.standing(source).is_ended()
-    }
-
-    // Where a source stands.
-    fn standing(&self, source: u16) -> Standing
-        requires { source < sources_of self.now }
-        ensures { (journal : List Entry) → StandsFor self.now journal
-            → result ≡ standing_in journal source }
-    {
-        self.standings[source as usize]
+        self.standings[source as usize].is_ended()
     }
 
     // The watermark, were a source to stand so.

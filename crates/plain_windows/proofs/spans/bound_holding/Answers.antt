@@ -9,7 +9,7 @@ returns-clause-none_below c kept x i at d =
     (ap (λ n. n / c.args.spacing.slide) c.saturating_sub.ensures ∙ ap (λ t. (t + c.args.spacing.slide - c.args.spacing.length) / c.args.spacing.slide) (sym at)) i d
 
 pub returns-clause-later : goal.returns-clause-later
-returns-clause-later c = (holds_time c.args.spacing.length c.args.spacing.slide c.args.spacing.within.2 c.args.spacing.within.3 c.args.time _ (ap (λ n. n / c.args.spacing.slide) c.saturating_sub.ensures)).1
+returns-clause-later c = (holds_time c.args.spacing.length c.args.spacing.slide c.args.spacing.within.2 c.args.spacing.within.3 c.args.at.time _ (ap (λ n. n / c.args.spacing.slide) c.saturating_sub.ensures)).1
 
 pub returns-clause-brought : goal.returns-clause-brought
 returns-clause-brought c kept x at =

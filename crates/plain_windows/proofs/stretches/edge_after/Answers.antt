@@ -5,15 +5,18 @@ use Rattle.plain_windows.proofs.EdgeFacts.{final_is_edge, mark_is_edge, none_aft
 use Rattle.plain_windows.proofs.stretches.edge_after.Goals as goal
 
 pub returns-then-place-marks-clause-edge : goal.returns-then-place-marks-clause-edge
-returns-then-place-marks-clause-edge c = final_is_edge c.args.marks.now
+returns-then-place-marks-clause-edge c = final_is_edge c.args.view.now.marks
 
 pub returns-then-place-marks-clause-first : goal.returns-then-place-marks-clause-first
-returns-then-place-marks-clause-first c = none_after c.args.marks.now c.args.time c.marks_before-place.result c.requires.rising c.requires.time c.marks_before-place.ensures (omega arith)
+returns-then-place-marks-clause-first c =
+    rw (← c.view.view_is) (none_after c.view.inside.marks.now c.args.time c.marks_before-place.result c.view.invariant.rising c.requires c.marks_before-place.ensures (omega arith))
 
 pub returns-else-place-marks-clause-edge : goal.returns-else-place-marks-clause-edge
 returns-else-place-marks-clause-edge c =
-    mark_is_edge c.args.marks.now (get_or c.args.marks.now c.marks_before-place.result 0)
-    (Contains-get_or c.args.marks.now c.marks_before-place.result 0 (omega (arith, c.marks_before-place.ensures.within)))
+    rw (← c.view.view_is)
+    (mark_is_edge c.view.inside.marks.now (get_or c.view.inside.marks.now c.marks_before-place.result 0)
+    (Contains-get_or c.view.inside.marks.now c.marks_before-place.result 0 (omega (arith, c.marks_before-place.ensures.within))))
 
 pub returns-else-place-marks-clause-first : goal.returns-else-place-marks-clause-first
-returns-else-place-marks-clause-first c = first_after c.args.marks.now c.args.time c.marks_before-place.result c.requires.rising c.requires.time c.marks_before-place.ensures c.requires.before (omega (arith, c.marks_before-place.ensures.within))
+returns-else-place-marks-clause-first c =
+    rw (← c.view.view_is) (first_after c.view.inside.marks.now c.args.time c.marks_before-place.result c.view.invariant.rising c.requires c.marks_before-place.ensures c.view.invariant.mark_times (omega (arith, c.marks_before-place.ensures.within)))

@@ -25,4 +25,6 @@ returns c =
     let edge = subst (λ (m : Moment). Contains (edges_of m.marks) c.args.edge) (sym c.view.view_is) c.requires in
     tells_one _ _ _ _ c.interval_over.ensures.inside c.interval_over.ensures.is
     (rw (← c.view.view_is)
-    (first_stretch_behind v.marks.now v.kept.now c.args.edge c.tuples_before-place.result (times_do_not_fall v.kept.now c.view.invariant.in_order) edge c.tuples_before-place.ensures some_tuple c.edge_up_to-low.result c.edge_after.result (omega (arith, c.tuples_before-place.ensures.within)) c.edge_up_to-low.ensures.edge c.edge_up_to-low.ensures.up_to c.edge_up_to-low.ensures.last c.edge_after.ensures.edge c.edge_after.ensures.after c.edge_after.ensures.first))
+    (first_stretch_behind v.marks.now v.kept.now c.args.edge c.tuples_before-place.result (times_do_not_fall v.kept.now c.view.invariant.in_order) edge c.tuples_before-place.ensures some_tuple c.edge_up_to-low.result c.edge_after-high.result (omega (arith, c.tuples_before-place.ensures.within))
+    (rw (← c.view.view_is) at c.edge_up_to-low.ensures.edge) c.edge_up_to-low.ensures.up_to (rw (← c.view.view_is) at c.edge_up_to-low.ensures.last)
+    (rw (← c.view.view_is) at c.edge_after-high.ensures.edge) c.edge_after-high.ensures.after (rw (← c.view.view_is) at c.edge_after-high.ensures.first)))

@@ -8,4 +8,4 @@ pub returns : goal.returns
 returns c journal s =
     c.after_standing.ensures
     ∙ water_is c.args.self.now journal (idle_entry c.args.source) _ s
-    (ap (set c.args.self.now.standings c.args.source) c.rested.ensures ∙ rested_are c.args.self.now journal c.args.source s c.standing-standing.result (c.standing-standing.ensures journal s))
+    (ap (set c.args.self.now.standings c.args.source) c.rested.ensures ∙ rested_are c.args.self.now journal c.args.source s c.index-standing.result.now c.requires.source (rw (← c.self.view_is) c.index-standing.ensures))

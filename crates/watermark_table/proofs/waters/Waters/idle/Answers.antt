@@ -1,11 +1,20 @@
 -- The source stands as after its entry, and the watermark follows.
-use Rattle.std.proofs.Common.{◌∙◌, ap, set}
-use Rattle.watermark_table.specs.Watched.{idle_entry}
+use Rattle.std.proofs.Common.{◌≡◌, ◌∙◌, ◌∷◌, [], ◌++◌, List, ap, rules, set}
+use Rattle.stream_base.specs.declared.entry.Entry.{Entry}
+use Rattle.watermark_table.specs.Standings.{standings_in}
+use Rattle.watermark_table.specs.Watched.{StandsFor, idle_entry, sources_of}
 use Rattle.watermark_table.proofs.Tables.{rested_are, stands_after, water_is}
 use Rattle.watermark_table.proofs.waters.Waters.idle.Goals as goal
 
-pub returns-clause-stands : goal.returns-clause-stands
-returns-clause-stands c journal s = stands_after c.args.self.now c.put_standing.new.self journal (idle_entry c.args.source) s (c.put_standing.ensures.standings ∙ ap (set c.args.self.now.standings c.args.source) c.rested.ensures ∙ rested_are c.args.self.now journal c.args.source s c.standing-standing.result (c.standing-standing.ensures journal s)) c.put_standing.ensures.water
-
-pub returns-clause-water : goal.returns-clause-water
-returns-clause-water c journal s = c.put_standing.ensures.answer ∙ c.put_standing.ensures.water ∙ water_is c.args.self.now journal (idle_entry c.args.source) c.put_standing.new.self.standings s (c.put_standing.ensures.standings ∙ ap (set c.args.self.now.standings c.args.source) c.rested.ensures ∙ rested_are c.args.self.now journal c.args.source s c.standing-standing.result (c.standing-standing.ensures journal s))
+pub returns : goal.returns
+returns c =
+    let w = c.args.self.now in
+    let told = idle_entry c.args.source in
+    let are : (journal : List Entry) → StandsFor w journal → c.put_standing.new.self.standings ≡ standings_in (sources_of w) (journal ++ told ∷ []) =
+    λ journal s. c.put_standing.ensures.standings ∙ ap (set w.standings c.args.source) c.rested.ensures
+    ∙ rested_are w journal c.args.source s c.index-standing.result.now c.requires.source (rw (← c.self.view_is) c.index-standing.ensures) in
+    record {
+      same = search rules;
+      stands = λ journal s. stands_after w c.put_standing.new.self journal told s (are journal s) c.put_standing.ensures.water;
+      water = λ journal s. c.put_standing.ensures.answer ∙ c.put_standing.ensures.water ∙ water_is w journal told c.put_standing.new.self.standings s (are journal s);
+    }
