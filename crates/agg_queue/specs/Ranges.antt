@@ -2,11 +2,17 @@
 use Rattle.std.specs.Prelude.{◌≡◌, ◌≤◌, ◌<◌, ◌+◌, ℕ, List, length, take, drop, slice_index_or}
 use Rattle.std.specs.List.{All}
 use Rattle.agg_laws.specs.Laws.{total}
+use Rattle.agg_queue.specs.Lanes.{Lanes, KeepsValues}
 use Rattle.agg_queue.specs.declared.bounds.Bounds.{Bounds}
 
 -- what the values from one place up to another come to
 abbrev pub total_within : {M : Type 0} → M → (M → M → M) → List M → ℕ → ℕ → M
 total_within empty op values from to = total empty op (drop from (take to values))
+
+-- the cells from one place up to another are a range of them
+pub record IsRange (from to end : ℕ) : Type 0 where
+  pub order : from ≤ to
+  pub within : to ≤ end
 
 -- the boundaries are in order, and none is behind the end
 pub record AreInOrder (bounds : Bounds) (end : ℕ) : Type 0 where
@@ -25,6 +31,11 @@ pub record KeepsTotals {M : Type 0} (IsValue : M → Type 0) (empty : M) (op : M
   pub right : (i : ℕ) → bounds.right ≤ i → i < bounds.accumulator → slice_index_or aggregates i empty ≡ total_within empty op values bounds.right (i + 1)
   pub accumulator : (i : ℕ) → bounds.accumulator ≤ i → i < bounds.back → slice_index_or aggregates i empty ≡ total_within empty op values i bounds.back
   pub back : (i : ℕ) → bounds.back ≤ i → i < length values → slice_index_or aggregates i empty ≡ total_within empty op values bounds.back (i + 1)
+
+-- the cells keep their values, and have the aggregates that the boundaries ask for now
+pub record SetsBounds {M : Type 0} (IsValue : M → Type 0) (empty : M) (op : M → M → M) (old new : Lanes M) (bounds : Bounds) : Type 0 where
+  pub kept : KeepsValues old new
+  pub totals : KeepsTotals IsValue empty op new.values new.aggregates bounds
 
 -- between two calls: the left and the right range are equally long, and unless there is no item, the front range is longer by one than the back range
 pub record IsBalanced (bounds : Bounds) (end : ℕ) : Type 0 where

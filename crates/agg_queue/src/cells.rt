@@ -1,4 +1,6 @@
-ghost use Rattle.std.specs.Prelude.{◌≡◌, ◌≤◌, ◌<◌, ◌+◌, ◌↔◌, [], ◌∷◌, ◌++◌, length, drop, OnOk, IfSome, None, slice_set, slice_index_or};
+ghost use Rattle.std.specs.Prelude.{◌≡◌, ◌≤◌, ◌<◌, [], ◌∷◌, ◌++◌, length, drop, slice_set, slice_index_or};
+ghost use Rattle.agg_queue.specs.Lanes.{KeepsValues, queue_of};
+ghost use Rattle.agg_queue.specs.Queue.{HasRoom, Pops, Pushes, Reserves};
 
 use crate::cell::Cell;
 use std::alloc::{AllocError, Global};
@@ -38,9 +40,7 @@ impl<M: Copy> Cells<M> {
 
     /// Makes room for `room` more.
     pub(crate) fn reserve(&mut self, room: u64) -> Result<(), AllocError>
-        ensures room { OnOk result (room ≤ self.new.spare) }
-        ensures spare { self.old.spare ≤ self.new.spare }
-        ensures values { self.new.values ≡ self.old.values }
+        ensures reserves { Reserves room result (queue_of self.old) (queue_of self.new) }
         ensures aggregates { self.new.aggregates ≡ self.old.aggregates }
     {
         self.deque.reserve(room as usize)
@@ -73,30 +73,25 @@ impl<M: Copy> Cells<M> {
     /// Another aggregate at a place.
     pub(crate) fn set_aggregate(&mut self, at: usize, aggregate: M)
         requires { at < length self.old.values }
-        ensures values { self.new.values ≡ self.old.values }
+        ensures kept { KeepsValues self.old self.new }
         ensures aggregates { self.new.aggregates ≡ slice_set self.old.aggregates at aggregate }
-        ensures spare { self.new.spare ≡ self.old.spare }
     {
         self.deque[at].aggregate = aggregate;
     }
 
     /// One more at the back.
     pub(crate) fn push(&mut self, value: M, aggregate: M)
-        requires { 1 ≤ self.old.spare }
-        ensures values { self.new.values ≡ self.old.values ++ value ∷ [] }
+        requires { HasRoom (queue_of self.old) }
+        ensures pushes { Pushes value (queue_of self.old) (queue_of self.new) }
         ensures aggregates { self.new.aggregates ≡ self.old.aggregates ++ aggregate ∷ [] }
-        ensures spare { self.new.spare + 1 ≡ self.old.spare }
     {
         self.deque.push_back_reserved(Cell { value, aggregate });
     }
 
     /// Takes out the one at the front and gives its value.
     pub(crate) fn pop(&mut self) -> Option<M>
-        ensures first { IfSome result (λ value. self.old.values ≡ value ∷ self.new.values) }
-        ensures none { (result ≡ None) ↔ (self.old.values ≡ []) }
-        ensures empty { result ≡ None → self.new.values ≡ [] }
+        ensures pops { Pops result (queue_of self.old) (queue_of self.new) }
         ensures aggregates { self.new.aggregates ≡ drop 1 self.old.aggregates }
-        ensures spare { self.old.spare ≤ self.new.spare }
     {
         let cell = self.deque.pop_front()?;
         Some(cell.value)

@@ -31,8 +31,10 @@
 //! It is done in time because between two calls the left and the right range are equally long, and
 //! the front is longer by one than the back. A push makes the back longer, a pop makes the front
 //! shorter, and the fix-up gives the front one cell. So the front is empty only where all is.
-ghost use Rattle.std.specs.Prelude.{◌≡◌, ◌≤◌, ◌<◌, ◌+◌, ◌-◌, ◌↔◌, [], ◌∷◌, ◌++◌, length, slice_index_or, IfSome, None};
-ghost use Rattle.agg_queue.specs.Ranges.{KeepsTotals, IsBalanced, IsBehind, total_within};
+ghost use Rattle.std.specs.Prelude.{◌≡◌, ◌≤◌, ◌<◌, ◌+◌, ◌-◌, length, slice_index_or};
+ghost use Rattle.agg_laws.specs.Counters.{next_count};
+ghost use Rattle.agg_queue.specs.Queue.{HasRoom, Pops, Pushes};
+ghost use Rattle.agg_queue.specs.Ranges.{KeepsTotals, IsBalanced, IsBehind, IsRange, SetsBounds, total_within};
 
 use crate::bounds::Bounds;
 use crate::cells::Cells;
@@ -54,12 +56,13 @@ pub struct Daba<M: Monoid> {
 
 impl<M: Monoid> Model for Daba<M> {
     ghost use Rattle.std.specs.Prelude.{length};
+    ghost use Rattle.agg_queue.specs.Lanes.{queue_of};
     ghost use Rattle.agg_queue.specs.Queue.{Queue};
     ghost use Rattle.agg_queue.specs.Ranges.{KeepsTotals, IsBalanced};
 
     ghost Value = { Queue M };
 
-    ghost view = { λ q. record { items = q.cells.values; spare = q.cells.spare } };
+    ghost view = { λ q. queue_of q.cells };
 
     ghost invariant = { λ q.
         KeepsTotals M.is_value M.empty M.op q.cells.values q.cells.aggregates q.bounds
@@ -87,9 +90,8 @@ impl<M: Monoid> AggQueue<M> for Daba<M> {
 
     /// Appends an item at the back. Uses one spare. At most 4 steps.
     fn push<L>(&mut self, value: M, steps: &mut Steps<L>)
-        requires { 1 ≤ self.old.spare }
-        ensures appended { self.new.items ≡ self.old.items ++ value ∷ [] }
-        ensures spare { self.new.spare + 1 ≡ self.old.spare }
+        requires { HasRoom self.old }
+        ensures pushes { Pushes value self.old self.new }
         ensures cost { steps.new ≤ steps.old + 4 }
     {
         value.vouch();
@@ -100,10 +102,7 @@ impl<M: Monoid> AggQueue<M> for Daba<M> {
 
     /// Removes the item at the front, `None` exactly where there is none. At most 3 steps.
     fn pop<L>(&mut self, steps: &mut Steps<L>) -> Option<M>
-        ensures first { IfSome result (λ value. self.old.items ≡ value ∷ self.new.items) }
-        ensures none { (result ≡ None) ↔ (self.old.items ≡ []) }
-        ensures empty { result ≡ None → self.new.items ≡ [] }
-        ensures spare { self.old.spare ≤ self.new.spare }
+        ensures pops { Pops result self.old self.new }
         ensures cost { steps.new ≤ steps.old + 3 }
     {
         let value = self.cells.pop()?;
@@ -129,8 +128,7 @@ impl<M: Monoid> AggQueue<M> for Daba<M> {
 
 // What a range comes to whose aggregates run up to its end: the first one, if there is one.
 fn total_at_first<M: Monoid>(cells: &Cells<M>, from: usize, to: usize) -> M
-    requires order { from ≤ to }
-    requires within { to ≤ length cells.now.values }
+    requires range { IsRange from to (length cells.now.values) }
     requires first { from < to → slice_index_or cells.now.aggregates from M.empty
         ≡ total_within M.empty M.op cells.now.values from to }
     ensures { result ≡ total_within M.empty M.op cells.now.values from to }
@@ -143,8 +141,7 @@ fn total_at_first<M: Monoid>(cells: &Cells<M>, from: usize, to: usize) -> M
 
 // What a range comes to whose aggregates run from its start: the last one, if there is one.
 fn total_at_last<M: Monoid>(cells: &Cells<M>, from: usize, to: usize) -> M
-    requires order { from ≤ to }
-    requires within { to ≤ length cells.now.values }
+    requires range { IsRange from to (length cells.now.values) }
     requires last { from < to → slice_index_or cells.now.aggregates (to - 1) M.empty
         ≡ total_within M.empty M.op cells.now.values from to }
     ensures { result ≡ total_within M.empty M.op cells.now.values from to }
@@ -160,10 +157,7 @@ fn fix_up<M: Monoid, L>(cells: &mut Cells<M>, bounds: Bounds, steps: &mut Steps<
     requires totals { KeepsTotals M.is_value M.empty M.op
         cells.old.values cells.old.aggregates bounds }
     requires behind { IsBehind bounds (length cells.old.values) }
-    ensures values { cells.new.values ≡ cells.old.values }
-    ensures spare { cells.new.spare ≡ cells.old.spare }
-    ensures totals { KeepsTotals M.is_value M.empty M.op
-        cells.new.values cells.new.aggregates result }
+    ensures sets { SetsBounds M.is_value M.empty M.op cells.old cells.new result }
     ensures balanced { IsBalanced result (length cells.new.values) }
     ensures cost { steps.new ≤ steps.old + 3 }
 {
@@ -212,10 +206,7 @@ fn extend_left<M: Monoid, L>(cells: &mut Cells<M>, bounds: Bounds, steps: &mut S
     requires totals { KeepsTotals M.is_value M.empty M.op
         cells.old.values cells.old.aggregates bounds }
     requires some { bounds.left < bounds.right }
-    ensures values { cells.new.values ≡ cells.old.values }
-    ensures spare { cells.new.spare ≡ cells.old.spare }
-    ensures totals { KeepsTotals M.is_value M.empty M.op
-        cells.new.values cells.new.aggregates result }
+    ensures sets { SetsBounds M.is_value M.empty M.op cells.old cells.new result }
     ensures moved { result ≡ record bounds { left = bounds.left + 1 } }
     ensures cost { steps.new ≤ steps.old + 2 }
 {
@@ -240,12 +231,9 @@ fn extend_accumulator<M: Monoid, L>(
     requires totals { KeepsTotals M.is_value M.empty M.op
         cells.old.values cells.old.aggregates bounds }
     requires some { bounds.right < bounds.accumulator }
-    ensures values { cells.new.values ≡ cells.old.values }
-    ensures spare { cells.new.spare ≡ cells.old.spare }
-    ensures totals { KeepsTotals M.is_value M.empty M.op
-        cells.new.values cells.new.aggregates result }
+    ensures sets { SetsBounds M.is_value M.empty M.op cells.old cells.new result }
     ensures moved { result ≡ record bounds { accumulator = bounds.accumulator - 1 } }
-    ensures cost { steps.new ≤ steps.old + 1 }
+    ensures counted { steps.new ≡ next_count steps.old }
 {
     let rest = total_at_first(cells, bounds.accumulator, bounds.back);
     let last = bounds.accumulator - 1;

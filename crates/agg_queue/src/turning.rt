@@ -1,4 +1,5 @@
 ghost use Rattle.std.specs.Prelude.{◌≡◌, ◌≤◌, ◌+◌, length, All};
+ghost use Rattle.agg_queue.specs.Lanes.{KeepsValues};
 ghost use Rattle.agg_queue.specs.Stacks.{AreSuffixTotals};
 
 use crate::cells::Cells;
@@ -9,9 +10,8 @@ use agg_laws::{Monoid, Steps};
 pub(crate) fn turn_over<M: Monoid, L>(cells: &mut Cells<M>, steps: &mut Steps<L>)
     requires values { All M.is_value cells.old.values }
     requires aligned { length cells.old.aggregates ≡ length cells.old.values }
-    ensures values { cells.new.values ≡ cells.old.values }
+    ensures kept { KeepsValues cells.old cells.new }
     ensures aligned { length cells.new.aggregates ≡ length cells.new.values }
-    ensures spare { cells.new.spare ≡ cells.old.spare }
     ensures suffixes { AreSuffixTotals M.empty M.op cells.new.values cells.new.aggregates 0 }
     ensures cost { steps.new ≤ steps.old + length cells.old.values }
 {

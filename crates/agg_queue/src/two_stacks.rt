@@ -17,7 +17,8 @@
 //! Where the front is empty, a `pop` turns the back over first: from the last cell to the first,
 //! each one's aggregate is made from its value and the aggregate behind it. Then all cells are front.
 //! Since each item is turned over once, its push can pay for that.
-ghost use Rattle.std.specs.Prelude.{◌≡◌, ◌≤◌, ◌+◌, ◌↔◌, [], ◌∷◌, ◌++◌, IfSome, None};
+ghost use Rattle.std.specs.Prelude.{◌≤◌, ◌+◌};
+ghost use Rattle.agg_queue.specs.Queue.{HasRoom, Pops, Pushes};
 
 use crate::cells::Cells;
 use crate::turning::turn_over;
@@ -42,14 +43,14 @@ pub struct TwoStacks<M: Monoid> {
 
 impl<M: Monoid> Model for TwoStacks<M> {
     ghost use Rattle.std.specs.Prelude.{◌-◌, length};
+    ghost use Rattle.agg_queue.specs.Lanes.{queue_of};
     ghost use Rattle.agg_queue.specs.Queue.{QueueOnCredit};
     ghost use Rattle.agg_queue.specs.Stacks.{AreStacked};
 
     ghost Value = { QueueOnCredit M };
 
     ghost view = { λ q. record {
-      items = q.cells.values;
-      spare = q.cells.spare;
+      queue = queue_of q.cells;
       credit = length q.cells.values - q.front;
     } };
 
@@ -58,9 +59,9 @@ impl<M: Monoid> Model for TwoStacks<M> {
 }
 
 impl<M: Monoid> AggQueue<M> for TwoStacks<M> {
-    ghost items = { λ q. q.items };
+    ghost items = { λ q. q.queue.items };
 
-    ghost spare = { λ q. q.spare };
+    ghost spare = { λ q. q.queue.spare };
 
     ghost credit = { λ q. q.credit };
 
@@ -79,9 +80,8 @@ impl<M: Monoid> AggQueue<M> for TwoStacks<M> {
 
     /// Appends an item at the back. Uses one spare.
     fn push<L>(&mut self, value: M, steps: &mut Steps<L>)
-        requires { 1 ≤ self.old.spare }
-        ensures appended { self.new.items ≡ self.old.items ++ value ∷ [] }
-        ensures spare { self.new.spare + 1 ≡ self.old.spare }
+        requires { HasRoom self.old.queue }
+        ensures pushes { Pushes value self.old.queue self.new.queue }
         ensures cost { steps.new + self.new.credit ≤ steps.old + self.old.credit + 2 }
     {
         value.vouch();
@@ -92,10 +92,7 @@ impl<M: Monoid> AggQueue<M> for TwoStacks<M> {
 
     /// Removes the item at the front, `None` exactly where there is none.
     fn pop<L>(&mut self, steps: &mut Steps<L>) -> Option<M>
-        ensures first { IfSome result (λ value. self.old.items ≡ value ∷ self.new.items) }
-        ensures none { (result ≡ None) ↔ (self.old.items ≡ []) }
-        ensures empty { result ≡ None → self.new.items ≡ [] }
-        ensures spare { self.old.spare ≤ self.new.spare }
+        ensures pops { Pops result self.old.queue self.new.queue }
         ensures cost { steps.new + self.new.credit ≤ steps.old + self.old.credit }
     {
         if self.front == 0 {

@@ -48,7 +48,7 @@ fn keeps_the_order<Q: AggQueue<Trace>>(
 
 // A caller of two stacks themselves has their bounds on credit.
 fn through_two_stacks(queue: &mut TwoStacks<Sum>, value: Sum, steps: &mut Steps<Work>) -> Sum
-    requires { 1 ≤ queue.old.spare }
+    requires { 1 ≤ queue.old.queue.spare }
     ensures cost { steps.new + queue.new.credit ≤ steps.old + queue.old.credit + 3 }
 {
     queue.push(value, steps);
