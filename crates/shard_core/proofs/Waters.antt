@@ -35,7 +35,7 @@ lesser_is_water a b h k =
     h
 
 -- ---- one source
-time_within : (e : Entry) → is_entry_within e ≡ true → water_time e.what ≤ TIME_MAX
+pub time_within : (e : Entry) → is_entry_within e ≡ true → water_time e.what ≤ TIME_MAX
 time_within e h = by e.what h
   where
     by : (w : What) → is_entry_within (record { source = e.source; what = w }) ≡ true → water_time w ≤ TIME_MAX

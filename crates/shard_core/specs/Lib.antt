@@ -3,7 +3,7 @@ pub mod Work
 pub mod Recorded
 pub mod Past
 pub mod Placed
-pub mod Numbers
+pub mod Applying
 pub mod Engines
 pub mod Flat
 pub mod Replays

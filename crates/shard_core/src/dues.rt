@@ -1,4 +1,5 @@
 ghost use Rattle.std.specs.Prelude.{◌≡◌, ◌≤◌, ◌<◌, ◌++◌, ◌∷◌, [], OnOk, IsTrue, EachIndex, length, slice_index, slice_set};
+ghost use Rattle.stream_base.specs.Vectors.{room};
 
 use std::alloc::Global;
 use std::marker::Model;
@@ -6,6 +7,7 @@ use stream_base::NoMemory;
 
 // The due numbers of the states by their places. Beside them stands a number that is no greater than
 // any of them: most moves of the watermark don't reach it, and then no due number is looked at.
+// Contracts see the numbers.
 #[derive(Drop)]
 pub struct Dues {
     numbers: Vec<u64>,
@@ -13,15 +15,12 @@ pub struct Dues {
 }
 
 impl Model for Dues {
-    ghost use Rattle.std.specs.Prelude.{◌≤◌, ◌-◌, EachIndex, slice_index, vec_len, vec_capacity};
-    ghost use Rattle.shard_core.specs.Numbers.{Numbers};
+    ghost use Rattle.std.specs.Prelude.{◌≤◌, ℕ, Vec, EachIndex, slice_index};
+    ghost use Rattle.std.specs.declared.alloc.Global.{Global};
 
-    ghost Value = { Numbers };
+    ghost Value = { Vec ℕ Global };
 
-    ghost view = { λ s. record {
-      items = s.numbers.items;
-      spare = vec_capacity s.numbers - vec_len s.numbers;
-    } };
+    ghost view = { λ s. s.numbers };
 
     ghost invariant = { λ s. EachIndex s.numbers.items
         (λ i. s.least ≤ slice_index s.numbers.items i) };
@@ -40,7 +39,7 @@ impl Dues {
     // Makes room for one more.
     pub fn reserve(&mut self) -> Result<(), NoMemory>
         ensures items { self.new.items ≡ self.old.items }
-        ensures room { OnOk result (1 ≤ self.new.spare) }
+        ensures room { OnOk result (1 ≤ room self.new) }
     {
         self.numbers.reserve(1)?;
         Ok(())
@@ -48,7 +47,7 @@ impl Dues {
 
     // One more, for which there is room.
     pub fn push_reserved(&mut self, due: u64)
-        requires { 1 ≤ self.old.spare }
+        requires { 1 ≤ room self.old }
         ensures items { self.new.items ≡ self.old.items ++ due ∷ [] }
     {
         self.numbers.push_reserved(due);

@@ -1,6 +1,7 @@
 ghost use Rattle.std.specs.Prelude.{◌≡◌, ◌≤◌, ◌<◌, ◌+◌, ◌-◌, ◌++◌, ◌∷◌, [], ℕ, List, true, IfOk, OnOk, length, All, EachIndex, sum_by, vec_len, vec_capacity, slice_index, slice_index_or};
 ghost use Rattle.std.specs.List.{HoldsAt, flat_map};
 ghost use Rattle.std.specs.Map.{values_of};
+ghost use Rattle.key_parts.specs.Work.{AddsAtMost};
 ghost use Rattle.key_windows.specs.Calls.{IsWater, changes_by_move};
 ghost use Rattle.stream_base.specs.declared.kept.Kept.{Kept};
 ghost use Rattle.stream_base.specs.Model.What.{is_progress};
@@ -99,9 +100,8 @@ impl<K: KeyWindows> KeyTable<K> {
             ++ changes_by_move defs.now (K.key_of
             (slice_index_or self.old.slots.items place x).state)
             kept marks (slice_index_or self.old.slots.items place x).water new }
-        ensures room { HoldsAt (λ slot. vec_len out.new
-            ≤ vec_len out.old + K.promised slot.state) self.old.slots.items place }
-        ensures capacity { vec_capacity out.new ≡ vec_capacity out.old }
+        ensures added { HoldsAt (λ slot. AddsAtMost
+            (K.promised slot.state) out.old out.new) self.old.slots.items place }
     {
         self.slots[place].move_to(defs, new, out, steps);
         self.dues.set(place, self.slots[place].due(defs));

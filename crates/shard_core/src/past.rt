@@ -4,10 +4,10 @@ ghost use Rattle.stream_base.specs.Limits.{AreWithinLimits};
 ghost use Rattle.stream_base.specs.declared.entry.Entry.{Entry};
 ghost use Rattle.stream_base.specs.Model.Journals.{is_entry_within};
 ghost use Rattle.stream_base.specs.Model.Watermark.{has_ended, water_of};
-ghost use Rattle.stream_base.specs.Model.What.{is_late, is_what_within};
-ghost use Rattle.watermark_table.specs.Watched.{StandsFor, sources_of};
+ghost use Rattle.stream_base.specs.Model.What.{is_late};
+ghost use Rattle.watermark_table.specs.Watched.{CanTake, IsSameTable, StandsFor};
 ghost use Rattle.shard_core.specs.Recorded.{IsSameShard};
-ghost use Rattle.shard_core.specs.Shard.{IsJournal, IsKnown, IsNext};
+ghost use Rattle.shard_core.specs.Shard.{AreSources, IsJournal, IsKnown, IsNext};
 
 use std::alloc::Global;
 use std::marker::Model;
@@ -38,7 +38,7 @@ impl Model for Past {
 impl Past {
     // No entry yet.
     pub fn new(alloc: Global, defs: Defs, sources: u16) -> Result<Past, NoMemory>
-        requires { 1 ≤ sources }
+        requires { AreSources sources }
         ensures defs { IfOk result (λ past. past.defs ≡ defs) }
         ensures sources { IfOk result (λ past. past.sources ≡ sources) }
         ensures journal { IfOk result (λ past. past.journal ≡ []) }
@@ -140,10 +140,8 @@ impl Past {
 
 // Takes in what a source says of its progress.
 fn note(waters: &mut Waters, source: u16, what: What)
-    requires source { source < sources_of waters.old }
-    requires within { is_what_within what ≡ true }
-    ensures lateness { (waters.new).lateness ≡ (waters.old).lateness }
-    ensures sources { sources_of waters.new ≡ sources_of waters.old }
+    requires { CanTake waters.old record { source = source; what = what } }
+    ensures same { IsSameTable waters.old waters.new }
     ensures stands { (journal : List Entry) → StandsFor waters.old journal
         → StandsFor waters.new (journal ++ record { source = source; what = what } ∷ []) }
 {

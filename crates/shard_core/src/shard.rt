@@ -1,11 +1,12 @@
-ghost use Rattle.std.specs.Prelude.{◌≡◌, ◌≤◌, ◌<◌, ◌↔◌, [], length, IfOk, OnOk, OnErr, IsErrOf, true, false, Some, slice_get, slice_index, slice_range};
+ghost use Rattle.std.specs.Prelude.{◌≡◌, ◌≤◌, ◌<◌, ◌↔◌, [], length, IfOk, IsErrOf, true, false, Some, slice_get, slice_index, slice_range};
 ghost use Rattle.stream_base.specs.Limits.{AreWithinLimits};
 ghost use Rattle.stream_base.specs.declared.limits.TheConstants.{JOURNAL_MAX};
-ghost use Rattle.stream_base.specs.Model.Changes.{changes_after, changes_at, standing_rows};
+ghost use Rattle.stream_base.specs.Model.Changes.{changes_at, standing_rows};
 ghost use Rattle.stream_base.specs.Model.Watermark.{has_ended};
+ghost use Rattle.shard_core.specs.Applying.{Applies};
 ghost use Rattle.shard_core.specs.Flat.{start_at};
-ghost use Rattle.shard_core.specs.Shard.{AreSources, IsJournal, IsKnown, IsNext, sharded_with, slices_after};
-ghost use Rattle.shard_core.specs.Work.{IsMarkWithin, IsTupleWithin, comes_late};
+ghost use Rattle.shard_core.specs.Shard.{AreSources, IsJournal, IsKnown, IsNext, slices_after};
+ghost use Rattle.shard_core.specs.Work.{IsMarkWithin, IsTupleWithin};
 
 use crate::applied::{Applied, ApplyFault};
 use crate::keys::KeyTable;
@@ -68,22 +69,13 @@ impl<K: KeyWindows> KeyedShard<K> {
     /// kept of the key before and behind the entry. A late or refused entry takes none.
     pub fn apply<L>(&mut self, entry: &Entry, steps: &mut Steps<L>) -> Result<Applied, ApplyFault>
         requires { IsKnown self.old.sources entry.now }
-        ensures applied { OnOk result (self.new ≡ sharded_with self.old entry.now) }
-        ensures position { IfOk result (λ applied. applied.position ≡ length self.old.journal) }
-        ensures changes { IfOk result (λ applied. applied.changes
-            ≡ length (changes_after self.old.defs self.old.sources self.old.journal entry.now)) }
+        ensures applies { Applies (IsTupleWithin K.bounds_put) (IsMarkWithin K.bounds_mark)
+            self.old entry.now result self.new steps.old steps.new }
         ensures ended { IsErrOf result ApplyFault.Ended
             ↔ (has_ended entry.now.source self.old.journal ≡ true) }
         ensures full { IsErrOf result ApplyFault.Full
             ↔ ((has_ended entry.now.source self.old.journal ≡ false) × (length self.old.journal
             ≡ JOURNAL_MAX)) }
-        ensures refused { OnErr result (self.new ≡ self.old) }
-        ensures tuple_work { OnOk result (IsTupleWithin K.bounds_put self.old entry.now
-            steps.old steps.new) }
-        ensures mark_work { OnOk result (IsMarkWithin K.bounds_mark self.old entry.now
-            steps.old steps.new) }
-        ensures late_work { comes_late self.old entry.now ≡ true → steps.new ≡ steps.old }
-        ensures refused_work { OnErr result (steps.new ≡ steps.old) }
     {
         if self.past.has_ended(entry.source) {
             return Err(ApplyFault::Ended);
@@ -96,17 +88,8 @@ impl<K: KeyWindows> KeyedShard<K> {
 
     fn append<L>(&mut self, entry: &Entry, steps: &mut Steps<L>) -> Result<Applied, NoMemory>
         requires { IsNext self.old.sources self.old.journal entry.now }
-        ensures applied { OnOk result (self.new ≡ sharded_with self.old entry.now) }
-        ensures position { IfOk result (λ applied. applied.position ≡ length self.old.journal) }
-        ensures changes { IfOk result (λ applied. applied.changes
-            ≡ length (changes_after self.old.defs self.old.sources self.old.journal entry.now)) }
-        ensures refused { OnErr result (self.new ≡ self.old) }
-        ensures tuple_work { OnOk result (IsTupleWithin K.bounds_put self.old entry.now
-            steps.old steps.new) }
-        ensures mark_work { OnOk result (IsMarkWithin K.bounds_mark self.old entry.now
-            steps.old steps.new) }
-        ensures late_work { comes_late self.old entry.now ≡ true → steps.new ≡ steps.old }
-        ensures refused_work { OnErr result (steps.new ≡ steps.old) }
+        ensures { Applies (IsTupleWithin K.bounds_put) (IsMarkWithin K.bounds_mark)
+            self.old entry.now result self.new steps.old steps.new }
     {
         self.past.reserve()?;
         self.ends.reserve(1)?;

@@ -1,6 +1,7 @@
 ghost use Rattle.std.specs.Prelude.{◌≡◌, ◌≤◌, ◌<◌, ◌+◌, ◌++◌, [], ◌-◌, ℕ, List, IfOk, OnOk, OnErr, vec_len, vec_capacity};
 ghost use Rattle.std.specs.BTreeSet.{insert_key};
 ghost use Rattle.std.specs.Ordering.{nat_cmp};
+ghost use Rattle.key_parts.specs.Work.{AddsAtMost};
 ghost use Rattle.key_windows.specs.Calls.{IsWater, changes_by_mark, changes_by_move, changes_by_put, kept_at, moment};
 ghost use Rattle.stream_base.specs.declared.kept.Kept.{Kept};
 ghost use Rattle.stream_base.specs.declared.limits.TheConstants.{JOURNAL_MAX};
@@ -137,8 +138,7 @@ impl<K: KeyWindows> Slot<K> {
             → out.new.items ≡ out.old.items
             ++ changes_by_move defs.now (K.key_of (self.old).state) kept marks
             (self.old).water new }
-        ensures room { vec_len out.new ≤ vec_len out.old + K.promised (self.old).state }
-        ensures capacity { vec_capacity out.new ≡ vec_capacity out.old }
+        ensures added { AddsAtMost (K.promised (self.old).state) out.old out.new }
     {
         self.state.water(defs, self.water, new, out, steps);
         self.water = new;

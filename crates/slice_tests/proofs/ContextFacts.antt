@@ -15,9 +15,9 @@ use Rattle.stream_base.proofs.Distinct.{All_from_members}
 use Rattle.stream_base.proofs.EventOrder.{put_in_order_cons}
 use Rattle.stream_base.proofs.Members.{filter_members}
 use Rattle.stream_base.proofs.Rising.{Contains-cons_cases, Contains-head, Contains-insert_key, Contains-insert_key_self, Contains-tail, nat_rising_is_sorted, nat_rising_members, none_in_nil}
-use Rattle.window_laws.specs.Runs.{IsAligned}
+use Rattle.run_laws.specs.Runs.{IsAligned}
 use Rattle.window_laws.proofs.InstanceFacts.{between_ends}
-use Rattle.window_laws.proofs.Order.{All-map_of}
+use Rattle.run_laws.proofs.Order.{All-map_of}
 use Rattle.window_laws.proofs.StretchFacts.{edges_of}
 use Rattle.agg_store.specs.Stored.{IsSliced, IsStore, Stored, tuples_of}
 use Rattle.agg_store.specs.Stored.{IsAsBefore as IsStoreAsBefore}

@@ -6,35 +6,33 @@ use aggregates::Sum;
 use fiba_arena::ArenaTree;
 use stream_base::NoMemory;
 
-/// Puts so many keys into an empty tree.
+/// So many keys in an order.
+#[derive(Clone, Copy)]
+pub struct Keys {
+    pub order: Order,
+    pub count: u64,
+    ghost few: { count ≤ 2 ^ 20 },
+}
+
+/// Puts keys into an empty tree.
 pub fn fill<L>(
     tree: &mut ArenaTree<Sum>,
-    order: Order,
-    count: u64,
+    keys: Keys,
     probes: &mut Probes,
     steps: &mut Steps<L>,
 ) -> Result<(), NoMemory>
-    requires empty { tree.old.pairs ≡ [] }
-    requires few { count ≤ 2 ^ 20 }
+    requires { tree.old.pairs ≡ [] }
 {
-    tree.reserve(count)?;
-    for i in 0..count {
-        tree.insert(order.key(i), Sum::lift(1), probes, steps);
+    tree.reserve(keys.count)?;
+    for i in 0..keys.count {
+        tree.insert(keys.order.key(i), Sum::lift(1), probes, steps);
     }
     Ok(())
 }
 
-/// Takes so many keys out.
-pub fn drain<L>(
-    tree: &mut ArenaTree<Sum>,
-    order: Order,
-    count: u64,
-    probes: &mut Probes,
-    steps: &mut Steps<L>,
-)
-    requires few { count ≤ 2 ^ 20 }
-{
-    for i in 0..count {
-        let _gone = tree.remove(order.key(i), probes, steps);
+/// Takes keys out.
+pub fn drain<L>(tree: &mut ArenaTree<Sum>, keys: Keys, probes: &mut Probes, steps: &mut Steps<L>) {
+    for i in 0..keys.count {
+        let _gone = tree.remove(keys.order.key(i), probes, steps);
     }
 }

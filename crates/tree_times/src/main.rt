@@ -12,7 +12,7 @@ use agg_laws::{AggTree, Probes, Steps};
 use aggregates::Sum;
 use fiba_arena::ArenaTree;
 use fiba_finger::FingerTree;
-use filling::{drain, fill};
+use filling::{Keys, drain, fill};
 use near::Near;
 use order::Order;
 use std::{env, io};
@@ -40,8 +40,21 @@ fn main(rt: HostRuntime) -> io::Result<()> {
                 put_near(&rt, &mut tree, near, &mut steps, &mut late_steps)
             }
         }
-        [what, count] => put_all(&rt, what.as_str(), number(count), &mut steps),
-        _ => put_all(&rt, "scattered", 1000, &mut steps),
+        [what, count] => {
+            let what = what.as_str();
+            let keys = Keys {
+                order: Order::named(what),
+                count: number(count),
+            };
+            put_all(&rt, keys, what == "removed", &mut steps)
+        }
+        _ => {
+            let keys = Keys {
+                order: Order::Scattered,
+                count: 1000,
+            };
+            put_all(&rt, keys, false, &mut steps)
+        }
     }
 }
 
@@ -52,18 +65,20 @@ fn number(word: &str) -> u64
     word.parse::<u64>().unwrap_or(1000).min(1 << 20)
 }
 
-// Fills a tree in the order with this name, empties it where asked to, and says what it holds.
-fn put_all(rt: &HostRuntime, what: &str, count: u64, steps: &mut Steps<Work>) -> io::Result<()>
-    requires { count ≤ 2 ^ 20 }
-{
-    let order = Order::named(what);
+// Fills a tree with keys, takes them out again where asked to, and says what it holds.
+fn put_all(
+    rt: &HostRuntime,
+    keys: Keys,
+    are_removed: bool,
+    steps: &mut Steps<Work>,
+) -> io::Result<()> {
     let mut probes = Probes::new();
     let mut tree: ArenaTree<Sum> = ArenaTree::fresh(rt.alloc());
-    if fill(&mut tree, order, count, &mut probes, steps).is_err() {
+    if fill(&mut tree, keys, &mut probes, steps).is_err() {
         println!(rt; "no memory")?;
     }
-    if what == "removed" {
-        drain(&mut tree, order, count, &mut probes, steps);
+    if are_removed {
+        drain(&mut tree, keys, &mut probes, steps);
     }
     let sum = tree.fold_range(0, 1 << 20, &mut probes, steps).sum;
     println!(rt; "{} pairs, sum {sum}", tree.len())?;

@@ -6,8 +6,8 @@ use Rattle.shard_core.specs.Engines.{AreCurrent, IsCurrent}
 use Rattle.shard_core.proofs.Places.{current_at}
 use Rattle.shard_core.proofs.keys.KeyTable.count_slices.Goals as goal
 
-pub slice_count-requires-clause-stands : goal.slice_count-requires-clause-stands
-slice_count-requires-clause-stands g c =
+pub slice_count-requires : goal.slice_count-requires
+slice_count-requires g c =
     let key_of = g.K.KeyWindows.key_of in
     let fits = g.K.KeyWindows.fits in
     let next = g.K.KeyWindows.next_position in
@@ -18,8 +18,13 @@ slice_count-requires-clause-stands g c =
     let slot = c.index-slot.result.now in
     let current : AreCurrent key_of fits next d past.sources past.journal table = rw c.defs.ensures.value c.requires.current in
     let due = get_or table.dues.items c.args.place 0 in
-    let was : IsCurrent key_of fits next d past.sources past.journal key slot due = current_at key_of fits next d past.sources past.journal table key c.args.place slot current c.requires.place c.index-slot.ensures in
-    (kept_of d.lateness past.sources key past.journal, marks_of d.lateness past.sources key past.journal, slot.water, was.stands, omega (arith, was.past, c.water.ensures.value))
+    let was : IsCurrent key_of fits next d past.sources past.journal key slot due = current_at key_of fits next d past.sources past.journal table key c.args.place slot current c.requires.place c.index-slot.ensures in (
+      slot.water,
+      record {
+        stands = (kept_of d.lateness past.sources key past.journal, marks_of d.lateness past.sources key past.journal, was.stands);
+        to_come = record { rises = omega (arith, was.past, c.water.ensures.value); is_water = c.water.ensures.is_water };
+      },
+    )
 
 pub returns : goal.returns
 returns g c =

@@ -44,7 +44,7 @@ loop-place-preserved g c =
           c.args.self.now.slots.items c.loop-place.self.slots.items c.move_at.new.self.slots.items c.args.self.now.dues.items c.loop-place.self.dues.items c.move_at.new.self.dues.items c.args.out.now.items c.loop-place.out.items c.move_at.new.out.items
           (vec_capacity c.loop-place.out - vec_len c.loop-place.out) (vec_capacity c.move_at.new.out - vec_len c.move_at.new.out)
           within c.requires.movable.apart c.loop-place.invariant.1 c.move_at.ensures.table.as_many c.move_at.ensures.table.as_many_dues c.move_at.ensures.others c.move_at.ensures.other_dues c.move_at.ensures.moved c.move_at.ensures.changes
-          (λ x. omega (arith, c.move_at.ensures.room x, c.move_at.ensures.capacity)),
+          (λ x. let a = c.move_at.ensures.added x in omega (arith, a.number, a.capacity)),
       λ z. absurd (omega arith),
     )
 

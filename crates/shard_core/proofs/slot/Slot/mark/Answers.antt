@@ -1,7 +1,13 @@
 -- With room made it stands for the same lists.
+use Rattle.std.proofs.Common.{rules}
 use Rattle.shard_core.proofs.slot.Slot.mark.Goals as goal
 
-pub mark-requires-clause-stands : goal.mark-requires-clause-stands
-mark-requires-clause-stands g c =
+pub mark-requires : goal.mark-requires
+mark-requires g c =
     let old = c.requires.stands in
-    (old.0, old.1, c.reserve_mark.ensures.stays old.0 old.1 c.args.self.now.water old.2)
+    record {
+      stands = (old.0, old.1, c.reserve_mark.ensures.stays old.0 old.1 c.args.self.now.water old.2);
+      in_time = search rules;
+      ready = search rules;
+      spare = search rules;
+    }

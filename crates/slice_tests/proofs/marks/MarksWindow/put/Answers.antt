@@ -30,7 +30,7 @@ put-requires-2-clause-aligned g c =
     let store = c.reserve.new.self in
     let s = c.before-2.new.self in
     let h : AreOfMarks d store c.reserve-2.new.self = marks_stay d c.args.self.now.store store c.args.self.now.between c.reserve-2.new.self c.requires.together c.reserve.ensures.kept c.reserve-2.ensures.kept in
-    let f : FollowsMarks store.marks (tuples_of store) s = marks_after_before store.marks (tuples_of store) c.reserve-2.new.self s h.follows c.before-2.ensures.spans c.before-2.ensures.marks c.before-2.ensures.forgotten in
+    let f : FollowsMarks store.marks (tuples_of store) s = marks_after_before store.marks (tuples_of store) c.reserve-2.new.self s h.follows c.before-2.ensures.kept.spans c.before-2.ensures.marks c.before-2.ensures.kept.forgotten in
     let marks : c.put.new.self.marks ≡ s.marks = c.put.ensures.marks ∙ sym f.known in
     let lie : All (LiesBetween s.marks) s.spans = subst (λ m. All (LiesBetween m) s.spans) (sym f.known) (spans_lie store.marks (tuples_of store) s f) in
     edges_align c.put.new.self.slices s.marks (λ e k. c.slices_part_at_edges.ensures d.windows c.put.new.self e c.is_cut-2.ensures (rw marks k)) _
@@ -44,8 +44,8 @@ returns-clause-together g c =
     let x : Kept = kept_at c.args.pos c.args.time c.args.value in
     let tuples : tuples_of c.put.new.self ≡ put_in_order (tuples_of c.reserve.new.self) x = c.put.ensures.tuples ∙ ap (λ v. put_in_order (tuples_of c.reserve.new.self) (kept_at c.args.pos c.args.time v)) (to_z-of_z w64 c.args.value c.ranges.value) in
     let h : AreOfMarks d store c.reserve-2.new.self = marks_stay d c.args.self.now.store store c.args.self.now.between c.reserve-2.new.self c.requires.together c.reserve.ensures.kept c.reserve-2.ensures.kept in
-    let f : FollowsMarks store.marks (tuples_of store) s = marks_after_before store.marks (tuples_of store) c.reserve-2.new.self s h.follows c.before-2.ensures.spans c.before-2.ensures.marks c.before-2.ensures.forgotten in
-    let le : s.forgotten ≤ c.args.time = omega (arith, c.before-2.ensures.forgotten ∙ c.reserve-2.ensures.kept.forgotten, c.requires.unsettled) in
+    let f : FollowsMarks store.marks (tuples_of store) s = marks_after_before store.marks (tuples_of store) c.reserve-2.new.self s h.follows c.before-2.ensures.kept.spans c.before-2.ensures.marks c.before-2.ensures.kept.forgotten in
+    let le : s.forgotten ≤ c.args.time = omega (arith, c.before-2.ensures.kept.forgotten ∙ c.reserve-2.ensures.kept.forgotten, c.requires.unsettled) in
     record {
       sliced = c.put.ensures.sliced;
       follows = rw (c.put.ensures.marks, tuples) (c.put-2.ensures.follows store.marks (tuples_of store) x f le refl);

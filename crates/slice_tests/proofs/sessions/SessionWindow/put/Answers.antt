@@ -24,9 +24,9 @@ put-requires-2-clause-aligned g c =
     let x : Kept = kept_at c.args.pos c.args.time c.args.value in
     let tuples : tuples_of c.put.new.self ≡ put_in_order (tuples_of c.reserve.new.self) x = c.put.ensures.tuples ∙ ap (λ v. put_in_order (tuples_of c.reserve.new.self) (kept_at c.args.pos c.args.time v)) (to_z-of_z w64 c.args.value c.ranges.value) in
     let h : AreOfSessions d c.reserve.new.self c.reserve-2.new.self = sessions_stay d c.args.self.now.store c.reserve.new.self c.args.self.now.sessions c.reserve-2.new.self c.requires.together c.reserve.ensures.kept c.reserve-2.ensures.kept in
-    let f : Follows (gap_at d 0) (tuples_of c.reserve.new.self) c.before-2.new.self = sessions_after_before (gap_at d 0) (tuples_of c.reserve.new.self) c.reserve-2.new.self c.before-2.new.self h.follows c.before-2.ensures.spans c.before-2.ensures.forgotten in
+    let f : Follows (gap_at d 0) (tuples_of c.reserve.new.self) c.before-2.new.self = sessions_after_before (gap_at d 0) (tuples_of c.reserve.new.self) c.reserve-2.new.self c.before-2.new.self h.follows c.before-2.ensures.kept.spans c.before-2.ensures.kept.forgotten in
     let o = subst (λ l. IsOfSessions d.windows (window_at d 0) l c.put.new.self) tuples (of_sessions d c.put.new.self h.session c.is_cut-2.ensures) in
-    let le : c.before-2.new.self.forgotten ≤ c.args.time = omega (arith, c.before-2.ensures.forgotten ∙ c.reserve-2.ensures.kept.forgotten, c.requires.unsettled) in
+    let le : c.before-2.new.self.forgotten ≤ c.args.time = omega (arith, c.before-2.ensures.kept.forgotten ∙ c.reserve-2.ensures.kept.forgotten, c.requires.unsettled) in
     c.slices_part_at_sessions.ensures.told d.windows (window_at d 0) (tuples_of c.reserve.new.self) x c.put.new.self c.before-2.new.self c.args.water o f le
 
 pub returns-clause-together : goal.returns-clause-together
@@ -35,8 +35,8 @@ returns-clause-together g c =
     let x : Kept = kept_at c.args.pos c.args.time c.args.value in
     let tuples : tuples_of c.put.new.self ≡ put_in_order (tuples_of c.reserve.new.self) x = c.put.ensures.tuples ∙ ap (λ v. put_in_order (tuples_of c.reserve.new.self) (kept_at c.args.pos c.args.time v)) (to_z-of_z w64 c.args.value c.ranges.value) in
     let h : AreOfSessions d c.reserve.new.self c.reserve-2.new.self = sessions_stay d c.args.self.now.store c.reserve.new.self c.args.self.now.sessions c.reserve-2.new.self c.requires.together c.reserve.ensures.kept c.reserve-2.ensures.kept in
-    let f : Follows (gap_at d 0) (tuples_of c.reserve.new.self) c.before-2.new.self = sessions_after_before (gap_at d 0) (tuples_of c.reserve.new.self) c.reserve-2.new.self c.before-2.new.self h.follows c.before-2.ensures.spans c.before-2.ensures.forgotten in
-    let le : c.before-2.new.self.forgotten ≤ c.args.time = omega (arith, c.before-2.ensures.forgotten ∙ c.reserve-2.ensures.kept.forgotten, c.requires.unsettled) in
+    let f : Follows (gap_at d 0) (tuples_of c.reserve.new.self) c.before-2.new.self = sessions_after_before (gap_at d 0) (tuples_of c.reserve.new.self) c.reserve-2.new.self c.before-2.new.self h.follows c.before-2.ensures.kept.spans c.before-2.ensures.kept.forgotten in
+    let le : c.before-2.new.self.forgotten ≤ c.args.time = omega (arith, c.before-2.ensures.kept.forgotten ∙ c.reserve-2.ensures.kept.forgotten, c.requires.unsettled) in
     record {
       session = h.session;
       sliced = c.put.ensures.sliced;
