@@ -1,6 +1,8 @@
-ghost use Rattle.std.specs.Prelude.{◌≡◌, ◌≤◌, ◌+◌, ◌*◌, ◌^◌, ◌↔◌, ℕ, List, [], length, OnOk, None, IsTrue, false};
+ghost use Rattle.std.specs.Prelude.{◌≡◌, ◌≤◌, ◌+◌, ◌*◌, ℕ, [], length, IsTrue};
+ghost use Rattle.agg_laws.specs.Counters.{Works};
 ghost use Rattle.agg_laws.specs.Laws.{total};
-ghost use Rattle.agg_laws.specs.Pairs.{AreRising, has_key, within, inserted, replaced, without, value_at, least_key, values_of};
+ghost use Rattle.agg_laws.specs.Pairs.{AreRising, has_key, within, values_of};
+ghost use Rattle.agg_laws.specs.Tables.{Inserts, IsHeight, IsLeast, IsReach, MayInsert, Removes, Replaces, Reserves, Table};
 
 use crate::monoid::Monoid;
 use crate::probes::Probes;
@@ -15,11 +17,9 @@ use stream_base::NoMemory;
 /// an `insert` and at no other call, and it is bounded by the number of pairs. `probes` counts the
 /// nodes that a call looks at, and doesn't fall.
 pub trait AggTree<M: Monoid> {
-    // The pairs that the tree stands for, in the order of their keys.
-    ghost pairs: { Self → List (ℕ × M) };
-
-    // For how many more pairs room is made.
-    ghost spare: { Self → ℕ };
+    // The pairs that the tree stands for, in the order of their keys, and for how many more room is
+    // made.
+    ghost table: { Self → Table M };
 
     // What the bounds on steps go by.
     ghost reach: { Self → ℕ };
@@ -29,75 +29,59 @@ pub trait AggTree<M: Monoid> {
 
     /// An empty tree.
     fn fresh(alloc: Global) -> Self
-        ensures empty { pairs result ≡ [] }
+        ensures empty { (table result).pairs ≡ [] }
         ensures reach { reach result ≡ 0 };
 
     /// Makes room for `room` more pairs.
     fn reserve(&mut self, room: u64) -> Result<(), NoMemory>
-        ensures room { OnOk result (room ≤ spare self.new) }
-        ensures spare { spare self.old ≤ spare self.new }
-        ensures kept { pairs self.new ≡ pairs self.old }
-        ensures rising { AreRising (pairs self.new) }
-        ensures bounded { bounded (reach self.new) (length (pairs self.new)) }
+        ensures reserves { Reserves room result (table self.old) (table self.new) }
+        ensures bounded { bounded (reach self.new) (length (table self.new).pairs) }
         ensures reach { reach self.new ≡ reach self.old };
 
     /// Puts a value under a key that isn't there. Uses one spare.
     fn insert<L>(&mut self, key: u64, value: M, probes: &mut Probes, steps: &mut Steps<L>)
-        requires absent { has_key key (pairs self.old) ≡ false }
-        requires room { 1 ≤ spare self.old }
-        ensures inserted { pairs self.new ≡ inserted key value (pairs self.old) }
-        ensures rising { AreRising (pairs self.new) }
-        ensures bounded { bounded (reach self.new) (length (pairs self.new)) }
-        ensures spare { spare self.new + 1 ≡ spare self.old }
-        ensures reach { reach self.new ≤ reach self.old + 1 }
-        ensures probes { probes.old ≤ probes.new }
-        ensures cost { steps.new ≤ steps.old + 64 * (reach self.old + 2) };
+        requires { MayInsert key (table self.old) }
+        ensures inserts { Inserts key value (table self.old) (table self.new) }
+        ensures reach { IsReach bounded (reach self.old + 1) (table self.new) (reach self.new) }
+        ensures work { Works (64 * (reach self.old + 2))
+            probes.old probes.new steps.old steps.new };
 
     /// Puts another value under a key that is there.
     fn set<L>(&mut self, key: u64, value: M, probes: &mut Probes, steps: &mut Steps<L>)
-        requires { IsTrue (has_key key (pairs self.old)) }
-        ensures replaced { pairs self.new ≡ replaced key value (pairs self.old) }
-        ensures rising { AreRising (pairs self.new) }
-        ensures bounded { bounded (reach self.new) (length (pairs self.new)) }
-        ensures spare { spare self.old ≤ spare self.new }
-        ensures reach { reach self.new ≤ reach self.old }
-        ensures probes { probes.old ≤ probes.new }
-        ensures cost { steps.new ≤ steps.old + 64 * (reach self.old + 2) };
+        requires { IsTrue (has_key key (table self.old).pairs) }
+        ensures replaces { Replaces key value (table self.old) (table self.new) }
+        ensures reach { IsReach bounded (reach self.old) (table self.new) (reach self.new) }
+        ensures work { Works (64 * (reach self.old + 2))
+            probes.old probes.new steps.old steps.new };
 
     /// Takes out the pair with this key and gives its value, `None` exactly where there is none.
     fn remove<L>(&mut self, key: u64, probes: &mut Probes, steps: &mut Steps<L>) -> Option<M>
-        ensures value { result ≡ value_at key (pairs self.old) }
-        ensures none { (result ≡ None) ↔ (has_key key (pairs self.old) ≡ false) }
-        ensures rest { pairs self.new ≡ without key (pairs self.old) }
-        ensures rising { AreRising (pairs self.new) }
-        ensures bounded { bounded (reach self.new) (length (pairs self.new)) }
-        ensures spare { spare self.old ≤ spare self.new }
-        ensures reach { reach self.new ≤ reach self.old }
-        ensures probes { probes.old ≤ probes.new }
-        ensures cost { steps.new ≤ steps.old + 64 * (reach self.old + 2) };
+        ensures removes { Removes key result (table self.old) (table self.new) }
+        ensures reach { IsReach bounded (reach self.old) (table self.new) (reach self.new) }
+        ensures work { Works (64 * (reach self.old + 2))
+            probes.old probes.new steps.old steps.new };
 
     /// The least key, `None` exactly where the tree is empty.
     fn first_key(&self) -> Option<u64>
-        ensures least { result ≡ least_key (pairs self.now) }
-        ensures none { (result ≡ None) ↔ (pairs self.now ≡ []) }
-        ensures rising { AreRising (pairs self.now) };
+        ensures { IsLeast result (table self.now) };
 
     /// The values with `low <= key < high` combined in the order of keys, from the unit.
     fn fold_range<L>(&self, low: u64, high: u64, probes: &mut Probes, steps: &mut Steps<L>) -> M
-        ensures value { result ≡ total M.empty M.op (values_of (within low high (pairs self.now))) }
-        ensures rising { AreRising (pairs self.now) }
-        ensures one_each { steps.new ≤ steps.old + length (within low high (pairs self.now)) }
-        ensures probes { probes.old ≤ probes.new }
-        ensures cost { steps.new ≤ steps.old + 32 * (reach self.now + 2) };
+        ensures value { result
+            ≡ total M.empty M.op (values_of (within low high (table self.now).pairs)) }
+        ensures rising { AreRising (table self.now).pairs }
+        ensures one_each { steps.new
+            ≤ steps.old + length (within low high (table self.now).pairs) }
+        ensures work { Works (32 * (reach self.now + 2))
+            probes.old probes.new steps.old steps.new };
 
     /// How many pairs there are.
     fn len(&self) -> u64
-        ensures count { result ≡ length (pairs self.now) }
-        ensures rising { AreRising (pairs self.now) }
-        ensures bounded { bounded (reach self.now) (length (pairs self.now)) };
+        ensures count { result ≡ length (table self.now).pairs }
+        ensures rising { AreRising (table self.now).pairs }
+        ensures bounded { bounded (reach self.now) (length (table self.now).pairs) };
 
     /// How many levels of nodes lie below each other: 0 where the tree is empty.
     fn height(&self) -> u32
-        ensures empty { pairs self.now ≡ [] → result ≡ 0 }
-        ensures bound { 2 ^ result ≤ length (pairs self.now) + 1 };
+        ensures { IsHeight (table self.now) result };
 }

@@ -154,11 +154,11 @@ pub(crate) fn insert_fold_remove<M: Monoid, T: AggTree<M>, L>(
     probes: &mut Probes,
     steps: &mut Steps<L>,
 ) -> Result<M, NoMemory>
-    requires { has_key key (T.pairs tree.old) ≡ false }
+    requires { has_key key (T.table tree.old).pairs ≡ false }
     ensures value { IfOk result (λ sum. sum ≡ total M.empty M.op
-        (values_of (within 0 1000 (inserted key value (T.pairs tree.old))))) }
-    ensures rest { OnOk result (T.pairs tree.new
-        ≡ without key (inserted key value (T.pairs tree.old))) }
+        (values_of (within 0 1000 (inserted key value (T.table tree.old).pairs)))) }
+    ensures rest { OnOk result ((T.table tree.new).pairs
+        ≡ without key (inserted key value (T.table tree.old).pairs)) }
     ensures cost { OnOk result (steps.new ≤ steps.old + 64 * (3 * T.reach tree.old + 8)) }
 {
     tree.reserve(1)?;

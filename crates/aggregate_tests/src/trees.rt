@@ -57,7 +57,7 @@ fn through_arena(
     probes: &mut Probes,
     steps: &mut Steps<Work>,
 ) -> Sum
-    requires { IsTrue (has_key key tree.old.pairs) }
+    requires { IsTrue (has_key key tree.old.table.pairs) }
     ensures cost { steps.new ≤ steps.old + 32 * (tree.old.height + 2) }
 {
     tree.set(key, value, probes, steps);

@@ -1,8 +1,9 @@
-ghost use Rattle.std.specs.Prelude.{◌≡◌, ◌≤◌, ◌<◌, ◌+◌, ◌-◌, ◌*◌, ◌^◌, ◌↔◌, [], length, None, Some, IsTrue, false, suc, slice_get};
+ghost use Rattle.std.specs.Prelude.{◌≡◌, ◌≤◌, ◌<◌, ◌+◌, ◌-◌, ◌*◌, ◌^◌, length, Some, IsTrue};
+ghost use Rattle.agg_laws.specs.Counters.{Works};
 ghost use Rattle.agg_laws.specs.Laws.{total};
-ghost use Rattle.agg_laws.specs.Pairs.{AreRising, has_key, inserted, replaced, within, values_of, value_at, without};
-ghost use Rattle.fiba_nodes.specs.Trees.{IsAt, pair_of, pairs_at, plain};
-ghost use Rattle.fiba_changes.specs.Changes.{pairs_of};
+ghost use Rattle.agg_laws.specs.Pairs.{AreRising, has_key, within, values_of};
+ghost use Rattle.agg_laws.specs.Tables.{Inserts, IsHeight, IsReach, MayInsert, Removes, Replaces};
+ghost use Rattle.fiba_changes.specs.Arena.{IsBalanced};
 
 use agg_laws::{AggTree, Monoid, Probes, Steps};
 use fiba_changes::{Change, Root, change_root, first_item, fold_span};
@@ -32,8 +33,7 @@ impl<M: Monoid> Model for ArenaTree<M> {
     ghost Value = { Arena M };
 
     ghost view = { λ t. record {
-      pairs = pairs_in t.nodes t.root;
-      spare = t.limit - t.count;
+      table = record { pairs = pairs_in t.nodes t.root; spare = t.limit - t.count };
       height = t.root.height;
     } };
 
@@ -42,13 +42,11 @@ impl<M: Monoid> Model for ArenaTree<M> {
 }
 
 impl<M: Monoid> AggTree<M> for ArenaTree<M> {
-    ghost pairs = { λ t. t.pairs };
-
-    ghost spare = { λ t. t.spare };
+    ghost table = { λ t. t.table };
 
     ghost reach = { λ t. t.height };
 
-    ghost bounded = { λ reach count. 2 ^ reach ≤ count + 1 };
+    ghost bounded = { IsBalanced };
 
     fn fresh(alloc: Global) -> ArenaTree<M> {
         ArenaTree {
@@ -73,15 +71,11 @@ impl<M: Monoid> AggTree<M> for ArenaTree<M> {
     /// Puts a value under a key that isn't there. Uses one spare. At most `16 * (height + 2)`
     /// steps.
     fn insert<L>(&mut self, key: u64, value: M, probes: &mut Probes, steps: &mut Steps<L>)
-        requires absent { has_key key self.old.pairs ≡ false }
-        requires room { 1 ≤ self.old.spare }
-        ensures inserted { self.new.pairs ≡ inserted key value self.old.pairs }
-        ensures rising { AreRising self.new.pairs }
-        ensures bounded { 2 ^ self.new.height ≤ length self.new.pairs + 1 }
-        ensures spare { self.new.spare + 1 ≡ self.old.spare }
-        ensures reach { self.new.height ≤ self.old.height + 1 }
-        ensures probes { probes.old ≤ probes.new }
-        ensures cost { steps.new ≤ steps.old + 16 * (self.old.height + 2) }
+        requires { MayInsert key self.old.table }
+        ensures inserts { Inserts key value self.old.table self.new.table }
+        ensures reach { IsReach IsBalanced (self.old.height + 1) self.new.table self.new.height }
+        ensures work { Works (16 * (self.old.height + 2))
+            probes.old probes.new steps.old steps.new }
     {
         value.vouch();
         let change = Change::Insert(Item { key, value });
@@ -93,14 +87,11 @@ impl<M: Monoid> AggTree<M> for ArenaTree<M> {
 
     /// Puts another value under a key that is there. At most `16 * (height + 2)` steps.
     fn set<L>(&mut self, key: u64, value: M, probes: &mut Probes, steps: &mut Steps<L>)
-        requires { IsTrue (has_key key self.old.pairs) }
-        ensures replaced { self.new.pairs ≡ replaced key value self.old.pairs }
-        ensures rising { AreRising self.new.pairs }
-        ensures bounded { 2 ^ self.new.height ≤ length self.new.pairs + 1 }
-        ensures spare { self.old.spare ≤ self.new.spare }
-        ensures reach { self.new.height ≤ self.old.height }
-        ensures probes { probes.old ≤ probes.new }
-        ensures cost { steps.new ≤ steps.old + 16 * (self.old.height + 2) }
+        requires { IsTrue (has_key key self.old.table.pairs) }
+        ensures replaces { Replaces key value self.old.table self.new.table }
+        ensures reach { IsReach IsBalanced self.old.height self.new.table self.new.height }
+        ensures work { Works (16 * (self.old.height + 2))
+            probes.old probes.new steps.old steps.new }
     {
         value.vouch();
         let change = Change::Set(Item { key, value });
@@ -112,15 +103,10 @@ impl<M: Monoid> AggTree<M> for ArenaTree<M> {
     /// Takes out the pair with this key and gives its value, `None` exactly where there is none. At
     /// most `32 * (height + 2)` steps.
     fn remove<L>(&mut self, key: u64, probes: &mut Probes, steps: &mut Steps<L>) -> Option<M>
-        ensures value { result ≡ value_at key self.old.pairs }
-        ensures none { (result ≡ None) ↔ (has_key key self.old.pairs ≡ false) }
-        ensures rest { self.new.pairs ≡ without key self.old.pairs }
-        ensures rising { AreRising self.new.pairs }
-        ensures bounded { 2 ^ self.new.height ≤ length self.new.pairs + 1 }
-        ensures spare { self.old.spare ≤ self.new.spare }
-        ensures reach { self.new.height ≤ self.old.height }
-        ensures probes { probes.old ≤ probes.new }
-        ensures cost { steps.new ≤ steps.old + 32 * (self.old.height + 2) }
+        ensures removes { Removes key result self.old.table self.new.table }
+        ensures reach { IsReach IsBalanced self.old.height self.new.table self.new.height }
+        ensures work { Works (32 * (self.old.height + 2))
+            probes.old probes.new steps.old steps.new }
     {
         let change = Change::Remove(key);
         let place = Place::inner();
@@ -142,11 +128,13 @@ impl<M: Monoid> AggTree<M> for ArenaTree<M> {
     /// The values with `low <= key < high` combined in the order of keys, from the unit. At most
     /// one step for each, and at most `16 * (height + 2)`.
     fn fold_range<L>(&self, low: u64, high: u64, probes: &mut Probes, steps: &mut Steps<L>) -> M
-        ensures value { result ≡ total M.empty M.op (values_of (within low high self.now.pairs)) }
-        ensures rising { AreRising self.now.pairs }
-        ensures one_each { steps.new ≤ steps.old + length (within low high self.now.pairs) }
-        ensures probes { probes.old ≤ probes.new }
-        ensures cost { steps.new ≤ steps.old + 16 * (self.now.height + 2) }
+        ensures value { result
+            ≡ total M.empty M.op (values_of (within low high self.now.table.pairs)) }
+        ensures rising { AreRising self.now.table.pairs }
+        ensures one_each { steps.new
+            ≤ steps.old + length (within low high self.now.table.pairs) }
+        ensures work { Works (16 * (self.now.height + 2))
+            probes.old probes.new steps.old steps.new }
     {
         let root = self.root;
         if high <= low {
@@ -175,8 +163,7 @@ impl<M: Monoid> AggTree<M> for ArenaTree<M> {
     /// How many levels of nodes lie below each other: 0 exactly where the tree is empty. It is what
     /// the bounds on steps go by.
     fn height(&self) -> u32
-        ensures empty { self.now.pairs ≡ [] → result ≡ 0 }
-        ensures bound { 2 ^ result ≤ length self.now.pairs + 1 }
+        ensures height { IsHeight self.now.table result }
         ensures reach { result ≡ self.now.height }
         ensures levels { result + 1 < 2 ^ 32 }
     {

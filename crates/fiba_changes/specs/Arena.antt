@@ -1,16 +1,20 @@
 -- What a tree in an arena is in contracts, and what it keeps.
 use Rattle.std.specs.Prelude.{◌≡◌, ◌≤◌, ◌+◌, ◌^◌, ℕ, Bool, List, [], length}
 use Rattle.agg_laws.specs.Pairs.{AreRising}
+use Rattle.agg_laws.specs.Tables.{Table}
 use Rattle.fiba_changes.specs.declared.root.Root.{Root}
 use Rattle.fiba_nodes.specs.Stores.{Store}
 use Rattle.fiba_nodes.specs.Trees.{pairs_at, plain, size}
 use Rattle.fiba_changes.specs.Roots.{IsTree}
 
--- its pairs, for how many more there is room, and its height
+-- its pairs with room for more, and its height
 pub record Arena (M : Type 0) : Type 0 where
-  pub pairs : List (ℕ × M)
-  pub spare : ℕ
+  pub table : Table M
   pub height : ℕ
+
+-- how the height of a balanced tree is bounded by the number of its pairs
+abbrev pub IsBalanced : ℕ → ℕ → Type 0
+IsBalanced height pairs = 2 ^ height ≤ pairs + 1
 
 -- the pairs of the tree at a root
 abbrev pub pairs_in : {M : Type 0} → Store M → Root → List (ℕ × M)
@@ -23,6 +27,6 @@ pub record IsArena {M : Type 0} (IsValue : M → Type 0) (empty : M) (op : M →
   pub counted : count ≡ length (pairs_in store root)
   pub within : count ≤ limit
   pub room : limit ≤ store.spare + size (plain store) root.height root.at
-  pub tall : 2 ^ root.height ≤ length (pairs_in store root) + 1
+  pub tall : IsBalanced root.height (length (pairs_in store root))
   pub low : root.height ≤ 64
   pub flat : pairs_in store root ≡ [] → root.height ≡ 0

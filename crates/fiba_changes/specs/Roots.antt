@@ -1,5 +1,5 @@
 -- A whole tree, by its root.
-use Rattle.std.specs.Prelude.{◌≡◌, ◌≤◌, ◌+◌, ◌-◌, ℕ, suc, Bool, List, Option, length}
+use Rattle.std.specs.Prelude.{◌≡◌, ◌≤◌, ◌<◌, ◌+◌, ◌-◌, ◌^◌, ℕ, suc, Bool, List, Option, length}
 use Rattle.fiba_nodes.specs.declared.item.Item.{Item}
 use Rattle.fiba_nodes.specs.declared.slot.Slot.{Slot}
 use Rattle.fiba_changes.specs.declared.root.Root.{Root}
@@ -21,10 +21,11 @@ pub record IsPlanted {M : Type 0} (IsValue : M → Type 0) (empty : M) (op : M �
   pub room : new.spare + size (plain new) root.height root.at ≡ old.spare + (1 + row_size (plain old) b slots last)
   pub higher : root.height ≤ suc b + (length slots - 3)
 
--- a change can be made to a tree
+-- a change can be made to a tree: there is room for it, in nodes and in height
 pub record CanChange {M : Type 0} (IsValue : M → Type 0) (empty : M) (op : M → M → M) (store : Store M) (root : Root) (left right : Bool) (change : Change M) : Type 0 where
   pub tree : IsTree IsValue empty op store root left right
   pub room : length (pairs_at (plain store) root.height root.at) + growth change ≤ store.spare + size (plain store) root.height root.at
+  pub levels : root.height + 1 < 2 ^ 32
   pub value : CarriesValue IsValue change
 
 -- a change was made to a tree

@@ -1,4 +1,5 @@
 ghost use Rattle.std.specs.Prelude.{◌≡◌, ◌≤◌, ◌+◌, ◌*◌, false, true, IfSome, IfNone, length};
+ghost use Rattle.agg_laws.specs.Counters.{Looks};
 ghost use Rattle.fiba_nodes.specs.Rows.{listed};
 ghost use Rattle.fiba_nodes.specs.Stores.{full_nodes, held, look};
 ghost use Rattle.fiba_changes.specs.Changes.{CanApply, IsApplied, IsItemAt, IsPaid, IsPassed, growth, is_first, meets};
@@ -30,8 +31,7 @@ pub fn apply<M: Monoid, L>(
     ensures paid { IsPaid change (full_nodes nodes.old) (full_nodes nodes.new)
         nodes.old.spare nodes.new.spare (held (look nodes.old at))
         (length (listed result.open.slots)) }
-    ensures probes { probes.old ≤ probes.new }
-    ensures looks { probes.new ≤ probes.old + 12 * below + 1 }
+    ensures looks { Looks (12 * below + 1) probes.old probes.new }
     ensures cost { steps.new ≤ steps.old + 8 * below }
 {
     let open = nodes.peek(at, probes).opened();
@@ -94,8 +94,7 @@ pub fn apply_low<M: Monoid, L>(
     ensures paid { IsPaid change (full_nodes nodes.old) (full_nodes nodes.new)
         nodes.old.spare nodes.new.spare (held (look nodes.old at))
         (length (listed result.open.slots)) }
-    ensures probes { probes.old ≤ probes.new }
-    ensures looks { probes.new ≤ probes.old + 12 * below + 1 }
+    ensures looks { Looks (12 * below + 1) probes.old probes.new }
     ensures cost { steps.new ≤ steps.old + 8 * below }
 {
     if below != 0 {

@@ -1,5 +1,5 @@
-ghost use Rattle.std.specs.Prelude.{◌≡◌, ◌≤◌, ◌<◌, ◌+◌, ◌++◌, true, length, Some, IfSome, IfNone, take, drop};
-ghost use Rattle.fiba_nodes.specs.Rows.{listed};
+ghost use Rattle.std.specs.Prelude.{◌≡◌, ◌≤◌, ◌+◌, ◌++◌, true, length, Some, IfSome, IfNone, take, drop};
+ghost use Rattle.fiba_nodes.specs.Rows.{FitsNode, listed};
 ghost use Rattle.fiba_nodes.specs.Trees.{AreValues};
 ghost use Rattle.fiba_changes.specs.Changes.{Applies, leaf_pairs, leaf_slots, CarriesValue, growth, IsItemAt, IsRank, IsUnmet, meets};
 
@@ -41,8 +41,7 @@ pub fn met<M: Copy>(slots: &Row<Slot<M>>, at: usize, change: &Change<M>) -> Opti
 pub fn leaf_applied<M: Monoid>(open: &Open<M>, change: &Change<M>) -> Applied<M>
     requires items { AreValues M.is_value (listed open.now.slots) }
     requires value { CarriesValue M.is_value change.now }
-    requires some { 1 ≤ length (listed open.now.slots) }
-    requires few { length (listed open.now.slots) ≤ 3 }
+    requires fits { FitsNode (listed open.now.slots) }
     ensures some { 1 ≤ growth change.now → 1 ≤ length (listed result.open.slots) }
     ensures items { AreValues M.is_value (listed result.open.slots) }
     ensures applies { Applies change.now result.taken (leaf_pairs (listed open.now.slots))

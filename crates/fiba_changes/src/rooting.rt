@@ -1,4 +1,5 @@
 ghost use Rattle.std.specs.Prelude.{◌≡◌, ◌≤◌, ◌<◌, ◌+◌, ◌-◌, ◌*◌, ◌^◌, false, true, length};
+ghost use Rattle.agg_laws.specs.Counters.{Looks};
 ghost use Rattle.fiba_nodes.specs.Rows.{listed};
 ghost use Rattle.fiba_nodes.specs.Trees.{IsOpened};
 ghost use Rattle.fiba_nodes.specs.Stores.{full_nodes, fullness, held, look};
@@ -24,13 +25,11 @@ pub fn change_root<M: Monoid, L>(
 ) -> Changed<M>
     requires can { CanChange M.is_value M.empty M.op nodes.old root place.left place.right change }
     requires known { is_first change ≡ false }
-    requires levels { root.height + 1 < 2 ^ 32 }
     ensures changed { IsChanged M.is_value M.empty M.op nodes.old nodes.new root result.root
         place.left place.right change result.taken }
     ensures grows { full_nodes nodes.new ≤ full_nodes nodes.old + growth change }
     ensures kept { is_set change ≡ true → full_nodes nodes.new ≡ full_nodes nodes.old }
-    ensures probes { probes.old ≤ probes.new }
-    ensures looks { probes.new ≤ probes.old + 12 * root.height + 4 }
+    ensures looks { Looks (12 * root.height + 4) probes.old probes.new }
     ensures cost { steps.new ≤ steps.old + 8 * root.height + 3 }
 {
     if root.height == 0 {
@@ -60,8 +59,7 @@ fn sprout<M: Monoid, L>(
     ensures sprouted { IsSprouted M.is_value M.empty M.op nodes.old nodes.new root
         place.left place.right item result }
     ensures full { full_nodes nodes.new ≡ full_nodes nodes.old }
-    ensures probes { probes.old ≤ probes.new }
-    ensures looks { probes.new ≤ probes.old + 4 }
+    ensures looks { Looks 4 probes.old probes.new }
     ensures cost { steps.new ≤ steps.old + 3 }
 {
     let Some(item) = item else {
@@ -100,9 +98,8 @@ pub fn plant<M: Monoid, L>(
         → nodes.new.spare + 2 * (length (listed open.now.slots) - 3) ≡ nodes.old.spare }
     ensures full { full_nodes nodes.new + fullness (held (look nodes.old at))
         ≡ full_nodes nodes.old + fullness (length (listed open.now.slots)) }
-    ensures probes { probes.old ≤ probes.new }
-    ensures looks { probes.new ≤ probes.old + 10
-        + 4 * (length (listed open.now.slots) - 3) }
+    ensures looks { Looks (10 + 4 * (length (listed open.now.slots) - 3))
+        probes.old probes.new }
     ensures cost { steps.new ≤ steps.old + 8 + 3 * (length (listed open.now.slots) - 3) }
 {
     if open.slots.len() == 0 {

@@ -1,8 +1,10 @@
 ghost use Rattle.std.specs.Prelude.{◌≡◌, ◌≤◌, ◌<◌, ◌+◌, ◌-◌, length};
-ghost use Rattle.fiba_nodes.specs.Rows.{listed};
+ghost use Rattle.agg_laws.specs.Counters.{Looks};
+ghost use Rattle.fiba_nodes.specs.Rows.{FitsNode, listed};
 ghost use Rattle.fiba_nodes.specs.Stores.{full_nodes, fullness, held, look};
 ghost use Rattle.fiba_nodes.specs.Kids.{kid_of};
-ghost use Rattle.fiba_nodes.specs.Nested.{IsFilled, IsNested, IsSettled};
+ghost use Rattle.fiba_nodes.specs.Nested.{IsNested, IsSettled};
+ghost use Rattle.fiba_changes.specs.Filling.{Fills, HasEmptyChild};
 
 use agg_laws::{Monoid, Probes, Steps};
 use fiba_nodes::{Nest, Nodes, Open, Place, Slot, close};
@@ -22,8 +24,7 @@ pub fn settle<M: Monoid, L>(
     requires nested { IsNested M.is_value M.empty M.op nodes.old height place.left place.right
         (listed nest.now.row.slots) nest.now.row.last nest.now.at
         (listed nest.now.child.slots) nest.now.child.last }
-    requires some { 1 ≤ length (listed nest.now.row.slots) }
-    requires few { length (listed nest.now.row.slots) ≤ 3 }
+    requires fits { FitsNode (listed nest.now.row.slots) }
     requires room { 4 ≤ length (listed nest.now.child.slots) → 1 ≤ nodes.old.spare }
     ensures settled { IsSettled M.is_value M.empty M.op nodes.old nodes.new height
         place.left place.right (listed nest.now.row.slots) nest.now.row.last nest.now.at
@@ -40,8 +41,7 @@ pub fn settle<M: Monoid, L>(
         → full_nodes nodes.new + fullness (held (look nodes.old
         (kid_of (listed nest.now.row.slots) nest.now.row.last nest.now.at)))
         ≡ full_nodes nodes.old + fullness (length (listed nest.now.child.slots)) }
-    ensures probes { probes.old ≤ probes.new }
-    ensures looks { probes.new ≤ probes.old + 11 }
+    ensures looks { Looks 11 probes.old probes.new }
     ensures cost { steps.new ≤ steps.old + 8 }
 {
     let most = most_items(&nest.child);
@@ -89,20 +89,10 @@ fn filled<M: Monoid>(
         (listed nest.now.child.slots) nest.now.child.last }
     requires some { 1 ≤ length (listed nest.now.row.slots) }
     requires room { 4 ≤ length (listed nest.now.child.slots) → 1 ≤ nodes.old.spare }
-    ensures filled { IsFilled M.is_value M.empty M.op nodes.old nodes.new height
-        place.left place.right (listed nest.now.row.slots) nest.now.row.last nest.now.at
-        (listed nest.now.child.slots) nest.now.child.last
-        (listed result.row.slots) result.row.last result.at
-        (listed result.child.slots) result.child.last }
+    ensures fills { Fills M.is_value M.empty M.op nodes.old nodes.new height place nest.now result
+        probes.old probes.new }
     ensures same { 1 ≤ length (listed nest.now.child.slots) → result ≡ nest.now }
     ensures still { 1 ≤ length (listed nest.now.child.slots) → nodes.new ≡ nodes.old }
-    ensures spare { nodes.old.spare ≤ nodes.new.spare }
-    ensures full { full_nodes nodes.new + fullness (held (look nodes.old
-        (kid_of (listed nest.now.row.slots) nest.now.row.last nest.now.at)))
-        ≤ full_nodes nodes.old + fullness (held (look nodes.new
-        (kid_of (listed result.row.slots) result.row.last result.at))) }
-    ensures probes { probes.old ≤ probes.new }
-    ensures looks { probes.new ≤ probes.old + 1 }
 {
     if nest.child.slots.len() != 0 {
         return *nest;
@@ -121,23 +111,10 @@ fn with_next<M: Monoid>(
     place: Place,
     probes: &mut Probes,
 ) -> Nest<M>
-    requires nested { IsNested M.is_value M.empty M.op nodes.old height place.left place.right
-        (listed nest.now.row.slots) nest.now.row.last nest.now.at
-        (listed nest.now.child.slots) nest.now.child.last }
+    requires empty { HasEmptyChild M.is_value M.empty M.op nodes.old height place nest.now }
     requires inner { nest.now.at < length (listed nest.now.row.slots) }
-    requires empty { length (listed nest.now.child.slots) ≡ 0 }
-    ensures filled { IsFilled M.is_value M.empty M.op nodes.old nodes.new height
-        place.left place.right (listed nest.now.row.slots) nest.now.row.last nest.now.at
-        (listed nest.now.child.slots) nest.now.child.last
-        (listed result.row.slots) result.row.last result.at
-        (listed result.child.slots) result.child.last }
-    ensures spare { nodes.old.spare ≤ nodes.new.spare }
-    ensures full { full_nodes nodes.new + fullness (held (look nodes.old
-        (kid_of (listed nest.now.row.slots) nest.now.row.last nest.now.at)))
-        ≤ full_nodes nodes.old + fullness (held (look nodes.new
-        (kid_of (listed result.row.slots) result.row.last result.at))) }
-    ensures probes { probes.old ≤ probes.new }
-    ensures looks { probes.new ≤ probes.old + 1 }
+    ensures { Fills M.is_value M.empty M.op nodes.old nodes.new height place nest.now result
+        probes.old probes.new }
 {
     let item = nest.row.slots.peek(nest.at).item;
     let next = nest.row.kid(nest.at + 1);
@@ -164,23 +141,10 @@ fn with_previous<M: Monoid>(
     place: Place,
     probes: &mut Probes,
 ) -> Nest<M>
-    requires nested { IsNested M.is_value M.empty M.op nodes.old height place.left place.right
-        (listed nest.now.row.slots) nest.now.row.last nest.now.at
-        (listed nest.now.child.slots) nest.now.child.last }
+    requires empty { HasEmptyChild M.is_value M.empty M.op nodes.old height place nest.now }
     requires inner { 1 ≤ nest.now.at }
-    requires empty { length (listed nest.now.child.slots) ≡ 0 }
-    ensures filled { IsFilled M.is_value M.empty M.op nodes.old nodes.new height
-        place.left place.right (listed nest.now.row.slots) nest.now.row.last nest.now.at
-        (listed nest.now.child.slots) nest.now.child.last
-        (listed result.row.slots) result.row.last result.at
-        (listed result.child.slots) result.child.last }
-    ensures spare { nodes.old.spare ≤ nodes.new.spare }
-    ensures full { full_nodes nodes.new + fullness (held (look nodes.old
-        (kid_of (listed nest.now.row.slots) nest.now.row.last nest.now.at)))
-        ≤ full_nodes nodes.old + fullness (held (look nodes.new
-        (kid_of (listed result.row.slots) result.row.last result.at))) }
-    ensures probes { probes.old ≤ probes.new }
-    ensures looks { probes.new ≤ probes.old + 1 }
+    ensures { Fills M.is_value M.empty M.op nodes.old nodes.new height place nest.now result
+        probes.old probes.new }
 {
     let at = nest.at - 1;
     let item = nest.row.slots.peek(at).item;

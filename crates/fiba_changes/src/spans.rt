@@ -1,4 +1,5 @@
-ghost use Rattle.std.specs.Prelude.{◌≡◌, ◌≢◌, ◌≤◌, ◌<◌, ◌+◌, ◌*◌, ◌↔◌, IsTrue, length, true};
+ghost use Rattle.std.specs.Prelude.{◌≡◌, ◌≢◌, ◌≤◌, ◌<◌, ◌+◌, length, true};
+ghost use Rattle.agg_laws.specs.Counters.{Works};
 ghost use Rattle.fiba_nodes.specs.Rows.{listed};
 ghost use Rattle.fiba_nodes.specs.Trees.{IsAt, TreesAt, pairs_at, plain};
 ghost use Rattle.fiba_nodes.specs.Places.{AreOrdered, IsFolded, IsStrung, is_all, way_high, way_low};
@@ -26,8 +27,8 @@ pub fn fold_span<M: Monoid, L>(
     requires order { AreOrdered low high }
     ensures folded { IsFolded M.op low high (pairs_at (plain nodes.now) height at) sum result
         steps.old steps.new }
-    ensures probes { probes.old ≤ probes.new }
-    ensures cost { steps.new ≤ steps.old + (way_low low height + way_high high height + 1) }
+    ensures work { Works (way_low low height + way_high high height + 1)
+        probes.old probes.new steps.old steps.new }
 {
     if height == 0 {
         return sum;
@@ -100,8 +101,7 @@ fn fold_between<M: Monoid, L>(
     requires few { length (listed open.now.slots) ≤ 3 }
     ensures strung { IsStrung M.op (pairs_at (plain nodes.now) height) (listed open.now.slots)
         open.now.last i j sum result steps.old steps.new }
-    ensures probes { probes.old ≤ probes.new }
-    ensures cost { steps.new ≤ steps.old + 5 }
+    ensures work { Works 5 probes.old probes.new steps.old steps.new }
 {
     let mut sum = sum.combine(&open.slots.peek(i).item.value, steps);
     for k in i + 1..j {

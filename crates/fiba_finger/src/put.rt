@@ -1,12 +1,12 @@
 ghost use Rattle.std.specs.Prelude.{◌≡◌, ◌≤◌, ◌<◌, ◌+◌, ◌-◌, ◌*◌, ◌^◌, false, true};
+ghost use Rattle.agg_laws.specs.Counters.{Looks};
 ghost use Rattle.agg_laws.specs.Pairs.{AreRising, has_key};
 ghost use Rattle.fiba_changes.specs.Arena.{pairs_in};
 ghost use Rattle.fiba_nodes.specs.Stores.{full_nodes};
-ghost use Rattle.fiba_changes.specs.Changes.{is_first};
 ghost use Rattle.fiba_changes.specs.Roots.{CanChange, IsTree};
 ghost use Rattle.fiba_changes.specs.declared.change.Change.TheVariants.{Insert};
 ghost use Rattle.fiba_spine.specs.Climbs.{IsPut, distance};
-ghost use Rattle.fiba_finger.specs.Fingers.{IsFinger, IsFront};
+ghost use Rattle.fiba_finger.specs.Fingers.{IsFinger, IsFront, KeepsFront};
 
 use crate::grown::Grown;
 use agg_laws::{Monoid, Probes, Steps};
@@ -38,7 +38,6 @@ pub fn put_near<M: Monoid, L>(
     requires absent { has_key item.key (pairs_in nodes.old root) ≡ false }
     requires front { IsFront nodes.old root front }
     requires finger { IsFinger nodes.old root finger }
-    requires levels { root.height + 1 < 2 ^ 32 }
     ensures put { IsPut M.is_value M.empty M.op nodes.old nodes.new root result.root item }
     ensures front { IsFront nodes.new result.root result.front }
     ensures finger { IsFinger nodes.new result.root result.finger }
@@ -48,9 +47,8 @@ pub fn put_near<M: Monoid, L>(
     ensures taken { nodes.new.spare + (result.grown.splits + (result.root.height - root.height))
         ≡ nodes.old.spare }
     ensures full { full_nodes nodes.new + result.grown.splits ≤ full_nodes nodes.old + 1 }
-    ensures probes { probes.old ≤ probes.new }
-    ensures looks { probes.new ≤ probes.old + 20
-        + 16 * (result.grown.climbs + result.grown.splits) }
+    ensures looks { Looks (20 + 16 * (result.grown.climbs + result.grown.splits))
+        probes.old probes.new }
     ensures cost { steps.new ≤ steps.old + 8
         + (8 * result.grown.climbs + 11 * result.grown.splits) }
 {
@@ -95,8 +93,7 @@ pub fn put_near<M: Monoid, L>(
 pub fn end_of<M: Monoid>(nodes: &Nodes<M>, root: Root, probes: &mut Probes) -> usize
     requires { IsTree M.is_value M.empty M.op nodes.now root true true }
     ensures finger { IsFinger nodes.now root result }
-    ensures probes { probes.old ≤ probes.new }
-    ensures looks { probes.new ≤ probes.old + root.height }
+    ensures looks { Looks root.height probes.old probes.new }
 {
     if root.height == 0 {
         return 0;
@@ -108,8 +105,7 @@ pub fn end_of<M: Monoid>(nodes: &Nodes<M>, root: Root, probes: &mut Probes) -> u
 pub fn start_of<M: Monoid>(nodes: &Nodes<M>, root: Root, probes: &mut Probes) -> usize
     requires { IsTree M.is_value M.empty M.op nodes.now root true true }
     ensures front { IsFront nodes.now root result }
-    ensures probes { probes.old ≤ probes.new }
-    ensures looks { probes.new ≤ probes.old + root.height }
+    ensures looks { Looks root.height probes.old probes.new }
 {
     if root.height == 0 {
         return 0;
@@ -126,12 +122,9 @@ fn front_after<M: Monoid>(
     front: usize,
     probes: &mut Probes,
 ) -> usize
-    requires tree { IsTree M.is_value M.empty M.op nodes.now root true true }
-    requires within { below < root.height }
-    requires stays { below + 1 < root.height → IsFront nodes.now root front }
+    requires { KeepsFront M.is_value M.empty M.op nodes.now root below front }
     ensures front { IsFront nodes.now root result }
-    ensures probes { probes.old ≤ probes.new }
-    ensures looks { probes.new ≤ probes.old + below + 1 }
+    ensures looks { Looks (below + 1) probes.old probes.new }
 {
     if below + 1 < root.height {
         return front;

@@ -1,10 +1,10 @@
-ghost use Rattle.std.specs.Prelude.{◌≡◌, ◌≤◌, ◌<◌, ◌+◌, ◌*◌, ◌^◌, true, Some, slice_get};
+ghost use Rattle.std.specs.Prelude.{◌≡◌, ◌≤◌, ◌+◌, ◌*◌, true, Some, slice_get};
+ghost use Rattle.agg_laws.specs.Counters.{Works};
 ghost use Rattle.fiba_changes.specs.Arena.{pairs_in};
-ghost use Rattle.fiba_nodes.specs.Stores.{full_nodes};
 ghost use Rattle.fiba_nodes.specs.Trees.{pair_of};
-ghost use Rattle.fiba_changes.specs.Roots.{CanChange, IsChanged};
+ghost use Rattle.fiba_changes.specs.Roots.{CanChange};
 ghost use Rattle.fiba_changes.specs.declared.change.Change.TheVariants.{Remove};
-ghost use Rattle.fiba_finger.specs.Fingers.{IsFront};
+ghost use Rattle.fiba_finger.specs.Fingers.{IsFront, Takes};
 
 use agg_laws::{Monoid, Probes, Steps};
 use fiba_changes::{Change, Changed, Root, change_root, plant};
@@ -23,12 +23,8 @@ pub fn take<M: Monoid, L>(
 ) -> Changed<M>
     requires can { CanChange M.is_value M.empty M.op nodes.old root true true (Remove key) }
     requires front { IsFront nodes.old root front }
-    requires levels { root.height + 1 < 2 ^ 32 }
-    ensures changed { IsChanged M.is_value M.empty M.op nodes.old nodes.new root result.root
-        true true (Remove key) result.taken }
-    ensures full { full_nodes nodes.new ≤ full_nodes nodes.old }
-    ensures probes { probes.old ≤ probes.new }
-    ensures cost { steps.new ≤ steps.old + 16 * root.height + 16 }
+    ensures takes { Takes M.is_value M.empty M.op nodes.old nodes.new root key result }
+    ensures work { Works (16 * root.height + 16) probes.old probes.new steps.old steps.new }
 {
     let change = Change::Remove(key);
     let place = right_place(true);
@@ -53,12 +49,8 @@ fn take_first<M: Monoid, L>(
     requires can { CanChange M.is_value M.empty M.op nodes.old root true true (Remove first.key) }
     requires some { 1 ≤ root.height }
     requires first { slice_get (pairs_in nodes.old root) 0 ≡ Some (pair_of first) }
-    requires levels { root.height + 1 < 2 ^ 32 }
-    ensures changed { IsChanged M.is_value M.empty M.op nodes.old nodes.new root result.root
-        true true (Remove first.key) result.taken }
-    ensures full { full_nodes nodes.new ≤ full_nodes nodes.old }
-    ensures probes { probes.old ≤ probes.new }
-    ensures cost { steps.new ≤ steps.old + 16 * root.height + 16 }
+    ensures takes { Takes M.is_value M.empty M.op nodes.old nodes.new root first.key result }
+    ensures work { Works (16 * root.height + 16) probes.old probes.new steps.old steps.new }
 {
     let below = root.height - 1;
     let taken = Some(first);

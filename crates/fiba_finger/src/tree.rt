@@ -1,7 +1,11 @@
-ghost use Rattle.std.specs.Prelude.{◌≡◌, ◌≤◌, ◌<◌, ◌+◌, ◌-◌, ◌*◌, ◌^◌, ◌↔◌, [], length, None, IsTrue, OnOk, false};
+ghost use Rattle.std.specs.Prelude.{◌≡◌, ◌≤◌, ◌<◌, ◌+◌, ◌-◌, ◌*◌, ◌^◌, [], length, IsTrue};
+ghost use Rattle.agg_laws.specs.Counters.{Looks, Works};
 ghost use Rattle.agg_laws.specs.Laws.{total};
-ghost use Rattle.agg_laws.specs.Pairs.{AreRising, has_key, inserted, least_key, replaced, within, values_of, value_at, without};
+ghost use Rattle.agg_laws.specs.Pairs.{AreRising, has_key, within, values_of};
+ghost use Rattle.agg_laws.specs.Tables.{Inserts, IsHeight, IsLeast, IsReach, MayInsert, Removes, Replaces, Reserves};
+ghost use Rattle.fiba_changes.specs.Arena.{IsBalanced};
 ghost use Rattle.fiba_spine.specs.Climbs.{distance};
+ghost use Rattle.fiba_finger.specs.Fingers.{Shrinks};
 
 use crate::grown::Grown;
 use crate::put::{end_of, put_near, start_of};
@@ -41,8 +45,7 @@ impl<M: Monoid> Model for FingerTree<M> {
     ghost Value = { Fingers M };
 
     ghost view = { λ t. record {
-      pairs = pairs_in t.nodes t.root;
-      spare = t.limit - t.count;
+      table = record { pairs = pairs_in t.nodes t.root; spare = t.limit - t.count };
       height = t.root.height;
       nodes = nodes_in t.nodes t.root;
       full = full_nodes t.nodes;
@@ -63,21 +66,16 @@ impl<M: Monoid> FingerTree<M> {
         probes: &mut Probes,
         steps: &mut Steps<L>,
     ) -> Grown
-        requires absent { has_key key self.old.pairs ≡ false }
-        requires room { 1 ≤ self.old.spare }
-        ensures inserted { self.new.pairs ≡ inserted key value self.old.pairs }
-        ensures rising { AreRising self.new.pairs }
-        ensures bounded { 2 ^ self.new.height ≤ length self.new.pairs + 1 }
-        ensures spare { self.new.spare + 1 ≡ self.old.spare }
-        ensures reach { self.new.height ≤ self.old.height + 1 }
-        ensures near { 2 ^ result.climbs ≤ distance key self.old.pairs + 1 }
+        requires { MayInsert key self.old.table }
+        ensures inserts { Inserts key value self.old.table self.new.table }
+        ensures reach { IsReach IsBalanced (self.old.height + 1) self.new.table self.new.height }
+        ensures near { 2 ^ result.climbs ≤ distance key self.old.table.pairs + 1 }
         ensures climbs { result.climbs ≤ self.old.height }
         ensures splits { result.splits ≤ self.old.height }
         ensures split { self.new.nodes ≡ self.old.nodes + result.splits
             + (self.new.height - self.old.height) }
         ensures full { self.new.full + result.splits ≤ self.old.full + 1 }
-        ensures probes { probes.old ≤ probes.new }
-        ensures looks { probes.new ≤ probes.old + 32 * (result.climbs + result.splits + 2) }
+        ensures looks { Looks (32 * (result.climbs + result.splits + 2)) probes.old probes.new }
         ensures cost { steps.new ≤ steps.old + 8 + 32 * (result.climbs + result.splits) }
     {
         value.vouch();
@@ -100,17 +98,15 @@ impl<M: Monoid> FingerTree<M> {
 }
 
 impl<M: Monoid> AggTree<M> for FingerTree<M> {
-    ghost pairs = { λ t. t.pairs };
-
-    ghost spare = { λ t. t.spare };
+    ghost table = { λ t. t.table };
 
     ghost reach = { λ t. t.height };
 
-    ghost bounded = { λ reach count. 2 ^ reach ≤ count + 1 };
+    ghost bounded = { IsBalanced };
 
     /// An empty tree.
     fn fresh(alloc: Global) -> FingerTree<M>
-        ensures empty { result.pairs ≡ [] }
+        ensures empty { result.table.pairs ≡ [] }
         ensures reach { result.height ≡ 0 }
         ensures full { result.full ≡ 0 }
     {
@@ -126,11 +122,8 @@ impl<M: Monoid> AggTree<M> for FingerTree<M> {
 
     /// Makes room for `room` more pairs.
     fn reserve(&mut self, room: u64) -> Result<(), NoMemory>
-        ensures room { OnOk result (room ≤ self.new.spare) }
-        ensures spare { self.old.spare ≤ self.new.spare }
-        ensures kept { self.new.pairs ≡ self.old.pairs }
-        ensures rising { AreRising self.new.pairs }
-        ensures bounded { 2 ^ self.new.height ≤ length self.new.pairs + 1 }
+        ensures reserves { Reserves room result self.old.table self.new.table }
+        ensures bounded { IsBalanced self.new.height (length self.new.table.pairs) }
         ensures reach { self.new.height ≡ self.old.height }
         ensures full { self.new.full ≡ self.old.full }
     {
@@ -147,31 +140,24 @@ impl<M: Monoid> AggTree<M> for FingerTree<M> {
     /// Puts a value under a key that isn't there, as `insert_near` does. Uses one spare. At most
     /// `64 * (height + 2)` steps.
     fn insert<L>(&mut self, key: u64, value: M, probes: &mut Probes, steps: &mut Steps<L>)
-        requires absent { has_key key self.old.pairs ≡ false }
-        requires room { 1 ≤ self.old.spare }
-        ensures inserted { self.new.pairs ≡ inserted key value self.old.pairs }
-        ensures rising { AreRising self.new.pairs }
-        ensures bounded { 2 ^ self.new.height ≤ length self.new.pairs + 1 }
-        ensures spare { self.new.spare + 1 ≡ self.old.spare }
-        ensures reach { self.new.height ≤ self.old.height + 1 }
+        requires { MayInsert key self.old.table }
+        ensures inserts { Inserts key value self.old.table self.new.table }
+        ensures reach { IsReach IsBalanced (self.old.height + 1) self.new.table self.new.height }
         ensures full { self.new.full ≤ self.old.full + 1 }
-        ensures probes { probes.old ≤ probes.new }
-        ensures cost { steps.new ≤ steps.old + 64 * (self.old.height + 2) }
+        ensures work { Works (64 * (self.old.height + 2))
+            probes.old probes.new steps.old steps.new }
     {
         let _grown = self.insert_near(key, value, probes, steps);
     }
 
     /// Puts another value under a key that is there. At most `16 * (height + 2)` steps.
     fn set<L>(&mut self, key: u64, value: M, probes: &mut Probes, steps: &mut Steps<L>)
-        requires { IsTrue (has_key key self.old.pairs) }
-        ensures replaced { self.new.pairs ≡ replaced key value self.old.pairs }
-        ensures rising { AreRising self.new.pairs }
-        ensures bounded { 2 ^ self.new.height ≤ length self.new.pairs + 1 }
-        ensures spare { self.old.spare ≤ self.new.spare }
-        ensures reach { self.new.height ≤ self.old.height }
+        requires { IsTrue (has_key key self.old.table.pairs) }
+        ensures replaces { Replaces key value self.old.table self.new.table }
+        ensures reach { IsReach IsBalanced self.old.height self.new.table self.new.height }
         ensures full { self.new.full ≡ self.old.full }
-        ensures probes { probes.old ≤ probes.new }
-        ensures cost { steps.new ≤ steps.old + 16 * (self.old.height + 2) }
+        ensures work { Works (16 * (self.old.height + 2))
+            probes.old probes.new steps.old steps.new }
     {
         value.vouch();
         let change = Change::Set(Item { key, value });
@@ -185,16 +171,10 @@ impl<M: Monoid> AggTree<M> for FingerTree<M> {
     /// Takes out the pair with this key and gives its value, `None` exactly where there is none. At
     /// most `64 * (height + 2)` steps.
     fn remove<L>(&mut self, key: u64, probes: &mut Probes, steps: &mut Steps<L>) -> Option<M>
-        ensures value { result ≡ value_at key self.old.pairs }
-        ensures none { (result ≡ None) ↔ (has_key key self.old.pairs ≡ false) }
-        ensures rest { self.new.pairs ≡ without key self.old.pairs }
-        ensures rising { AreRising self.new.pairs }
-        ensures bounded { 2 ^ self.new.height ≤ length self.new.pairs + 1 }
-        ensures spare { self.old.spare ≤ self.new.spare }
-        ensures reach { self.new.height ≤ self.old.height }
-        ensures full { self.new.full ≤ self.old.full }
-        ensures probes { probes.old ≤ probes.new }
-        ensures cost { steps.new ≤ steps.old + 64 * (self.old.height + 2) }
+        ensures removes { Removes key result self.old.table self.new.table }
+        ensures shrinks { Shrinks self.old self.new }
+        ensures work { Works (64 * (self.old.height + 2))
+            probes.old probes.new steps.old steps.new }
     {
         let (root, front) = (self.root, self.front);
         let changed = take(&mut self.nodes, root, front, key, probes, steps);
@@ -208,9 +188,7 @@ impl<M: Monoid> AggTree<M> for FingerTree<M> {
 
     /// The least key, by one look at the first leaf.
     fn first_key(&self) -> Option<u64>
-        ensures least { result ≡ least_key self.now.pairs }
-        ensures none { (result ≡ None) ↔ (self.now.pairs ≡ []) }
-        ensures rising { AreRising self.now.pairs }
+        ensures { IsLeast result self.now.table }
     {
         if self.root.height == 0 {
             return None;
@@ -222,11 +200,13 @@ impl<M: Monoid> AggTree<M> for FingerTree<M> {
     /// The values with `low <= key < high` combined in the order of keys, from the unit. At most
     /// one step for each, and at most `16 * (height + 2)`.
     fn fold_range<L>(&self, low: u64, high: u64, probes: &mut Probes, steps: &mut Steps<L>) -> M
-        ensures value { result ≡ total M.empty M.op (values_of (within low high self.now.pairs)) }
-        ensures rising { AreRising self.now.pairs }
-        ensures one_each { steps.new ≤ steps.old + length (within low high self.now.pairs) }
-        ensures probes { probes.old ≤ probes.new }
-        ensures cost { steps.new ≤ steps.old + 16 * (self.now.height + 2) }
+        ensures value { result
+            ≡ total M.empty M.op (values_of (within low high self.now.table.pairs)) }
+        ensures rising { AreRising self.now.table.pairs }
+        ensures one_each { steps.new
+            ≤ steps.old + length (within low high self.now.table.pairs) }
+        ensures work { Works (16 * (self.now.height + 2))
+            probes.old probes.new steps.old steps.new }
     {
         let root = self.root;
         if high <= low {
@@ -255,8 +235,7 @@ impl<M: Monoid> AggTree<M> for FingerTree<M> {
     /// How many levels of nodes lie below each other: 0 exactly where the tree is empty. It is what
     /// the bounds on steps go by.
     fn height(&self) -> u32
-        ensures empty { self.now.pairs ≡ [] → result ≡ 0 }
-        ensures bound { 2 ^ result ≤ length self.now.pairs + 1 }
+        ensures height { IsHeight self.now.table result }
         ensures reach { result ≡ self.now.height }
         ensures levels { result + 1 < 2 ^ 32 }
     {

@@ -1,5 +1,5 @@
 -- Rows of at most four, and a node as its row of slots.
-use Rattle.std.specs.Prelude.{ℕ, Bool, List, [], ◌∷◌, Option, None, Some, slice_index}
+use Rattle.std.specs.Prelude.{◌≤◌, ℕ, Bool, List, [], ◌∷◌, Option, None, Some, length, slice_index}
 use Rattle.fiba_nodes.specs.declared.item.Item.{Item}
 use Rattle.fiba_nodes.specs.declared.slot.Slot.{Slot}
 use Rattle.fiba_nodes.specs.declared.node.Node.{Node}
@@ -13,6 +13,11 @@ listed (One a) = a ∷ []
 listed (Two a b) = a ∷ b ∷ []
 listed (Three a b c) = a ∷ b ∷ c ∷ []
 listed (Four a b c d) = a ∷ b ∷ c ∷ d ∷ []
+
+-- as many as the items of a node: one to three
+pub record FitsNode {T : Type 0} (slots : List T) : Type 0 where
+  pub some : 1 ≤ length slots
+  pub few : length slots ≤ 3
 
 -- the slots behind the first one
 abbrev pub more_slots : {M : Type 0} → Option (Item M) → Option (Item M) → List ℕ → List (Slot M)

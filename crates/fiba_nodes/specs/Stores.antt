@@ -1,5 +1,5 @@
 -- A store of nodes under numbers.
-use Rattle.std.specs.Prelude.{◌≡◌, ◌≢◌, ◌==◌, ◌+◌, ℕ, List, [], ◌∷◌, Option, None, Some, length, slice_index_or, if◌then◌else◌}
+use Rattle.std.specs.Prelude.{◌≡◌, ◌≢◌, ◌≤◌, ◌==◌, ◌+◌, ℕ, List, [], ◌∷◌, Option, None, Some, Result, OnOk, length, slice_index_or, if◌then◌else◌}
 use Rattle.fiba_nodes.specs.declared.node.Node.{Node}
 use Rattle.fiba_nodes.specs.Rows.{slots_of}
 
@@ -16,6 +16,18 @@ look s at = slice_index_or s.cells at None
 pub record Puts {M : Type 0} (old new : Store M) (at : ℕ) (node : Option (Node M)) : Type 0 where
   pub here : look new at ≡ node
   pub others : (k : ℕ) → k ≢ at → look new k ≡ look old k
+
+-- memory allowing there is room for so many nodes more, none of the room is lost, and the nodes stay
+pub record Reserves {M A E : Type 0} (more : ℕ) (answer : Result A E) (old new : Store M) : Type 0 where
+  pub room : OnOk answer (more ≤ new.spare)
+  pub spare : old.spare ≤ new.spare
+  pub kept : new.cells ≡ old.cells
+
+-- the node came under a number that was free, and took one place of the room
+pub record Adds {M : Type 0} (old new : Store M) (at : ℕ) (node : Node M) : Type 0 where
+  pub fresh : look old at ≡ None
+  pub added : Puts old new at (Some node)
+  pub spare : new.spare + 1 ≡ old.spare
 
 -- how many items the node in a cell has
 abbrev pub held : {M : Type 0} → Option (Node M) → ℕ

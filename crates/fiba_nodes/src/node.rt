@@ -1,5 +1,5 @@
 ghost use Rattle.std.specs.Prelude.{◌≡◌, ◌≤◌, ◌-◌, Some, length, slice_get};
-ghost use Rattle.fiba_nodes.specs.Rows.{listed, slots_of, last_of, plain_node};
+ghost use Rattle.fiba_nodes.specs.Rows.{FitsNode, listed, slots_of, last_of, plain_node};
 ghost use Rattle.fiba_nodes.specs.Kids.{kid_of};
 
 use crate::item::Item;
@@ -24,7 +24,6 @@ pub struct Node<M> {
 impl<M: Copy> Node<M> {
     /// The node's items, each with the child before it.
     pub fn slots(&self) -> Row<Slot<M>>
-        requires { length self.now.kids ≡ 4 }
         ensures slots { listed result ≡ slots_of self.now }
         ensures few { length (listed result) ≤ 3 }
     {
@@ -57,7 +56,6 @@ impl<M: Copy> Node<M> {
 
     /// The child behind the last item.
     pub fn last(&self) -> usize
-        requires { length self.now.kids ≡ 4 }
         ensures { result ≡ last_of self.now }
     {
         match (&self.second, &self.third) {
@@ -69,7 +67,6 @@ impl<M: Copy> Node<M> {
 
     /// The last item, with the child before it.
     pub fn last_slot(&self) -> Slot<M>
-        requires { length self.now.kids ≡ 4 }
         ensures { slice_get (slots_of self.now) (length (slots_of self.now) - 1) ≡ Some result }
     {
         let (kid, item) = match (&self.second, &self.third) {
@@ -82,7 +79,6 @@ impl<M: Copy> Node<M> {
 
     /// The child before the first item.
     pub fn first_kid(&self) -> usize
-        requires { length self.now.kids ≡ 4 }
         ensures { result ≡ kid_of (slots_of self.now) (last_of self.now) 0 }
     {
         self.kids[0]
@@ -90,7 +86,6 @@ impl<M: Copy> Node<M> {
 
     /// The node's items and children.
     pub fn opened(&self) -> Open<M>
-        requires { length self.now.kids ≡ 4 }
         ensures slots { listed result.slots ≡ slots_of self.now }
         ensures few { length (listed result.slots) ≤ 3 }
         ensures last { result.last ≡ last_of self.now }
@@ -103,8 +98,7 @@ impl<M: Copy> Node<M> {
 
     /// The node with these items and children.
     pub fn made(slots: &Row<Slot<M>>, last: usize, leaf: bool, up: Option<usize>, agg: M) -> Node<M>
-        requires some { 1 ≤ length (listed slots.now) }
-        requires few { length (listed slots.now) ≤ 3 }
+        requires { FitsNode (listed slots.now) }
         ensures plain { plain_node result ≡ record {
           slots = listed slots.now;
           last = last;

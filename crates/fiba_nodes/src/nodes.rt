@@ -1,6 +1,6 @@
-ghost use Rattle.std.specs.Prelude.{◌≡◌, ◌≤◌, ◌+◌, ℕ, OnOk, None, Some, IsSome, length};
-ghost use Rattle.agg_laws.specs.Counters.{next_count};
-ghost use Rattle.fiba_nodes.specs.Stores.{Puts, look};
+ghost use Rattle.std.specs.Prelude.{◌≡◌, ◌≤◌, ◌+◌, ℕ, None, Some, IsSome};
+ghost use Rattle.agg_laws.specs.Counters.{Counts};
+ghost use Rattle.fiba_nodes.specs.Stores.{Adds, Puts, Reserves, look};
 ghost use Rattle.fiba_nodes.specs.Links.{IsAdopted};
 
 use crate::node::Node;
@@ -41,9 +41,7 @@ impl<M: Copy> Nodes<M> {
 
     /// Makes room for `room` more nodes.
     pub fn reserve(&mut self, room: u64) -> Result<(), NoMemory>
-        ensures room { OnOk result (room ≤ self.new.spare) }
-        ensures spare { self.old.spare ≤ self.new.spare }
-        ensures kept { self.new.cells ≡ self.old.cells }
+        ensures { Reserves room result self.old self.new }
     {
         self.slab.reserve(room as usize)?;
         Ok(())
@@ -59,9 +57,7 @@ impl<M: Copy> Nodes<M> {
     /// Puts a node under a number that wasn't there. Uses one spare.
     pub fn add(&mut self, node: Node<M>) -> usize
         requires { 1 ≤ self.old.spare }
-        ensures fresh { look self.old result ≡ None }
-        ensures added { Puts self.old self.new result (Some node) }
-        ensures spare { self.new.spare + 1 ≡ self.old.spare }
+        ensures { Adds self.old self.new result node }
     {
         self.slab.insert_reserved(node)
     }
@@ -70,30 +66,20 @@ impl<M: Copy> Nodes<M> {
     pub fn get(&self, at: usize, probes: &mut Probes) -> Node<M>
         requires { IsSome (look self.now at) }
         ensures found { look self.now at ≡ Some result }
-        ensures kids { length result.kids ≡ 4 }
-        ensures counted { probes.new ≡ next_count probes.old }
-        ensures rises { probes.old ≤ probes.new }
-        ensures looks { probes.new ≤ probes.old + 1 }
+        ensures looks { Counts probes.old probes.new }
     {
         probes.look();
-        let node = self.slab[at];
-        has_four(&node.kids);
-        node
+        self.slab[at]
     }
 
     /// The node under a number, where it stands. One probe.
     pub fn peek(&self, at: usize, probes: &mut Probes) -> &Node<M>
         requires { IsSome (look self.now at) }
         ensures found { look self.now at ≡ Some result.now }
-        ensures kids { length result.now.kids ≡ 4 }
-        ensures counted { probes.new ≡ next_count probes.old }
-        ensures rises { probes.old ≤ probes.new }
-        ensures looks { probes.new ≤ probes.old + 1 }
+        ensures looks { Counts probes.old probes.new }
     {
         probes.look();
-        let node = &self.slab[at];
-        has_four(&node.kids);
-        node
+        &self.slab[at]
     }
 
     /// Another node under a number.
@@ -105,11 +91,13 @@ impl<M: Copy> Nodes<M> {
         self.slab[at] = node;
     }
 
-    /// Gives the node under a number another parent.
-    pub fn adopt(&mut self, kid: usize, at: usize)
+    /// Gives the node under a number another parent. One probe.
+    pub fn adopt(&mut self, kid: usize, at: usize, probes: &mut Probes)
         requires { IsSome (look self.old kid) }
-        ensures { IsAdopted self.old self.new kid at }
+        ensures adopted { IsAdopted self.old self.new kid at }
+        ensures looks { Counts probes.old probes.new }
     {
+        probes.look();
         self.slab[kid].up = Some(at);
     }
 
@@ -121,11 +109,4 @@ impl<M: Copy> Nodes<M> {
     {
         self.slab.remove(at);
     }
-}
-
-// Changes nothing, and tells a proof how many numbers there are.
-fn has_four(kids: &[usize; 4])
-    ensures { length kids.now ≡ 4 }
-{
-    let _first = kids[0];
 }

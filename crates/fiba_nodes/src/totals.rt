@@ -1,4 +1,5 @@
 ghost use Rattle.std.specs.Prelude.{◌≡◌, ◌≤◌, ◌+◌, ◌*◌, ◌||◌, [], length, fold, if◌then◌else◌};
+ghost use Rattle.agg_laws.specs.Counters.{Looks, Spends};
 ghost use Rattle.agg_laws.specs.Laws.{total};
 ghost use Rattle.agg_laws.specs.Pairs.{values_of};
 ghost use Rattle.fiba_nodes.specs.Rows.{listed};
@@ -26,8 +27,7 @@ pub fn total_of<M: Monoid, L>(
     ensures value { result ≡ total M.empty M.op (values_of
         (shown place.left place.right (pairs_at (plain nodes.now) height)
         (listed slots.now) last)) }
-    ensures probes { probes.old ≤ probes.new }
-    ensures looks { probes.new ≤ probes.old + length (listed slots.now) + 1 }
+    ensures looks { Looks (length (listed slots.now) + 1) probes.old probes.new }
     ensures cost { steps.new ≤ steps.old + 2 * length (listed slots.now) + 1 }
 {
     let mut sum = M::unit();
@@ -61,11 +61,10 @@ pub fn with_kid<M: Monoid, L>(
     requires { IsAt M.is_value M.empty M.op (plain nodes.now) height place.left place.right kid }
     ensures value { result ≡ fold M.op sum (values_of
         (if place.left || place.right then [] else pairs_at (plain nodes.now) height kid)) }
-    ensures probes { probes.old ≤ probes.new }
-    ensures looks { probes.new ≤ probes.old + 1 }
-    ensures cost { steps.new ≤ steps.old + 1 }
-    ensures one_each { steps.new ≤ steps.old + length
-        (if place.left || place.right then [] else pairs_at (plain nodes.now) height kid) }
+    ensures looks { Looks 1 probes.old probes.new }
+    ensures work { Spends 1 (length
+        (if place.left || place.right then [] else pairs_at (plain nodes.now) height kid))
+        steps.old steps.new }
 {
     if place.left || place.right || height == 0 {
         return sum;

@@ -1,8 +1,9 @@
-ghost use Rattle.std.specs.Prelude.{◌≡◌, ◌≤◌, ◌<◌, ◌+◌, ◌-◌, ◌*◌, suc, false, None, Some, IsSome, length};
-ghost use Rattle.fiba_nodes.specs.Rows.{listed};
+ghost use Rattle.std.specs.Prelude.{◌≡◌, ◌≤◌, ◌<◌, ◌+◌, ◌-◌, ◌*◌, suc, false, None, Some, length};
+ghost use Rattle.agg_laws.specs.Counters.{Looks};
+ghost use Rattle.fiba_nodes.specs.Rows.{FitsNode, listed};
 ghost use Rattle.fiba_nodes.specs.Stores.{full_nodes, fullness, held, look};
 ghost use Rattle.fiba_nodes.specs.Trees.{HasUp, IsClosed, IsLoose, KidsAt, IsOpened, IsWritten, Moves, TreesAt, only, plain, row_times, times, ups};
-ghost use Rattle.fiba_nodes.specs.Links.{AreAdopted, IsAdopted};
+ghost use Rattle.fiba_nodes.specs.Links.{AreAdopted};
 
 use crate::node::Node;
 use crate::nodes::Nodes;
@@ -12,17 +13,6 @@ use crate::row::Row;
 use crate::slot::Slot;
 use crate::totals::total_of;
 use agg_laws::{Monoid, Probes, Steps};
-
-// Another parent for a node.
-fn adopt<M: Copy>(nodes: &mut Nodes<M>, kid: usize, at: usize, probes: &mut Probes)
-    requires { IsSome (look nodes.old kid) }
-    ensures adopted { IsAdopted nodes.old nodes.new kid at }
-    ensures probes { probes.old ≤ probes.new }
-    ensures looks { probes.new ≤ probes.old + 1 }
-{
-    probes.look();
-    nodes.adopt(kid, at);
-}
 
 // Another parent for all children of a row.
 fn adopt_all<M: Monoid>(
@@ -37,16 +27,15 @@ fn adopt_all<M: Monoid>(
         (listed open.now.slots) open.now.last }
     ensures adopted { AreAdopted nodes.old nodes.new height
         (listed open.now.slots) open.now.last at }
-    ensures probes { probes.old ≤ probes.new }
-    ensures looks { probes.new ≤ probes.old + length (listed open.now.slots) + 1 }
+    ensures looks { Looks (length (listed open.now.slots) + 1) probes.old probes.new }
 {
     if height == 0 {
         return;
     }
     for i in 0..open.slots.len() {
-        adopt(nodes, open.slots.peek(i).kid, at, probes);
+        nodes.adopt(open.slots.peek(i).kid, at, probes);
     }
-    adopt(nodes, open.last, at, probes);
+    nodes.adopt(open.last, at, probes);
 }
 
 /// A node over these items and children under a number that is held for it. At most two steps an
@@ -63,8 +52,7 @@ pub fn write<M: Monoid, L>(
 )
     requires opened { IsOpened M.is_value M.empty M.op nodes.old at height place.left place.right
         (listed open.now.slots) open.now.last }
-    requires some { 1 ≤ length (listed open.now.slots) }
-    requires few { length (listed open.now.slots) ≤ 3 }
+    requires fits { FitsNode (listed open.now.slots) }
     ensures written { IsWritten M.is_value M.empty M.op nodes.old nodes.new at height
         place.left place.right (listed open.now.slots) open.now.last }
     ensures moves { Moves (look nodes.old) (look nodes.new)
@@ -77,8 +65,7 @@ pub fn write<M: Monoid, L>(
         (listed open.now.slots) open.now.last }
     ensures full { full_nodes nodes.new + fullness (held (look nodes.old at))
         ≡ full_nodes nodes.old + fullness (length (listed open.now.slots)) }
-    ensures probes { probes.old ≤ probes.new }
-    ensures looks { probes.new ≤ probes.old + 2 * length (listed open.now.slots) + 2 }
+    ensures looks { Looks (2 * length (listed open.now.slots) + 2) probes.old probes.new }
     ensures cost { steps.new ≤ steps.old + 2 * length (listed open.now.slots) + 1 }
 {
     let agg = total_of(nodes, &open.slots, open.last, height, place, probes, steps);
@@ -98,8 +85,7 @@ pub fn create<M: Monoid, L>(
 ) -> usize
     requires loose { IsLoose M.is_value M.empty M.op nodes.old height place.left place.right
         (listed open.now.slots) open.now.last }
-    requires some { 1 ≤ length (listed open.now.slots) }
-    requires few { length (listed open.now.slots) ≤ 3 }
+    requires fits { FitsNode (listed open.now.slots) }
     requires room { 1 ≤ nodes.old.spare }
     ensures written { IsWritten M.is_value M.empty M.op nodes.old nodes.new result height
         place.left place.right (listed open.now.slots) open.now.last }
@@ -111,8 +97,7 @@ pub fn create<M: Monoid, L>(
         (listed open.now.slots) open.now.last }
     ensures full { full_nodes nodes.new
         ≡ full_nodes nodes.old + fullness (length (listed open.now.slots)) }
-    ensures probes { probes.old ≤ probes.new }
-    ensures looks { probes.new ≤ probes.old + 2 * length (listed open.now.slots) + 2 }
+    ensures looks { Looks (2 * length (listed open.now.slots) + 2) probes.old probes.new }
     ensures cost { steps.new ≤ steps.old + 2 * length (listed open.now.slots) + 1 }
 {
     let blank = Node::made(&open.slots, open.last, height == 0, None, M::unit());
@@ -150,8 +135,7 @@ pub fn close<M: Monoid, L>(
         ≡ full_nodes nodes.old + fullness (length (listed open.now.slots)) }
     ensures thin { most ≤ 2 → full_nodes nodes.new + fullness (held (look nodes.old at))
         ≡ full_nodes nodes.old }
-    ensures probes { probes.old ≤ probes.new }
-    ensures looks { probes.new ≤ probes.old + 10 }
+    ensures looks { Looks 10 probes.old probes.new }
     ensures cost { steps.new ≤ steps.old + 8 }
 {
     if open.slots.len() <= most {

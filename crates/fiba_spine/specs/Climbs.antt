@@ -1,5 +1,6 @@
 -- Climbing along the right edge of a tree, and what is done there.
-use Rattle.std.specs.Prelude.{◌≡◌, ◌≤◌, ◌<◌, ◌+◌, ◌-◌, ◌^◌, ℕ, true, List, Option, All, filter, length, nat_lt}
+use Rattle.std.specs.Prelude.{◌≡◌, ◌≤◌, ◌<◌, ◌+◌, ◌-◌, ◌^◌, ℕ, true, false, List, Option, All, filter, length, nat_lt}
+use Rattle.agg_laws.specs.Pairs.{AreRising, has_key}
 use Rattle.fiba_nodes.specs.declared.item.Item.{Item}
 use Rattle.fiba_changes.specs.declared.root.Root.{Root}
 use Rattle.fiba_changes.specs.declared.change.Change.{Change}
@@ -7,7 +8,7 @@ use Rattle.fiba_changes.specs.declared.change.Change.TheVariants.{Insert}
 use Rattle.fiba_nodes.specs.Stores.{Store}
 use Rattle.fiba_nodes.specs.Trees.{plain}
 use Rattle.fiba_changes.specs.Changes.{stands_before}
-use Rattle.fiba_changes.specs.Roots.{CanChange, IsChanged}
+use Rattle.fiba_changes.specs.Roots.{CanChange, IsChanged, IsTree}
 use Rattle.fiba_changes.specs.Arena.{pairs_in}
 use Rattle.fiba_spine.specs.Edges.{ahead, edge, left_edge}
 
@@ -25,7 +26,14 @@ pub record IsReached {M : Type 0} (store : Store M) (root : Root) (key at below 
   pub edge : IsOnEdge store root at below
   pub near : 2 ^ below ≤ distance key (pairs_in store root) + 1
 
--- and the place of the key lies in the tree of that node: all that stands before this tree has lower keys
+-- from there the climb can go on to the place of a key that isn't in the tree
+pub record CanClimb {M : Type 0} (IsValue : M → Type 0) (empty : M) (op : M → M → M) (store : Store M) (root : Root) (key at below : ℕ) : Type 0 where
+  pub tree : IsTree IsValue empty op store root true true
+  pub rising : AreRising (pairs_in store root)
+  pub absent : has_key key (pairs_in store root) ≡ false
+  pub reached : IsReached store root key at below
+
+-- a climb has reached the node, and the place of the key lies in the tree of that node: all that stands before this tree has lower keys
 pub record IsClimbed {M : Type 0} (store : Store M) (root : Root) (key at below : ℕ) : Type 0 where
   pub reached : IsReached store root key at below
   pub lower : All (λ p. p.0 < key) (ahead (plain store) root.height (root.height - 1 - below) root.at)

@@ -1,5 +1,5 @@
 -- The first item of a tree goes, at its left edge.
-use Rattle.std.specs.Prelude.{◌≡◌, ◌≤◌, ◌+◌, ◌-◌, ℕ, suc, Bool, true, false, List, [], Option, Some, length}
+use Rattle.std.specs.Prelude.{◌≡◌, ◌≤◌, ◌+◌, ◌-◌, ℕ, suc, Bool, true, false, List, [], Option, Some, IfNone, IfSome, length}
 use Rattle.fiba_nodes.specs.declared.item.Item.{Item}
 use Rattle.fiba_nodes.specs.declared.slot.Slot.{Slot}
 use Rattle.fiba_changes.specs.declared.change.Change.TheVariants.{First}
@@ -24,6 +24,11 @@ pub record IsPulled {M : Type 0} (IsValue : M → Type 0) (empty : M) (op : M �
 pub record IsDrained {M : Type 0} (IsValue : M → Type 0) (empty : M) (op : M → M → M) (old new : Store M) (at b : ℕ) (right : Bool) (kid : ℕ) : Type 0 where
   pub taken : Option (Item M)
   pub applied : IsApplied IsValue empty op old new at b true right First taken [] kid
+
+-- the first item of a tree on the left edge went: the tree is whole again, or else only this child is left of its root
+pub record Pulls {M : Type 0} (IsValue : M → Type 0) (empty : M) (op : M → M → M) (old new : Store M) (at b : ℕ) (right : Bool) (left : Option ℕ) : Type 0 where
+  pub whole : IfNone left (IsPulled IsValue empty op old new at b right)
+  pub drained : IfSome left (λ kid. IsDrained IsValue empty op old new at b right kid)
 
 -- an opened node was written again, under the same parent
 pub record IsKept {M : Type 0} (IsValue : M → Type 0) (empty : M) (op : M → M → M) (old new : Store M) (at b : ℕ) (left right : Bool) (slots : List (Slot M)) (last : ℕ) : Type 0 where

@@ -1,8 +1,5 @@
-ghost use Rattle.std.specs.Prelude.{◌≡◌, ◌≤◌, ◌+◌, ◌*◌, false, true};
-ghost use Rattle.agg_laws.specs.Pairs.{AreRising, has_key};
-ghost use Rattle.fiba_changes.specs.Arena.{pairs_in};
-ghost use Rattle.fiba_changes.specs.Roots.{IsTree};
-ghost use Rattle.fiba_spine.specs.Climbs.{IsClimbed, IsReached};
+ghost use Rattle.std.specs.Prelude.{◌≤◌, ◌+◌, ◌*◌};
+ghost use Rattle.fiba_spine.specs.Climbs.{CanClimb, IsClimbed};
 
 use crate::climbed::Climbed;
 use agg_laws::{Monoid, Probes};
@@ -19,10 +16,7 @@ pub fn climb<M: Monoid>(
     key: u64,
     probes: &mut Probes,
 ) -> Climbed
-    requires tree { IsTree M.is_value M.empty M.op nodes.now root true true }
-    requires rising { AreRising (pairs_in nodes.now root) }
-    requires absent { has_key key (pairs_in nodes.now root) ≡ false }
-    requires reached { IsReached nodes.now root key from.at from.below }
+    requires { CanClimb M.is_value M.empty M.op nodes.now root key from.at from.below }
     ensures climbed { IsClimbed nodes.now root key result.at result.below }
     ensures probes { probes.old ≤ probes.new }
     ensures looks { probes.new + 2 * from.below ≤ probes.old + 2 * result.below + 2 }

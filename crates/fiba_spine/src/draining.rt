@@ -1,10 +1,11 @@
-ghost use Rattle.std.specs.Prelude.{◌≡◌, ◌≤◌, ◌+◌, ◌*◌, true, IfSome, IfNone, IsSome, length};
+ghost use Rattle.std.specs.Prelude.{◌≤◌, ◌+◌, ◌*◌, true, IfSome, IfNone, IsSome, length};
+ghost use Rattle.agg_laws.specs.Counters.{Works};
 ghost use Rattle.fiba_nodes.specs.Rows.{listed};
 ghost use Rattle.fiba_nodes.specs.Stores.{Store, full_nodes, look};
 ghost use Rattle.fiba_nodes.specs.Trees.{IsOpened};
 ghost use Rattle.fiba_changes.specs.Changes.{CanApply};
 ghost use Rattle.fiba_changes.specs.declared.change.Change.TheVariants.{First};
-ghost use Rattle.fiba_spine.specs.Pulls.{IsBare, IsDrained, IsHung, IsKept, IsPulled};
+ghost use Rattle.fiba_spine.specs.Pulls.{IsBare, IsHung, IsKept, Pulls};
 
 use agg_laws::{Monoid, Probes, Steps};
 use fiba_changes::settle;
@@ -22,13 +23,9 @@ pub fn pull<M: Monoid, L>(
     steps: &mut Steps<L>,
 ) -> Option<usize>
     requires { CanApply M.is_value M.empty M.op nodes.old at below true right First }
-    ensures whole { IfNone result (IsPulled M.is_value M.empty M.op nodes.old nodes.new
-        at below right) }
-    ensures drained { IfSome result (λ kid. IsDrained M.is_value M.empty M.op nodes.old nodes.new
-        at below right kid) }
+    ensures pulls { Pulls M.is_value M.empty M.op nodes.old nodes.new at below right result }
     ensures full { full_nodes nodes.new ≤ full_nodes nodes.old }
-    ensures probes { probes.old ≤ probes.new }
-    ensures cost { steps.new ≤ steps.old + 16 * below + 8 }
+    ensures work { Works (16 * below + 8) probes.old probes.new steps.old steps.new }
 {
     if below == 0 {
         return pull_leaf(nodes, at, right, probes, steps);
@@ -49,13 +46,9 @@ fn pull_leaf<M: Monoid, L>(
     steps: &mut Steps<L>,
 ) -> Option<usize>
     requires { CanApply M.is_value M.empty M.op nodes.old at 0 true right First }
-    ensures whole { IfNone result (IsPulled M.is_value M.empty M.op nodes.old nodes.new
-        at 0 right) }
-    ensures drained { IfSome result (λ kid. IsDrained M.is_value M.empty M.op nodes.old nodes.new
-        at 0 right kid) }
+    ensures pulls { Pulls M.is_value M.empty M.op nodes.old nodes.new at 0 right result }
     ensures full { full_nodes nodes.new ≤ full_nodes nodes.old }
-    ensures probes { probes.old ≤ probes.new }
-    ensures cost { steps.new ≤ steps.old + 7 }
+    ensures work { Works 7 probes.old probes.new steps.old steps.new }
 {
     let open = Open {
         slots: nodes.peek(at, probes).slots().rest(1),
@@ -85,16 +78,11 @@ fn mend<M: Monoid, L>(
 ) -> Option<usize>
     requires hung { (old : Store M) × IsHung M.is_value M.empty M.op old nodes.old
         at below right last }
-    ensures whole { (old : Store M) → IsHung M.is_value M.empty M.op old nodes.old
+    ensures pulls { (old : Store M) → IsHung M.is_value M.empty M.op old nodes.old
         at below right last
-        → IfNone result (IsPulled M.is_value M.empty M.op old nodes.new at below right) }
-    ensures drained { (old : Store M) → IsHung M.is_value M.empty M.op old nodes.old
-        at below right last
-        → IfSome result (λ kid. IsDrained M.is_value M.empty M.op old nodes.new
-        at below right kid) }
+        → Pulls M.is_value M.empty M.op old nodes.new at below right result }
     ensures full { full_nodes nodes.new ≤ full_nodes nodes.old }
-    ensures probes { probes.old ≤ probes.new }
-    ensures cost { steps.new ≤ steps.old + 15 }
+    ensures work { Works 15 probes.old probes.new steps.old steps.new }
 {
     let place = Place { left: true, right };
     let nest = Nest {
@@ -127,8 +115,7 @@ fn keep<M: Monoid, L>(
         place.left place.right (listed open.now.slots) open.now.last) }
     ensures bare { IfSome result (λ kid. IsBare nodes.old nodes.new (listed open.now.slots)
         open.now.last kid) }
-    ensures probes { probes.old ≤ probes.new }
-    ensures cost { steps.new ≤ steps.old + 7 }
+    ensures work { Works 7 probes.old probes.new steps.old steps.new }
 {
     if open.slots.len() == 0 {
         return Some(open.last);

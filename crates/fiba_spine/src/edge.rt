@@ -1,4 +1,5 @@
-ghost use Rattle.std.specs.Prelude.{◌≡◌, ◌≤◌, ◌+◌, suc, true};
+ghost use Rattle.std.specs.Prelude.{◌≡◌, suc, true};
+ghost use Rattle.agg_laws.specs.Counters.{Looks};
 ghost use Rattle.fiba_nodes.specs.Trees.{IsAt, plain};
 ghost use Rattle.fiba_spine.specs.Edges.{edge, left_edge};
 
@@ -26,8 +27,7 @@ pub fn rightmost<M: Monoid>(
 ) -> usize
     requires { IsAt M.is_value M.empty M.op (plain nodes.now) (suc below) left true at }
     ensures leaf { result ≡ edge (plain nodes.now) below at }
-    ensures probes { probes.old ≤ probes.new }
-    ensures looks { probes.new ≤ probes.old + below }
+    ensures looks { Looks below probes.old probes.new }
 {
     if below == 0 {
         return at;
@@ -47,8 +47,7 @@ pub fn leftmost<M: Monoid>(
     requires { IsAt M.is_value M.empty M.op (plain nodes.now) (suc below)
         place.left place.right at }
     ensures leaf { result ≡ left_edge (plain nodes.now) below at }
-    ensures probes { probes.old ≤ probes.new }
-    ensures looks { probes.new ≤ probes.old + below }
+    ensures looks { Looks below probes.old probes.new }
 {
     if below == 0 {
         return at;

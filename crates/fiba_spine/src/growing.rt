@@ -1,4 +1,5 @@
-ghost use Rattle.std.specs.Prelude.{◌≡◌, ◌≤◌, ◌<◌, ◌+◌, ◌*◌, ◌-◌, ◌^◌};
+ghost use Rattle.std.specs.Prelude.{◌≡◌, ◌≤◌, ◌<◌, ◌+◌, ◌*◌, ◌-◌};
+ghost use Rattle.agg_laws.specs.Counters.{Looks};
 ghost use Rattle.fiba_nodes.specs.Stores.{full_nodes};
 ghost use Rattle.fiba_changes.specs.Changes.{growth};
 ghost use Rattle.fiba_spine.specs.Climbs.{CanRaise, IsRaised};
@@ -23,7 +24,6 @@ pub fn raise<M: Monoid, L>(
 ) -> Raised
     requires can { CanRaise M.is_value M.empty M.op nodes.old root from.at from.below change }
     requires grows { growth change ≡ 1 }
-    requires levels { root.height + 1 < 2 ^ 32 }
     ensures raised { IsRaised M.is_value M.empty M.op nodes.old nodes.new root result.root
         result.top.at result.top.below change }
     ensures splits { result.splits ≤ root.height }
@@ -31,8 +31,7 @@ pub fn raise<M: Monoid, L>(
     ensures taken { nodes.new.spare + (result.splits + (result.root.height - root.height))
         ≡ nodes.old.spare }
     ensures full { full_nodes nodes.new + result.splits ≤ full_nodes nodes.old + 1 }
-    ensures probes { probes.old ≤ probes.new }
-    ensures looks { probes.new ≤ probes.old + 16 + 12 * (from.below + result.splits) }
+    ensures looks { Looks (16 + 12 * (from.below + result.splits)) probes.old probes.new }
     ensures cost { steps.new ≤ steps.old + 8 * from.below + 8 + 11 * result.splits }
 {
     let spare = nodes.spare();

@@ -1,4 +1,5 @@
-ghost use Rattle.std.specs.Prelude.{◌≡◌, ◌≤◌, ◌+◌, ◌^◌, [], length};
+ghost use Rattle.std.specs.Prelude.{◌≡◌, length};
+ghost use Rattle.agg_laws.specs.Tables.{IsFlat, IsHeight};
 
 use agg_laws::{AggTree, Monoid, Probes, Steps};
 use pair_row::PairRow;
@@ -14,17 +15,15 @@ pub struct FlatTree<M> {
 }
 
 impl<M> Model for FlatTree<M> {
-    ghost use Rattle.pair_row.specs.Rows.{Row};
+    ghost use Rattle.agg_laws.specs.Tables.{Table};
 
-    ghost Value = { Row M };
+    ghost Value = { Table M };
 
     ghost view = { λ t. t.row };
 }
 
 impl<M: Monoid> AggTree<M> for FlatTree<M> {
-    ghost pairs = { λ t. t.pairs };
-
-    ghost spare = { λ t. t.spare };
+    ghost table = { λ t. t };
 
     ghost reach = { λ t. length t.pairs };
 
@@ -66,9 +65,8 @@ impl<M: Monoid> AggTree<M> for FlatTree<M> {
 
     /// A vector has no nodes, and so no height.
     fn height(&self) -> u32
-        ensures empty { self.now.pairs ≡ [] → result ≡ 0 }
-        ensures bound { 2 ^ result ≤ length self.now.pairs + 1 }
-        ensures none { result ≡ 0 }
+        ensures height { IsHeight self.now result }
+        ensures flat { IsFlat result }
     {
         0
     }

@@ -1,5 +1,6 @@
-ghost use Rattle.std.specs.Prelude.{◌≡◌, ◌≤◌, ◌<◌, ◌+◌, [], OnOk, drop, length, set, slice_index_or, vec_len, vec_capacity};
-ghost use Rattle.std.specs.List.{insert, remove};
+ghost use Rattle.std.specs.Prelude.{◌≡◌, ◌≤◌, ◌<◌, ◌+◌, [], drop, length, set, vec_len, vec_capacity};
+ghost use Rattle.std.specs.List.{remove};
+ghost use Rattle.pair_row.specs.Fronts.{Inserts, MakesRoom, MayInsert, Removes};
 
 use std::alloc::Global;
 use std::marker::Model;
@@ -48,9 +49,7 @@ impl<T: Copy> FrontVec<T> {
 
     /// Makes room for `room` more.
     pub fn reserve(&mut self, room: usize) -> Result<(), NoMemory>
-        ensures room { OnOk result (room ≤ self.new.spare) }
-        ensures spare { self.old.spare ≤ self.new.spare }
-        ensures items { self.new.items ≡ self.old.items }
+        ensures { MakesRoom room result self.old self.new }
     {
         self.items.reserve(room)?;
         Ok(())
@@ -58,10 +57,8 @@ impl<T: Copy> FrontVec<T> {
 
     /// Puts an element at a place, before the one that stands there.
     pub fn insert(&mut self, at: usize, item: T)
-        requires within { at ≤ length self.old.items }
-        requires room { 1 ≤ self.old.spare }
-        ensures items { self.new.items ≡ insert self.old.items at item }
-        ensures spare { self.new.spare + 1 ≡ self.old.spare }
+        requires { MayInsert at self.old }
+        ensures { Inserts at item self.old self.new }
     {
         self.items.insert(self.gone + at, item).unwrap();
     }
@@ -78,9 +75,7 @@ impl<T: Copy> FrontVec<T> {
     /// Takes out the element at a place.
     pub fn remove(&mut self, at: usize) -> T
         requires within { at < length self.old.items }
-        ensures value { result ≡ slice_index_or self.old.items at result }
-        ensures items { self.new.items ≡ remove self.old.items at }
-        ensures spare { self.old.spare ≤ self.new.spare }
+        ensures { Removes at result self.old self.new }
     {
         let item = self.items[self.gone + at];
         let gone = take_out(&mut self.items, self.gone, at);

@@ -1,5 +1,8 @@
-ghost use Rattle.std.specs.Prelude.{◌≡◌, ◌≤◌, ◌<◌, ◌+◌, ◌↔◌, [], None, Some, OnOk, IfSome, IfNone, IsTrue, length, take, drop, fold, false};
-ghost use Rattle.agg_laws.specs.Pairs.{AreRising, StandsAt, has_key, inserted, least_key, pairs_below, pairs_from, replaced, value_at, within, without, values_of};
+ghost use Rattle.std.specs.Prelude.{◌≡◌, ◌≤◌, ◌+◌, [], IfSome, IfNone, IsTrue, length, take, drop, fold, false};
+ghost use Rattle.agg_laws.specs.Counters.{Spends};
+ghost use Rattle.agg_laws.specs.Pairs.{AreRising, StandsAt, has_key, pairs_below, pairs_from, value_at, within, values_of};
+ghost use Rattle.agg_laws.specs.Tables.{Inserts, IsLeast, MayInsert, Removes, Replaces, Reserves};
+ghost use Rattle.pair_row.specs.Extended.{Extends};
 
 use crate::front_vec::FrontVec;
 use agg_laws::{Monoid, Steps};
@@ -14,10 +17,10 @@ pub struct PairRow<M> {
 }
 
 impl<M> Model for PairRow<M> {
-    ghost use Rattle.pair_row.specs.Rows.{Row};
+    ghost use Rattle.agg_laws.specs.Tables.{Table};
     ghost use Rattle.agg_laws.specs.Pairs.{AreRising};
 
-    ghost Value = { Row M };
+    ghost Value = { Table M };
 
     ghost view = { λ r. record { pairs = r.pairs.items; spare = r.pairs.spare } };
 
@@ -36,10 +39,7 @@ impl<M: Copy> PairRow<M> {
 
     /// Makes room for `room` more pairs.
     pub fn reserve(&mut self, room: usize) -> Result<(), NoMemory>
-        ensures room { OnOk result (room ≤ self.new.spare) }
-        ensures spare { self.old.spare ≤ self.new.spare }
-        ensures kept { self.new.pairs ≡ self.old.pairs }
-        ensures rising { AreRising self.new.pairs }
+        ensures { Reserves room result self.old self.new }
     {
         self.pairs.reserve(room)
     }
@@ -54,9 +54,7 @@ impl<M: Copy> PairRow<M> {
 
     /// The least key, `None` exactly where there is no pair.
     pub fn first_key(&self) -> Option<u64>
-        ensures least { result ≡ least_key self.now.pairs }
-        ensures none { (result ≡ None) ↔ (self.now.pairs ≡ []) }
-        ensures rising { AreRising self.now.pairs }
+        ensures { IsLeast result self.now }
     {
         self.pairs.as_slice().first().map(|pair| pair.0)
     }
@@ -72,12 +70,9 @@ impl<M: Copy> PairRow<M> {
 
     /// Puts a value under a key that isn't there, behind those with lower keys. Uses one spare.
     pub fn insert(&mut self, key: u64, value: M)
-        requires absent { has_key key self.old.pairs ≡ false }
-        requires room { 1 ≤ self.old.spare }
-        ensures inserted { self.new.pairs ≡ inserted key value self.old.pairs }
-        ensures rising { AreRising self.new.pairs }
+        requires { MayInsert key self.old }
+        ensures inserts { Inserts key value self.old self.new }
         ensures count { length self.new.pairs ≡ length self.old.pairs + 1 }
-        ensures spare { self.new.spare + 1 ≡ self.old.spare }
     {
         let at = place_of(self.pairs.as_slice(), key);
         self.pairs.insert(at, (key, value));
@@ -86,10 +81,8 @@ impl<M: Copy> PairRow<M> {
     /// Puts another value under a key that is there.
     pub fn set(&mut self, key: u64, value: M)
         requires { IsTrue (has_key key self.old.pairs) }
-        ensures replaced { self.new.pairs ≡ replaced key value self.old.pairs }
-        ensures rising { AreRising self.new.pairs }
+        ensures replaces { Replaces key value self.old self.new }
         ensures count { length self.new.pairs ≡ length self.old.pairs }
-        ensures spare { self.old.spare ≤ self.new.spare }
     {
         if let Some(at) = index_of(self.pairs.as_slice(), key) {
             self.pairs.set(at, (key, value));
@@ -98,12 +91,8 @@ impl<M: Copy> PairRow<M> {
 
     /// Takes out the pair with this key and gives its value, `None` exactly where there is none.
     pub fn remove(&mut self, key: u64) -> Option<M>
-        ensures value { result ≡ value_at key self.old.pairs }
-        ensures none { (result ≡ None) ↔ (has_key key self.old.pairs ≡ false) }
-        ensures rest { self.new.pairs ≡ without key self.old.pairs }
-        ensures rising { AreRising self.new.pairs }
+        ensures removes { Removes key result self.old self.new }
         ensures count { length self.new.pairs ≤ length self.old.pairs }
-        ensures spare { self.old.spare ≤ self.new.spare }
     {
         let at = index_of(self.pairs.as_slice(), key)?;
         Some(self.pairs.remove(at).1)
@@ -114,11 +103,7 @@ impl<M: Monoid> PairRow<M> {
     /// Combines the value under a key with another one behind it, in one step at most.
     pub fn extend<L>(&mut self, key: u64, more: &M, steps: &mut Steps<L>)
         requires { IsTrue (has_key key self.old.pairs) }
-        ensures extended { (value : M) → value_at key self.old.pairs ≡ Some value
-            → self.new.pairs ≡ replaced key (M.op value more.now) self.old.pairs }
-        ensures count { length self.new.pairs ≡ length self.old.pairs }
-        ensures spare { self.old.spare ≤ self.new.spare }
-        ensures cost { steps.new ≤ steps.old + 1 }
+        ensures { Extends M.op key more.now self.old self.new steps.old steps.new }
     {
         let pairs = self.pairs.as_slice();
         if let Some(at) = index_of(pairs, key) {
@@ -131,8 +116,8 @@ impl<M: Monoid> PairRow<M> {
     pub fn fold_onto<L>(&self, sum: M, low: u64, high: u64, steps: &mut Steps<L>) -> M
         ensures value { result ≡ fold M.op sum (values_of (within low high self.now.pairs)) }
         ensures rising { AreRising self.now.pairs }
-        ensures one_each { steps.new ≤ steps.old + length (within low high self.now.pairs) }
-        ensures cost { steps.new ≤ steps.old + length self.now.pairs }
+        ensures work { Spends (length self.now.pairs) (length (within low high self.now.pairs))
+            steps.old steps.new }
     {
         fold_pairs(sum, range_of(self.pairs.as_slice(), low, high), steps)
     }

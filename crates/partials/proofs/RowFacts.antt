@@ -1,5 +1,5 @@
 -- What an edit of pairs is, where the newest of them stand in a row beside the rest.
-use Rattle.std.proofs.Common.{◌≡◌, ◌∙◌, ℕ, ◌+◌, ◌*◌, ◌^◌, ◌<◌, ◌≤◌, zero, suc, Bool, true, false, not, cond, ◌||◌, Some, List, [], ◌∷◌, ◌++◌, length, ap, sym, subst, refl, arith, append_assoc}
+use Rattle.std.proofs.Common.{◌≡◌, ◌∙◌, ℕ, ◌+◌, ◌*◌, ◌^◌, ◌<◌, ◌≤◌, zero, suc, Bool, true, false, not, cond, ◌||◌, Some, List, [], ◌∷◌, ◌++◌, length, ap, sym, subst, refl, arith, append_assoc, length-append}
 use Rattle.std.specs.Prelude.{◌==◌, ◌&&◌, ◌/◌, ◌-◌, find, max, nat_le, nat_lt}
 use Rattle.std.specs.Option.{option_map}
 use Rattle.std.proofs.lemmas.Bool.Decides.{nat_tests}
@@ -9,7 +9,7 @@ use Rattle.std.proofs.lemmas.List.Folds.{list_any-append}
 use Rattle.agg_laws.specs.Pairs.{AreRising, has_key, inserted, least_key, pairs_below, pairs_from, replaced, value_at, within, without}
 use Rattle.agg_laws.proofs.RisingPairs.{has_key-between, inserted-parts, pairs_below-parts, pairs_from-parts, replaced-absent, rising_above, value_at-absent, value_at-middle, without-absent, without-middle}
 use Rattle.stream_base.proofs.Filters.{filter_none}
-use Rattle.partials.specs.Apart.{AreBelow, AreFrom, row_reach}
+use Rattle.partials.specs.Apart.{AreBelow, AreFrom, IsReachOver, row_reach}
 
 left_false : (a b : Bool) → (a || b) ≡ false → a ≡ false
 left_false true b h = h
@@ -239,3 +239,15 @@ module _ {M : Type 0} where
   none_behind edge low high xs l h =
       filter_none (λ p. nat_le low p.0 && nat_lt p.0 high) xs
       (All-weaker (λ p. p.0 < edge) (λ p. (nat_le low p.0 && nat_lt p.0 high) ≡ false) (λ p b. outside p.0 low high (omega arith)) xs h)
+
+-- the reach of a tree, or of a row beside it, bounded by the pairs of both
+pub reach_over : {M : Type 0} (bounded : ℕ → ℕ → Type 0) (inside near : List (ℕ × M)) (reach : ℕ) → bounded reach (length inside) → length near ≤ 256 → IsReachOver bounded (length (inside ++ near)) (max reach (row_reach (length near)))
+reach_over bounded inside near reach b few = record {
+  of_tree = reach;
+  pairs = length inside;
+  few = omega (arith, length-append inside near);
+  tree = b;
+  of_row = row_reach (length near);
+  row = omega (arith, length-append inside near, row_bounded (length near) few);
+  is = refl;
+}

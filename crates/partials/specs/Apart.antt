@@ -1,6 +1,7 @@
 -- Pairs in a tree, and the newest ones in a row beside it.
-use Rattle.std.specs.Prelude.{◌≡◌, ◌≤◌, ◌<◌, ◌+◌, ◌-◌, ◌/◌, ◌^◌, ℕ, List, length, max, All}
-use Rattle.aggregates.specs.Bundled.{Bundled}
+use Rattle.std.specs.Prelude.{◌≡◌, ◌≤◌, ◌<◌, ◌+◌, ◌-◌, ◌/◌, ◌^◌, ℕ, List, Some, length, max, All}
+use Rattle.agg_laws.specs.Pairs.{value_at}
+use Rattle.aggregates.specs.Bundled.{Bundled, IsBundle}
 
 -- pairs of the time of a slice's first tuple and the slice's partial, for how many more there is room, and what the bounds on steps go by
 pub record Sums : Type 0 where
@@ -12,6 +13,11 @@ pub record Sums : Type 0 where
 pub record KeepsRoom (old new : Sums) : Type 0 where
   pub spare : old.spare ≤ new.spare
   pub reach : new.reach ≤ old.reach
+
+-- the partial under a time is read, in one step at most
+pub record Reads (low : ℕ) (pairs : List (ℕ × Bundled)) (read : Bundled) (made makes : ℕ) : Type 0 where
+  pub value : (b : Bundled) → IsBundle b → value_at low pairs ≡ Some b → read ≡ b
+  pub cost : makes ≤ made + 1
 
 -- all keys are below an edge
 abbrev pub AreBelow : {M : Type 0} → ℕ → List (ℕ × M) → Type 0

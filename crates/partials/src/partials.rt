@@ -1,9 +1,10 @@
 //! The partials of slices.
-ghost use Rattle.std.specs.Prelude.{◌≡◌, ◌≤◌, ◌<◌, ◌+◌, ◌*◌, ◌^◌, ◌++◌, ◌∷◌, ℕ, [], None, Some, length, OnOk, IsTrue, true, false};
+ghost use Rattle.std.specs.Prelude.{◌≡◌, ◌≤◌, ◌<◌, ◌+◌, ◌*◌, ◌^◌, ◌++◌, ℕ, [], None, Some, length, OnOk, IsTrue, true, false};
 ghost use Rattle.aggregates.specs.Bundled.{Bundled, IsBundle, bundles_combined, empty_bundle};
+ghost use Rattle.agg_laws.specs.Counters.{Spends};
 ghost use Rattle.agg_laws.specs.Laws.{total};
 ghost use Rattle.agg_laws.specs.Pairs.{has_key, inserted, least_key, replaced, value_at, values_of, within, without};
-ghost use Rattle.partials.specs.Apart.{AreBelow, AreFrom, IsReachOver, KeepsRoom};
+ghost use Rattle.partials.specs.Apart.{AreBelow, AreFrom, IsReachOver, KeepsRoom, Reads};
 
 use agg_laws::{AggTree, Monoid, Probes, Steps};
 use aggregates::Bundle;
@@ -35,12 +36,12 @@ impl<T: AggTree<Bundle>> Model for Partials<T> {
     ghost Value = { Sums };
 
     ghost view = { λ p. record {
-      pairs = T.pairs p.tree ++ p.near.pairs;
-      spare = min (T.spare p.tree) p.near.spare;
+      pairs = (T.table p.tree).pairs ++ p.near.pairs;
+      spare = min (T.table p.tree).spare p.near.spare;
       reach = max (T.reach p.tree) (row_reach (length p.near.pairs));
     } };
 
-    ghost invariant = { λ p. AreApart (T.pairs p.tree) p.near.pairs p.edge };
+    ghost invariant = { λ p. AreApart (T.table p.tree).pairs p.near.pairs p.edge };
 }
 
 impl<T: AggTree<Bundle>> Partials<T> {
@@ -62,6 +63,7 @@ impl<T: AggTree<Bundle>> Partials<T> {
         ensures spare { (self.old).spare ≤ (self.new).spare }
         ensures pairs { (self.new).pairs ≡ (self.old).pairs }
         ensures reach { (self.new).reach ≡ (self.old).reach }
+        ensures bounded { IsReachOver T.bounded (length (self.new).pairs) (self.new).reach }
     {
         self.tree.reserve(1)?;
         self.near.reserve(1)
@@ -139,9 +141,7 @@ impl<T: AggTree<Bundle>> Partials<T> {
 
     /// The partial under a time, at most one step.
     pub fn read<L>(&self, low: u64, steps: &mut Steps<L>) -> Bundle
-        ensures value { (b : Bundled) → IsBundle b → value_at low (self.now).pairs ≡ Some b
-            → result ≡ b }
-        ensures cost { steps.new ≤ steps.old + 1 }
+        ensures { Reads low (self.now).pairs result steps.old steps.new }
     {
         if low < self.edge {
             read_in(&self.tree, low, steps)
@@ -154,8 +154,8 @@ impl<T: AggTree<Bundle>> Partials<T> {
     pub fn fold_range<L>(&self, low: u64, high: u64, steps: &mut Steps<L>) -> Bundle
         ensures value { result ≡ total empty_bundle bundles_combined
             (values_of (within low high (self.now).pairs)) }
-        ensures one_each { steps.new ≤ steps.old + length (within low high (self.now).pairs) }
-        ensures cost { steps.new ≤ steps.old + 64 * ((self.now).reach + 2) }
+        ensures work { Spends (64 * ((self.now).reach + 2))
+            (length (within low high (self.now).pairs)) steps.old steps.new }
     {
         let older = fold_below(&self.tree, self.edge, low, high, steps);
         self.near.fold_onto(older, low, high, steps)
@@ -189,21 +189,22 @@ fn make_way<T: AggTree<Bundle>, L>(
     edge: u64,
     steps: &mut Steps<L>,
 ) -> u64
-    requires below { AreBelow edge (T.pairs tree.old) }
+    requires below { AreBelow edge (T.table tree.old).pairs }
     requires from { AreFrom edge near.old.pairs }
     requires few { length near.old.pairs ≤ 256 }
     requires first { 256 ≤ length near.old.pairs
         → (low : ℕ) → least_key near.old.pairs ≡ Some low → low + 1 < 2 ^ 64 }
-    requires room { 1 ≤ T.spare tree.old }
-    ensures pairs { T.pairs tree.new ++ near.new.pairs ≡ T.pairs tree.old ++ near.old.pairs }
-    ensures below { AreBelow result (T.pairs tree.new) }
+    requires room { 1 ≤ (T.table tree.old).spare }
+    ensures pairs { (T.table tree.new).pairs ++ near.new.pairs
+        ≡ (T.table tree.old).pairs ++ near.old.pairs }
+    ensures below { AreBelow result (T.table tree.new).pairs }
     ensures from { AreFrom result near.new.pairs }
     ensures edge { (key : ℕ) → edge ≤ key → (256 ≤ length near.old.pairs
         → (low : ℕ) → least_key near.old.pairs ≡ Some low → low < key) → result ≤ key }
     ensures few { length near.new.pairs < 256 }
     ensures row { length near.new.pairs ≤ length near.old.pairs }
     ensures row_spare { near.old.spare ≤ near.new.spare }
-    ensures spare { T.spare tree.old ≤ T.spare tree.new + 1 }
+    ensures spare { (T.table tree.old).spare ≤ (T.table tree.new).spare + 1 }
     ensures reach { T.reach tree.new ≤ T.reach tree.old + 1 }
     ensures cost { steps.new ≤ steps.old + 64 * (T.reach tree.old + 2) }
 {
@@ -220,18 +221,19 @@ fn bring_in<T: AggTree<Bundle>, L>(
     edge: u64,
     steps: &mut Steps<L>,
 ) -> u64
-    requires below { AreBelow edge (T.pairs tree.old) }
+    requires below { AreBelow edge (T.table tree.old).pairs }
     requires from { AreFrom edge near.old.pairs }
     requires some { 1 ≤ length near.old.pairs }
     requires first { (low : ℕ) → least_key near.old.pairs ≡ Some low → low + 1 < 2 ^ 64 }
-    requires room { 1 ≤ T.spare tree.old }
-    ensures pairs { T.pairs tree.new ++ near.new.pairs ≡ T.pairs tree.old ++ near.old.pairs }
-    ensures below { AreBelow result (T.pairs tree.new) }
+    requires room { 1 ≤ (T.table tree.old).spare }
+    ensures pairs { (T.table tree.new).pairs ++ near.new.pairs
+        ≡ (T.table tree.old).pairs ++ near.old.pairs }
+    ensures below { AreBelow result (T.table tree.new).pairs }
     ensures from { AreFrom result near.new.pairs }
     ensures edge { (low : ℕ) → least_key near.old.pairs ≡ Some low → result ≤ low + 1 }
     ensures row { length near.new.pairs + 1 ≡ length near.old.pairs }
     ensures row_spare { near.old.spare ≤ near.new.spare }
-    ensures spare { T.spare tree.new + 1 ≡ T.spare tree.old }
+    ensures spare { (T.table tree.new).spare + 1 ≡ (T.table tree.old).spare }
     ensures reach { T.reach tree.new ≤ T.reach tree.old + 1 }
     ensures cost { steps.new ≤ steps.old + 64 * (T.reach tree.old + 2) }
 {
@@ -253,11 +255,11 @@ fn fold_below<T: AggTree<Bundle>, L>(
     high: u64,
     steps: &mut Steps<L>,
 ) -> Bundle
-    requires { AreBelow edge (T.pairs tree.now) }
+    requires { AreBelow edge (T.table tree.now).pairs }
     ensures value { result ≡ total empty_bundle bundles_combined
-        (values_of (within low high (T.pairs tree.now))) }
-    ensures one_each { steps.new ≤ steps.old + length (within low high (T.pairs tree.now)) }
-    ensures cost { steps.new ≤ steps.old + 32 * (T.reach tree.now + 2) }
+        (values_of (within low high (T.table tree.now).pairs)) }
+    ensures work { Spends (32 * (T.reach tree.now + 2))
+        (length (within low high (T.table tree.now).pairs)) steps.old steps.new }
 {
     if edge <= low {
         return Bundle::unit();
@@ -269,9 +271,7 @@ fn fold_below<T: AggTree<Bundle>, L>(
 // The partial under a time in a tree, which isn't the last of all.
 fn read_in<T: AggTree<Bundle>, L>(tree: &T, low: u64, steps: &mut Steps<L>) -> Bundle
     requires { low + 1 < 2 ^ 64 }
-    ensures value { (b : Bundled) → IsBundle b → value_at low (T.pairs tree.now) ≡ Some b
-        → result ≡ b }
-    ensures cost { steps.new ≤ steps.old + 1 }
+    ensures { Reads low (T.table tree.now).pairs result steps.old steps.new }
 {
     let mut probes = Probes::new();
     tree.fold_range(low, low + 1, &mut probes, steps)
@@ -282,12 +282,13 @@ fn read_in<T: AggTree<Bundle>, L>(tree: &T, low: u64, steps: &mut Steps<L>) -> B
 #[inline(always)]
 fn extend_in<T: AggTree<Bundle>, L>(tree: &mut T, low: u64, more: &Bundle, steps: &mut Steps<L>)
     requires inner { low + 1 < 2 ^ 64 }
-    requires there { IsTrue (has_key low (T.pairs tree.old)) }
-    ensures extended { (b : Bundled) → IsBundle b → value_at low (T.pairs tree.old) ≡ Some b
-        → T.pairs tree.new ≡ replaced low (bundles_combined b more.now) (T.pairs tree.old) }
-    ensures below { (edge : ℕ) → AreBelow edge (T.pairs tree.old)
-        → AreBelow edge (T.pairs tree.new) }
-    ensures spare { T.spare tree.old ≤ T.spare tree.new }
+    requires there { IsTrue (has_key low (T.table tree.old).pairs) }
+    ensures extended { (b : Bundled) → IsBundle b → value_at low (T.table tree.old).pairs ≡ Some b
+        → (T.table tree.new).pairs
+        ≡ replaced low (bundles_combined b more.now) (T.table tree.old).pairs }
+    ensures below { (edge : ℕ) → AreBelow edge (T.table tree.old).pairs
+        → AreBelow edge (T.table tree.new).pairs }
+    ensures spare { (T.table tree.old).spare ≤ (T.table tree.new).spare }
     ensures reach { T.reach tree.new ≤ T.reach tree.old }
     ensures cost { steps.new ≤ steps.old + 64 * (T.reach tree.old + 3) }
 {
@@ -298,9 +299,9 @@ fn extend_in<T: AggTree<Bundle>, L>(tree: &mut T, low: u64, more: &Bundle, steps
 
 // Takes the partial under a time out of a tree.
 fn take_from<T: AggTree<Bundle>, L>(tree: &mut T, low: u64, steps: &mut Steps<L>) -> Bundle
-    ensures value { (b : Bundled) → value_at low (T.pairs tree.old) ≡ Some b → result ≡ b }
-    ensures pairs { T.pairs tree.new ≡ without low (T.pairs tree.old) }
-    ensures spare { T.spare tree.old ≤ T.spare tree.new }
+    ensures value { (b : Bundled) → value_at low (T.table tree.old).pairs ≡ Some b → result ≡ b }
+    ensures pairs { (T.table tree.new).pairs ≡ without low (T.table tree.old).pairs }
+    ensures spare { (T.table tree.old).spare ≤ (T.table tree.new).spare }
     ensures reach { T.reach tree.new ≤ T.reach tree.old }
     ensures cost { steps.new ≤ steps.old + 64 * (T.reach tree.old + 2) }
 {

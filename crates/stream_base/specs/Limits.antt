@@ -1,5 +1,5 @@
 -- The limits of values and of window definitions.
-use Rattle.std.specs.Prelude.{◌≤◌, ◌-◌, ◌*◌, ◌^◌, ◌&&◌, ℕ, ℤ, pos, negsuc, Bool, true, not, List, length, Option, None, Some, if◌then◌else◌, nat_le, int_le, All}
+use Rattle.std.specs.Prelude.{◌≡◌, ◌≤◌, ◌-◌, ◌*◌, ◌^◌, ◌&&◌, ℕ, ℤ, pos, negsuc, Bool, true, not, List, length, Option, None, Some, if◌then◌else◌, nat_le, int_le, All}
 use Rattle.std.specs.List.{position}
 use Rattle.std.specs.Option.{option_map}
 use Rattle.stream_base.specs.declared.limits.TheConstants.{TIME_MAX, JOURNAL_MAX, EVERY_MAX, WINDOWS_MAX, LENGTH_RATIO_MAX}
@@ -69,3 +69,18 @@ pub record AreWithinLimits (d : Definitions) : Type 0 where
   pub lateness : d.lateness ≤ TIME_MAX
   pub every : d.every ≤ EVERY_MAX
   pub disorder : d.disorder ≤ TIME_MAX
+
+-- these are the windows of definitions, which lie within the limits
+pub record AreWindowsOf (d : Definitions) (windows : List Def) : Type 0 where
+  pub value : windows ≡ d.windows
+  pub limits : AreWithinLimits d
+
+-- two times in their order, both within the limit
+pub record AreTimes (low high : ℕ) : Type 0 where
+  pub ordered : low ≤ high
+  pub in_time : high ≤ TIME_MAX
+
+-- windows within their limits, and two such times between which they may cut
+pub record MayCut (windows : List Def) (low high : ℕ) : Type 0 where
+  pub kinds : All (λ w. IsKindWithin w.kind) windows
+  pub times : AreTimes low high

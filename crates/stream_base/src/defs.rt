@@ -1,6 +1,6 @@
 ghost use Rattle.std.specs.Prelude.{◌≡◌, ◌≤◌, ◌↔◌, List, IfOk, OnOk, IfErr, Some, None, IsTrue};
 ghost use Rattle.std.specs.List.{position};
-ghost use Rattle.stream_base.specs.Limits.{definitions_of, limit_fault, AreWithinLimits, is_beyond};
+ghost use Rattle.stream_base.specs.Limits.{definitions_of, limit_fault, AreWindowsOf, AreWithinLimits, is_beyond};
 
 use crate::def::Def;
 use crate::limits::{EVERY_MAX, TIME_MAX, WINDOWS_MAX};
@@ -92,8 +92,7 @@ impl Defs {
 
     /// The windows, in order.
     pub fn windows(&self) -> &[Def]
-        ensures value { result.now ≡ self.now.windows }
-        ensures limits { AreWithinLimits self.now }
+        ensures { AreWindowsOf self.now result.now }
     {
         &self.windows
     }

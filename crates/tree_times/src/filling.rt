@@ -21,7 +21,7 @@ pub fn fill<L>(
     probes: &mut Probes,
     steps: &mut Steps<L>,
 ) -> Result<(), NoMemory>
-    requires { tree.old.pairs ≡ [] }
+    requires { tree.old.table.pairs ≡ [] }
 {
     tree.reserve(keys.count)?;
     for i in 0..keys.count {

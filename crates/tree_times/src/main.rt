@@ -94,7 +94,7 @@ fn put_near<T: AggTree<Sum>>(
     steps: &mut Steps<Work>,
     late_steps: &mut Steps<Work>,
 ) -> io::Result<()>
-    requires empty { T.pairs tree.old ≡ [] }
+    requires empty { (T.table tree.old).pairs ≡ [] }
     requires far { near.distance ≤ near.count }
     requires few { near.count ≤ 2 ^ 20 }
     requires few_late { near.late ≤ 2 ^ 20 }

@@ -38,7 +38,7 @@ impl Near {
         steps: &mut Steps<L>,
         late_steps: &mut Steps<L>,
     ) -> Result<(), NoMemory>
-        requires empty { T.pairs tree.old ≡ [] }
+        requires empty { (T.table tree.old).pairs ≡ [] }
         requires far { self.distance ≤ self.count }
         requires few { self.count ≤ 2 ^ 20 }
         requires few_late { self.late ≤ 2 ^ 20 }

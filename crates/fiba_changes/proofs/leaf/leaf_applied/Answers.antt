@@ -19,4 +19,4 @@ returns-in-None-clause-items g c =
 
 pub returns-in-None-clause-applies : goal.returns-in-None-clause-applies
 returns-in-None-clause-applies g c =
-    leaf_unmet c.args.change.now (listed c.args.open.now.slots) c.args.open.now.last c.rank-at.result (leaf_pairs (listed c.leaf_with-in-None.result.slots)) c.requires.some c.rank-at.ensures c.in-None.ensures.none (rw (← c.added.ensures) (leaf_parts (listed c.args.open.now.slots) (listed c.leaf_with-in-None.result.slots) c.rank-at.result c.rank-at.result c.added.result c.leaf_with-in-None.ensures))
+    leaf_unmet c.args.change.now (listed c.args.open.now.slots) c.args.open.now.last c.rank-at.result (leaf_pairs (listed c.leaf_with-in-None.result.slots)) c.requires.fits.some c.rank-at.ensures c.in-None.ensures.none (rw (← c.added.ensures) (leaf_parts (listed c.args.open.now.slots) (listed c.leaf_with-in-None.result.slots) c.rank-at.result c.rank-at.result c.added.result c.leaf_with-in-None.ensures))

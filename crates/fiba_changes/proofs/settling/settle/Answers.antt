@@ -10,7 +10,7 @@ use Rattle.fiba_changes.proofs.settling.settle.Goals as goal
 
 pub close-closed-requires-clause-room : goal.close-closed-requires-clause-room
 close-closed-requires-clause-room g c more =
-    let f = c.filled-nest.ensures.filled in
+    let f = c.filled-nest.ensures.fills.filled in
     elim (cases_lt 0 (length (listed c.args.nest.now.child.slots))) [
       | inl some ↦ let three = c.most_items-most.ensures.some (omega arith) in f.split (omega arith)
       | inr none ↦ f.freed (omega arith)
@@ -31,14 +31,14 @@ returns-clause-settled g c =
     let m = g.M.Monoid in
     let nest = c.args.nest.now in
     let full = c.filled-nest.result in
-    let f = c.filled-nest.ensures.filled in
+    let f = c.filled-nest.ensures.fills.filled in
     let closed = rw (c.kid-at.ensures, c.place-inner.ensures.left, c.place-inner.ensures.right) at c.close-closed.ensures.closed in
     let few = closed_few (length (listed nest.child.slots)) (length (listed full.child.slots)) c.most_items-most.result (length (listed c.close-closed.result.slots)) c.most_items-most.ensures.few c.most_items-most.ensures.some (λ some. ap (λ n. length (listed n.child.slots)) (c.filled-nest.ensures.same some)) c.close-closed.ensures.whole c.close-closed.ensures.split in
     rw (c.spliced.ensures.slots, c.spliced.ensures.last) (settled m.is_value m.empty m.op c.args.nodes.now c.filled-nest.new.nodes c.close-closed.new.nodes c.args.height c.args.place.left c.args.place.right (listed nest.row.slots) nest.row.last nest.at (listed nest.child.slots) nest.child.last (listed full.row.slots) full.row.last full.at (listed full.child.slots) full.child.last (listed c.close-closed.result.slots) c.close-closed.result.last f closed few)
 
 pub returns-clause-spare : goal.returns-clause-spare
 returns-clause-spare g c =
-    let filled = c.filled-nest.ensures.spare in
+    let filled = c.filled-nest.ensures.fills.spare in
     let spare = c.close-closed.ensures.spare in
     elim (cases_lt c.most_items-most.result (length (listed c.filled-nest.result.child.slots))) [
       | inl more ↦ let n = c.close-closed.ensures.split more in omega arith
@@ -90,6 +90,6 @@ returns-clause-full g c =
           let two = c.most_items-most.ensures.none (omega arith) in
           let closed = c.close-closed.ensures.thin (omega arith) in
           let kid : fullness (held (look c.filled-nest.new.nodes c.kid-at.result)) ≡ fullness (held (look c.filled-nest.new.nodes (kid_of (listed full.row.slots) full.row.last full.at))) = ap (λ k. fullness (held (look c.filled-nest.new.nodes k))) c.kid-at.ensures in
-          let filled = c.filled-nest.ensures.full in
+          let filled = c.filled-nest.ensures.fills.full in
           omega arith
     ]

@@ -45,11 +45,14 @@ returns-then-i-j-clause-folded g t c =
     let folded = rw c.kid-kid.ensures at c.fold_span.ensures.folded in
     folded_in_one m.is_value m.empty m.op s c.args.at c.args.height (c.args.height - 1) c.args.place.left c.args.place.right slots last c.peek-node.result.now.agg c.peek-node.result.now.leaf lower c.requires.tree read c.place-i.result c.args.low c.args.high c.args.sum c.fold_span.result c.args.steps.now c.fold_span.new.steps c.place-i.ensures (rw c.if-i-j.true c.place-j.ensures) folded
 
-pub returns-then-i-j-clause-cost : goal.returns-then-i-j-clause-cost
-returns-then-i-j-clause-cost g t c =
+pub returns-then-i-j-clause-work : goal.returns-then-i-j-clause-work
+returns-then-i-j-clause-work g t c =
     let lower : c.args.height ≡ suc (c.args.height - 1) = omega arith in
     let w = way_in_one c.args.low c.args.high c.args.height (c.args.height - 1) lower in
-    omega (arith, w, c.fold_span.ensures.cost)
+    record {
+      rises = omega arith;
+      cost = omega (arith, w, c.fold_span.ensures.work.cost);
+    }
 
 pub fold_span-sum-requires : goal.fold_span-sum-requires
 fold_span-sum-requires g t c =
@@ -107,8 +110,11 @@ returns-clause-folded g t c =
     let second = rw c.kid-kid-2.ensures at c.fold_span-2.ensures.folded in
     folded_in_two m.is_value m.empty m.op s c.args.at c.args.height (c.args.height - 1) c.args.place.left c.args.place.right slots last c.peek-node.result.now.agg c.peek-node.result.now.leaf lower c.requires.tree read c.place-i.result c.place-j.result c.args.low c.args.high c.args.sum c.fold_span-sum.result c.fold_between-sum.result c.fold_span-2.result c.args.steps.now c.fold_span-sum.new.steps c.fold_between-sum.new.steps c.fold_span-2.new.steps (omega arith) c.place-i.ensures c.place-j.ensures first c.fold_between-sum.ensures.strung second
 
-pub returns-clause-cost : goal.returns-clause-cost
-returns-clause-cost g t c =
+pub returns-clause-work : goal.returns-clause-work
+returns-clause-work g t c =
     let lower : c.args.height ≡ suc (c.args.height - 1) = omega arith in
     let w = way_in_two c.args.low c.args.high c.args.height (c.args.height - 1) lower (sym c.spans_all.ensures ∙ c.if-spans_all.false) in
-    omega (arith, w, c.fold_span-sum.ensures.cost, c.fold_between-sum.ensures.cost, c.fold_span-2.ensures.cost)
+    record {
+      rises = omega arith;
+      cost = omega (arith, w, c.fold_span-sum.ensures.work.cost, c.fold_between-sum.ensures.work.cost, c.fold_span-2.ensures.work.cost);
+    }

@@ -17,4 +17,4 @@ with_kid-requires g c =
 pub loop-k-preserved : goal.loop-k-preserved
 loop-k-preserved g c =
     let f = pairs_at (plain c.args.nodes.now) c.args.height in
-    (strung_more g.M.Monoid.op f (listed c.args.open.now.slots) c.args.open.now.last c.args.i c.loop-k.k c.peek-slot.result.now c.args.sum c.loop-k.sum c.with_kid.result c.combine-sum-in-loop-k.result c.args.steps.now c.loop-k.steps c.with_kid.new.steps c.combine-sum-in-loop-k.new.steps c.peek-slot.ensures c.loop-k.invariant.0 c.with_kid.ensures.value c.with_kid.ensures.one_each c.combine-sum-in-loop-k.ensures.value (omega (arith, c.combine-sum-in-loop-k.ensures.counted)), omega arith, omega (arith, c.combine-sum-in-loop-k.ensures.counted, c.with_kid.ensures.cost))
+    (strung_more g.M.Monoid.op f (listed c.args.open.now.slots) c.args.open.now.last c.args.i c.loop-k.k c.peek-slot.result.now c.args.sum c.loop-k.sum c.with_kid.result c.combine-sum-in-loop-k.result c.args.steps.now c.loop-k.steps c.with_kid.new.steps c.combine-sum-in-loop-k.new.steps c.peek-slot.ensures c.loop-k.invariant.0 c.with_kid.ensures.value c.with_kid.ensures.work.one_each c.combine-sum-in-loop-k.ensures.value (omega (arith, c.combine-sum-in-loop-k.ensures.counted)), omega arith, omega (arith, c.combine-sum-in-loop-k.ensures.counted, c.with_kid.ensures.work.cost))

@@ -34,10 +34,12 @@ returns-then-root-eq0-clause-taken g c =
     let changed = rw (c.right_place-place.ensures.left, c.right_place-place.ensures.right) at c.change_root.ensures.changed in
     sprout_taken m.is_value m.empty m.op c.args.nodes.now c.change_root.new.nodes c.args.root c.change_root.result.root c.args.item c.change_root.result.taken c.if-root-eq0.true changed
 
-pub front_after-requires-clause-stays : goal.front_after-requires-clause-stays
-front_after-requires-clause-stays g c lt b e =
+pub front_after-requires : goal.front_after-requires
+front_after-requires g c =
     let r = c.raise-raised.ensures.raised in
-    let q = r.front lt in
     let high : c.args.root.height ≡ suc (c.args.root.height - 1) = omega arith in
-    let low : c.raise-raised.result.root.height - 1 ≡ b = omega (arith, e) in
-    c.requires.front (c.args.root.height - 1) high ∙ sym q.1 ∙ ap (λ n. left_edge (plain c.raise-raised.new.nodes) n c.raise-raised.result.root.at) low
+    record {
+      tree = r.changed.tree;
+      within = r.edge.within;
+      stays = λ lt b e. c.requires.front (c.args.root.height - 1) high ∙ sym (r.front lt).1 ∙ ap (λ n. left_edge (plain c.raise-raised.new.nodes) n c.raise-raised.result.root.at) (omega (arith, (r.front lt).0, e));
+    }

@@ -31,5 +31,4 @@ take_first-requires g c =
       can = subst (λ k. CanChange m.is_value m.empty m.op nodes root true true (Remove k)) (omega arith) c.requires.can;
       some = omega arith;
       first = subst (λ h. slice_get (pairs_at (plain nodes) h root.at) 0 ≡ Some (pair_of c.peek.result.now.first)) (sym high) first;
-      levels = omega arith;
     }

@@ -21,8 +21,11 @@ pub returns-clause-value : goal.returns-clause-value
 returns-clause-value g c =
     rw (c.if-place.false, c.if-place-2.false) (c.combine.ensures.value ∙ combined g.met.M.Monoid.laws c.args.nodes.now c.args.height c.args.kid c.peek.result.now c.args.sum c.args.place.left c.args.place.right (omega arith) c.peek.ensures.found c.vouch.ensures c.if-place.false c.if-place-2.false c.requires)
 
-pub returns-clause-one_each : goal.returns-clause-one_each
-returns-clause-one_each g c =
+pub returns-clause-work : goal.returns-clause-work
+returns-clause-work g c =
     let m = g.M.Monoid in
     let some = some_pairs m.is_value m.empty m.op (plain c.args.nodes.now) c.args.height c.args.place.left c.args.place.right c.args.kid (omega arith) c.requires in
-    rw (c.if-place.false, c.if-place-2.false) (omega (arith, some, c.combine.ensures.counted))
+    record {
+      cost = omega (arith, c.combine.ensures.counted);
+      one_each = rw (c.if-place.false, c.if-place-2.false) (omega (arith, some, c.combine.ensures.counted));
+    }

@@ -10,7 +10,7 @@ adopt-requires g c =
 
 pub loop-i-preserved : goal.loop-i-preserved
 loop-i-preserved g c =
-    (adopting_more c.args.nodes.now c.loop-i.nodes c.adopt.new.nodes (listed c.args.open.now.slots) c.args.open.now.last c.args.at c.loop-i.i c.peek.result.now c.peek.ensures c.loop-i.invariant.0 c.adopt.ensures.adopted, omega arith, omega arith)
+    (adopting_more c.args.nodes.now c.loop-i.nodes c.adopt.new.self (listed c.args.open.now.slots) c.args.open.now.last c.args.at c.loop-i.i c.peek.result.now c.peek.ensures c.loop-i.invariant.0 c.adopt.ensures.adopted, omega arith, omega arith)
 
 pub adopt-requires-2 : goal.adopt-requires-2
 adopt-requires-2 g c =
@@ -18,4 +18,4 @@ adopt-requires-2 g c =
 
 pub returns-clause-adopted : goal.returns-clause-adopted
 returns-clause-adopted g c =
-    all_adopted c.args.nodes.now c.loop-i.nodes c.adopt-2.new.nodes c.args.height (listed c.args.open.now.slots) c.args.open.now.last c.args.at c.loop-i.i (omega arith) (omega arith) c.loop-i.invariant.0 c.adopt-2.ensures.adopted
+    all_adopted c.args.nodes.now c.loop-i.nodes c.adopt-2.new.self c.args.height (listed c.args.open.now.slots) c.args.open.now.last c.args.at c.loop-i.i (omega arith) (omega arith) c.loop-i.invariant.0 c.adopt-2.ensures.adopted

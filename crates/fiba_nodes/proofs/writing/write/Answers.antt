@@ -12,7 +12,7 @@ returns-clause-kids g c =
 
 pub returns-clause-written : goal.returns-clause-written
 returns-clause-written g c =
-    node_written g.M.Monoid.is_value g.M.Monoid.empty g.M.Monoid.op c.args.nodes.now c.adopt_all.new.nodes c.set.new.self c.args.at c.args.height c.args.place.left c.args.place.right (listed c.args.open.now.slots) c.args.open.now.last c.made.result _ _ c.requires.opened c.requires.some refl c.total_of-agg.ensures.value c.adopt_all.ensures.adopted c.made.ensures.plain c.set.ensures.put (returns-clause-kids g c)
+    node_written g.M.Monoid.is_value g.M.Monoid.empty g.M.Monoid.op c.args.nodes.now c.adopt_all.new.nodes c.set.new.self c.args.at c.args.height c.args.place.left c.args.place.right (listed c.args.open.now.slots) c.args.open.now.last c.made.result _ _ c.requires.opened c.requires.fits.some refl c.total_of-agg.ensures.value c.adopt_all.ensures.adopted c.made.ensures.plain c.set.ensures.put (returns-clause-kids g c)
 
 pub returns-clause-moves : goal.returns-clause-moves
 returns-clause-moves g c =

@@ -49,4 +49,4 @@ climb-requires g t c =
     let same : c.unwrap-parent.result ≡ parent_of m.is_value m.empty m.op c.args.nodes.now c.args.root c.args.key c.args.from.at c.args.from.below c.requires.tree c.requires.rising c.requires.absent c.requires.reached = let e = sym c.unwrap-parent.ensures ∙ up in cc in
     let slots = slots_of c.peek-2.result.now in
     let next = reached_parent m.is_value m.empty m.op c.args.nodes.now c.args.root c.args.key c.args.from.at c.args.from.below c.requires.tree c.requires.rising c.requires.absent c.requires.reached inner c.unwrap-parent.result same c.peek-2.result.now c.peek-2.ensures.found slots 0 refl (length slots - 1) (omega arith) (omega arith) c.last_slot.result c.last_slot.ensures c.if-last_slot-key.false in
-    λ κs w. (omega arith, (w, (c.requires.tree, (c.requires.rising, (c.requires.absent, next)))))
+    λ κs w. (omega arith, (w, record { tree = c.requires.tree; rising = c.requires.rising; absent = c.requires.absent; reached = next }))

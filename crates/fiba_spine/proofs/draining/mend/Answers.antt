@@ -94,8 +94,8 @@ keep-requires-clause-there g c =
     let a = descended_at m.is_value m.empty m.op old at c.args.below (c.args.below - 1) true c.args.right First slots last node2.agg node2.leaf lower h.can read fits 0 now c.settle-open.new.nodes d.taken [] c.args.last (listed c.settle-open.result.slots) c.settle-open.result.last (rank_first slots) (passed_first slots) done c.settle-open.ensures.settled in
     subst (λ o. IsSome o) (sym a.stays) (is_there m.is_value m.empty m.op old (suc c.args.below) true c.args.right at (omega arith) h.can.sound)
 
-pub returns-clause-whole : goal.returns-clause-whole
-returns-clause-whole g c old h =
+pub returns-clause-pulls : goal.returns-clause-pulls
+returns-clause-pulls g c old h =
     let m = g.M.Monoid in
     let now = c.args.nodes.now in
     let at = c.args.at in
@@ -113,28 +113,10 @@ returns-clause-whole g c old h =
     let fits = c.opened.ensures.few in
     let done = first_done m.is_value m.empty m.op old now (c.args.below - 1) c.args.right node2 slots last kid d.taken c.args.last c.opened.ensures.slots (ap (λ n. kid_of (slots_of n) (last_of n) 0) same) d.applied in
     let a = descended_at m.is_value m.empty m.op old at c.args.below (c.args.below - 1) true c.args.right First slots last node2.agg node2.leaf lower h.can read fits 0 now c.settle-open.new.nodes d.taken [] c.args.last (listed c.settle-open.result.slots) c.settle-open.result.last (rank_first slots) (passed_first slots) done c.settle-open.ensures.settled in
-    none_map c.keep.result (closed m.is_value m.empty m.op old c.settle-open.new.nodes c.keep.new.nodes at c.args.below c.args.right d.taken (listed c.settle-open.result.slots) c.settle-open.result.last a) c.keep.ensures.kept
-
-pub returns-clause-drained : goal.returns-clause-drained
-returns-clause-drained g c old h =
-    let m = g.M.Monoid in
-    let now = c.args.nodes.now in
-    let at = c.args.at in
-    let lower : c.args.below ≡ suc (c.args.below - 1) = let i = h.inner in omega arith in
-    let node = h.node in
-    let kid = kid_of (slots_of node) (last_of node) 0 in
-    let d = h.drained in
-    let stays : look now at ≡ look old at = above_stays m.is_value m.empty m.op old now at c.args.below c.args.right node kid (c.args.below - 1) (λ k. only k kid + row_times k (plain now) (c.args.below - 1) [] c.args.last) lower refl h.can h.found (subst (λ b. Moves (look old) (look now) (λ k. times k (plain old) b kid) (λ k. only k kid + row_times k (plain now) (c.args.below - 1) [] c.args.last)) (sym lower) d.applied.moves) in
-    let slots = listed c.opened.result.slots in
-    let last = c.opened.result.last in
-    let node2 = c.peek.result.now in
-    let found : look old at ≡ Some node2 = sym stays ∙ c.peek.ensures.found in
-    let same : node ≡ node2 = let e : Some node ≡ Some node2 = sym h.found ∙ found in cc in
-    let read = node_is old at node2 slots last found c.opened.ensures.slots c.opened.ensures.last in
-    let fits = c.opened.ensures.few in
-    let done = first_done m.is_value m.empty m.op old now (c.args.below - 1) c.args.right node2 slots last kid d.taken c.args.last c.opened.ensures.slots (ap (λ n. kid_of (slots_of n) (last_of n) 0) same) d.applied in
-    let a = descended_at m.is_value m.empty m.op old at c.args.below (c.args.below - 1) true c.args.right First slots last node2.agg node2.leaf lower h.can read fits 0 now c.settle-open.new.nodes d.taken [] c.args.last (listed c.settle-open.result.slots) c.settle-open.result.last (rank_first slots) (passed_first slots) done c.settle-open.ensures.settled in
-    some_map (λ kid. IsBare c.settle-open.new.nodes c.keep.new.nodes (listed c.settle-open.result.slots) c.settle-open.result.last kid) (λ kid. IsDrained m.is_value m.empty m.op old c.keep.new.nodes at c.args.below c.args.right kid) c.keep.result (drained m.is_value m.empty m.op old c.settle-open.new.nodes c.keep.new.nodes at c.args.below c.args.right d.taken (listed c.settle-open.result.slots) c.settle-open.result.last a) c.keep.ensures.bare
+    record {
+      whole = none_map c.keep.result (closed m.is_value m.empty m.op old c.settle-open.new.nodes c.keep.new.nodes at c.args.below c.args.right d.taken (listed c.settle-open.result.slots) c.settle-open.result.last a) c.keep.ensures.kept;
+      drained = some_map (λ kid. IsBare c.settle-open.new.nodes c.keep.new.nodes (listed c.settle-open.result.slots) c.settle-open.result.last kid) (λ kid. IsDrained m.is_value m.empty m.op old c.keep.new.nodes at c.args.below c.args.right kid) c.keep.result (drained m.is_value m.empty m.op old c.settle-open.new.nodes c.keep.new.nodes at c.args.below c.args.right d.taken (listed c.settle-open.result.slots) c.settle-open.result.last a) c.keep.ensures.bare;
+    }
 
 pub returns-clause-full : goal.returns-clause-full
 returns-clause-full g c =

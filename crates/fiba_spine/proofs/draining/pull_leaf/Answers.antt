@@ -25,21 +25,16 @@ keep-requires-clause-there g c =
     let m = g.M.Monoid in
     is_there m.is_value m.empty m.op c.args.nodes.now 1 true c.args.right c.args.at (omega arith) c.requires.sound
 
-pub returns-clause-whole : goal.returns-clause-whole
-returns-clause-whole g c =
+pub returns-clause-pulls : goal.returns-clause-pulls
+returns-clause-pulls g c =
     let m = g.M.Monoid in
     let node = c.peek.result.now in
     let row : listed c.rest.result ≡ more_slots node.second node.third node.kids = c.rest.ensures ∙ ap (λ xs. drop 1 xs) c.slots.ensures.slots in
     let a = leaf_first m.is_value m.empty m.op c.args.nodes.now c.args.at c.args.right node (listed c.rest.result) 0 c.requires c.peek.ensures.found row in
-    none_map c.keep.result (closed m.is_value m.empty m.op c.args.nodes.now c.args.nodes.now c.keep.new.nodes c.args.at 0 c.args.right (Some node.first) (listed c.rest.result) 0 a) c.keep.ensures.kept
-
-pub returns-clause-drained : goal.returns-clause-drained
-returns-clause-drained g c =
-    let m = g.M.Monoid in
-    let node = c.peek.result.now in
-    let row : listed c.rest.result ≡ more_slots node.second node.third node.kids = c.rest.ensures ∙ ap (λ xs. drop 1 xs) c.slots.ensures.slots in
-    let a = leaf_first m.is_value m.empty m.op c.args.nodes.now c.args.at c.args.right node (listed c.rest.result) 0 c.requires c.peek.ensures.found row in
-    some_map (λ kid. IsBare c.args.nodes.now c.keep.new.nodes (listed c.rest.result) 0 kid) (λ kid. IsDrained m.is_value m.empty m.op c.args.nodes.now c.keep.new.nodes c.args.at 0 c.args.right kid) c.keep.result (drained m.is_value m.empty m.op c.args.nodes.now c.args.nodes.now c.keep.new.nodes c.args.at 0 c.args.right (Some node.first) (listed c.rest.result) 0 a) c.keep.ensures.bare
+    record {
+      whole = none_map c.keep.result (closed m.is_value m.empty m.op c.args.nodes.now c.args.nodes.now c.keep.new.nodes c.args.at 0 c.args.right (Some node.first) (listed c.rest.result) 0 a) c.keep.ensures.kept;
+      drained = some_map (λ kid. IsBare c.args.nodes.now c.keep.new.nodes (listed c.rest.result) 0 kid) (λ kid. IsDrained m.is_value m.empty m.op c.args.nodes.now c.keep.new.nodes c.args.at 0 c.args.right kid) c.keep.result (drained m.is_value m.empty m.op c.args.nodes.now c.args.nodes.now c.keep.new.nodes c.args.at 0 c.args.right (Some node.first) (listed c.rest.result) 0 a) c.keep.ensures.bare;
+    }
 
 pub returns-clause-full : goal.returns-clause-full
 returns-clause-full g c =

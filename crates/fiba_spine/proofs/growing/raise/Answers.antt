@@ -24,7 +24,7 @@ apply_low-applied-requires g c =
 pub loop-below-init : goal.loop-below-init
 loop-below-init g c =
     let m = g.M.Monoid in
-    (begins m.is_value m.empty m.op c.args.nodes.now c.args.root c.args.from.at c.args.from.below c.args.change c.requires.can c.apply_low-applied.new.nodes c.right_place-place.result.left c.right_place-place.result.right c.peek.result.now c.apply_low-applied.result.taken (listed c.apply_low-applied.result.open.slots) c.apply_low-applied.result.open.last c.right_place-place.ensures.left c.right_place-place.ensures.right c.peek.ensures.found c.apply_low-applied.ensures.applied (c.apply_low-applied.ensures.some (omega (arith, c.requires.grows))), omega (arith, c.saturating_sub-inner.ensures, c.spare.ensures, c.spare-spare.ensures, c.apply_low-applied.ensures.spare), omega (arith, c.peek.ensures.rises, c.apply_low-applied.ensures.probes), c.apply_low-applied.ensures.cost, omega (arith, c.saturating_sub-inner.ensures, c.spare.ensures, c.spare-spare.ensures, c.apply_low-applied.ensures.grows (omega (arith, c.requires.grows))), omega (arith, c.peek.ensures.looks, c.apply_low-applied.ensures.looks), subst (λ o. IsPaid c.args.change (full_nodes c.args.nodes.now) (full_nodes c.apply_low-applied.new.nodes) c.args.nodes.now.spare c.apply_low-applied.new.nodes.spare (held o) (length (listed c.apply_low-applied.result.open.slots))) (sym c.apply_low-applied.ensures.applied.stays) c.apply_low-applied.ensures.paid)
+    (begins m.is_value m.empty m.op c.args.nodes.now c.args.root c.args.from.at c.args.from.below c.args.change c.requires.can c.apply_low-applied.new.nodes c.right_place-place.result.left c.right_place-place.result.right c.peek.result.now c.apply_low-applied.result.taken (listed c.apply_low-applied.result.open.slots) c.apply_low-applied.result.open.last c.right_place-place.ensures.left c.right_place-place.ensures.right c.peek.ensures.found c.apply_low-applied.ensures.applied (c.apply_low-applied.ensures.some (omega (arith, c.requires.grows))), omega (arith, c.saturating_sub-inner.ensures, c.spare.ensures, c.spare-spare.ensures, c.apply_low-applied.ensures.spare), omega (arith, c.peek.ensures.looks.rises, c.apply_low-applied.ensures.looks.rises), c.apply_low-applied.ensures.cost, omega (arith, c.saturating_sub-inner.ensures, c.spare.ensures, c.spare-spare.ensures, c.apply_low-applied.ensures.grows (omega (arith, c.requires.grows))), omega (arith, c.peek.ensures.looks.within, c.apply_low-applied.ensures.looks.within), subst (λ o. IsPaid c.args.change (full_nodes c.args.nodes.now) (full_nodes c.apply_low-applied.new.nodes) c.args.nodes.now.spare c.apply_low-applied.new.nodes.spare (held o) (length (listed c.apply_low-applied.result.open.slots))) (sym c.apply_low-applied.ensures.applied.stays) c.apply_low-applied.ensures.paid)
 
 pub returns-then-len-lt4-clause-raised : goal.returns-then-len-lt4-clause-raised
 returns-then-len-lt4-clause-raised g c =
@@ -66,7 +66,7 @@ loop-below-preserved g c =
     let m = g.M.Monoid in
     let inner : c.loop-below.below + 1 < c.args.root.height = omega (arith, c.loop-below-test.true) in
     let same : c.unwrap-parent.result ≡ above m.is_value m.empty m.op c.args.nodes.now c.loop-below.nodes c.args.root c.loop-below.at c.loop-below.below c.args.change c.loop-below.up (listed c.loop-below.open.slots) c.loop-below.open.last c.loop-below.invariant.0 inner = let e = sym c.unwrap-parent.ensures ∙ parent_is m.is_value m.empty m.op c.args.nodes.now c.loop-below.nodes c.args.root c.loop-below.at c.loop-below.below c.args.change c.loop-below.up (listed c.loop-below.open.slots) c.loop-below.open.last c.loop-below.invariant.0 inner in cc in
-    (goes_on m.is_value m.empty m.op c.args.nodes.now c.loop-below.nodes c.args.root c.loop-below.at c.loop-below.below c.args.change c.loop-below.up (listed c.loop-below.open.slots) c.loop-below.open.last c.loop-below.invariant.0 inner c.unwrap-parent.result same c.peek-node.result.now c.peek-node.ensures.found (listed c.opened-row.result.slots) c.opened-row.result.last c.opened-row.ensures.slots c.opened-row.ensures.last c.settle-open.new.nodes c.len-in-loop-below.result c.right_place-place-in-loop-below.result.left c.right_place-place-in-loop-below.result.right (listed c.settle-open.result.slots) c.settle-open.result.last c.len-in-loop-below.ensures.len c.right_place-place-in-loop-below.ensures.left c.right_place-place-in-loop-below.ensures.right c.settle-open.ensures.settled (c.settle-open.ensures.kept c.loop-below.invariant.0.some), c.loop-below.invariant.1, omega (arith, c.loop-below.invariant.2, c.peek-node.ensures.rises, c.settle-open.ensures.probes), omega (arith, c.loop-below.invariant.3, c.settle-open.ensures.cost), (let few = c.loop-below.invariant.0.applied.few in let taken = c.settle-open.ensures.taken c.loop-below.invariant.0.some in omega (arith, few, taken, c.loop-below.invariant.4, c.requires.grows, c.len.ensures.len, c.if-len-lt4.false, c.loop-below.auto.below)), omega (arith, c.loop-below.invariant.5, c.peek-node.ensures.looks, c.settle-open.ensures.looks), pays m.is_value m.empty m.op c.args.nodes.now c.loop-below.nodes c.args.root c.loop-below.at c.loop-below.below c.args.change c.loop-below.up (listed c.loop-below.open.slots) c.loop-below.open.last c.loop-below.invariant.0 inner c.unwrap-parent.result same c.peek-node.result.now c.peek-node.ensures.found (listed c.opened-row.result.slots) c.opened-row.result.last c.opened-row.ensures.slots c.opened-row.ensures.last c.settle-open.new.nodes c.len-in-loop-below.result c.right_place-place-in-loop-below.result.left c.right_place-place-in-loop-below.result.right (listed c.settle-open.result.slots) c.settle-open.result.last c.len-in-loop-below.ensures.len c.right_place-place-in-loop-below.ensures.left c.right_place-place-in-loop-below.ensures.right c.settle-open.ensures.settled c.settle-open.ensures.kept c.loop-below.invariant.6 c.settle-open.ensures.full c.settle-open.ensures.even c.settle-open.ensures.taken)
+    (goes_on m.is_value m.empty m.op c.args.nodes.now c.loop-below.nodes c.args.root c.loop-below.at c.loop-below.below c.args.change c.loop-below.up (listed c.loop-below.open.slots) c.loop-below.open.last c.loop-below.invariant.0 inner c.unwrap-parent.result same c.peek-node.result.now c.peek-node.ensures.found (listed c.opened-row.result.slots) c.opened-row.result.last c.opened-row.ensures.slots c.opened-row.ensures.last c.settle-open.new.nodes c.len-in-loop-below.result c.right_place-place-in-loop-below.result.left c.right_place-place-in-loop-below.result.right (listed c.settle-open.result.slots) c.settle-open.result.last c.len-in-loop-below.ensures.len c.right_place-place-in-loop-below.ensures.left c.right_place-place-in-loop-below.ensures.right c.settle-open.ensures.settled (c.settle-open.ensures.kept c.loop-below.invariant.0.some), c.loop-below.invariant.1, omega (arith, c.loop-below.invariant.2, c.peek-node.ensures.looks.rises, c.settle-open.ensures.looks.rises), omega (arith, c.loop-below.invariant.3, c.settle-open.ensures.cost), (let few = c.loop-below.invariant.0.applied.few in let taken = c.settle-open.ensures.taken c.loop-below.invariant.0.some in omega (arith, few, taken, c.loop-below.invariant.4, c.requires.grows, c.len.ensures.len, c.if-len-lt4.false, c.loop-below.auto.below)), omega (arith, c.loop-below.invariant.5, c.peek-node.ensures.looks.within, c.settle-open.ensures.looks.within), pays m.is_value m.empty m.op c.args.nodes.now c.loop-below.nodes c.args.root c.loop-below.at c.loop-below.below c.args.change c.loop-below.up (listed c.loop-below.open.slots) c.loop-below.open.last c.loop-below.invariant.0 inner c.unwrap-parent.result same c.peek-node.result.now c.peek-node.ensures.found (listed c.opened-row.result.slots) c.opened-row.result.last c.opened-row.ensures.slots c.opened-row.ensures.last c.settle-open.new.nodes c.len-in-loop-below.result c.right_place-place-in-loop-below.result.left c.right_place-place-in-loop-below.result.right (listed c.settle-open.result.slots) c.settle-open.result.last c.len-in-loop-below.ensures.len c.right_place-place-in-loop-below.ensures.left c.right_place-place-in-loop-below.ensures.right c.settle-open.ensures.settled c.settle-open.ensures.kept c.loop-below.invariant.6 c.settle-open.ensures.full c.settle-open.ensures.even c.settle-open.ensures.taken)
 
 pub plant-grown-requires-clause-room : goal.plant-grown-requires-clause-room
 plant-grown-requires-clause-room g c =

@@ -8,9 +8,9 @@ use Rattle.partials.proofs.partials.extend_in.Goals as goal
 
 pub returns-clause-extended : goal.returns-clause-extended
 returns-clause-extended g c =
-    let xs = g.T.AggTree.pairs c.args.tree.now in
-    λ b v e. c.set.ensures.replaced ∙ ap (λ s. replaced c.args.low s xs) (c.combine.ensures.value ∙ ap (λ own. bundles_combined own c.args.more.now) (c.read_in-own.ensures.value b v e))
+    let xs = (g.T.AggTree.table c.args.tree.now).pairs in
+    λ b v e. c.set.ensures.replaces.replaced ∙ ap (λ s. replaced c.args.low s xs) (c.combine.ensures.value ∙ ap (λ own. bundles_combined own c.args.more.now) (c.read_in-own.ensures.value b v e))
 
 pub returns-clause-below : goal.returns-clause-below
 returns-clause-below g c =
-    λ edge below. subst (AreBelow edge) (sym c.set.ensures.replaced) (below_replaced edge c.args.low c.combine.result (g.T.AggTree.pairs c.args.tree.now) below)
+    λ edge below. subst (AreBelow edge) (sym c.set.ensures.replaces.replaced) (below_replaced edge c.args.low c.combine.result (g.T.AggTree.table c.args.tree.now).pairs below)

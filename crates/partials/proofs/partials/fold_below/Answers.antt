@@ -9,4 +9,4 @@ use Rattle.partials.proofs.partials.fold_below.Goals as goal
 pub returns-then-edge-low-clause-value : goal.returns-then-edge-low-clause-value
 returns-then-edge-low-clause-value g c =
     c.unit.ensures
-    ∙ sym (ap (λ l. total empty_bundle bundles_combined (values_of l)) (none_behind c.args.edge c.args.low c.args.high (g.T.AggTree.pairs c.args.tree.now) c.if-edge-low.true c.requires))
+    ∙ sym (ap (λ l. total empty_bundle bundles_combined (values_of l)) (none_behind c.args.edge c.args.low c.args.high (g.T.AggTree.table c.args.tree.now).pairs c.if-edge-low.true c.requires))

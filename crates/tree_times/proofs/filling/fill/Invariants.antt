@@ -4,4 +4,4 @@ use Rattle.tree_times.proofs.Ranks.{AreBefore}
 use Rattle.tree_times.proofs.filling.fill.Given as goal
 
 abbrev pub invariant-loop-i : goal.invariant-loop-i
-invariant-loop-i g l = AreBefore l.keys.order l.i l.tree.pairs × (l.keys.count ≤ l.tree.spare + l.i)
+invariant-loop-i g l = AreBefore l.keys.order l.i l.tree.table.pairs × (l.keys.count ≤ l.tree.table.spare + l.i)

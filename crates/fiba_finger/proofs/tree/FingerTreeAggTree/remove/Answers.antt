@@ -1,5 +1,5 @@
 -- The change takes out the pair with the key, if there is one.
-use Rattle.std.proofs.Common.{true, ◌≡◌, ◌-◌, None, Some, length, sym, ap, ◌∙◌, arith}
+use Rattle.std.proofs.Common.{rules, true, ◌≡◌, ◌-◌, None, Some, length, sym, ap, ◌∙◌, arith}
 use Rattle.std.specs.Option.{option_map}
 use Rattle.agg_laws.specs.Pairs.{has_key, value_at, without}
 use Rattle.fiba_changes.specs.Changes.{pairs_of}
@@ -9,70 +9,71 @@ use Rattle.fiba_finger.proofs.tree.FingerTreeAggTree.remove.Goals as goal
 pub invariant_of-self : goal.invariant_of-self
 invariant_of-self g c =
     let m = g.M.Monoid in
-    let changed = c.take-changed.ensures.changed in
+    let changed = c.take-changed.ensures.takes.changed in
     let none : c.take-changed.result.taken ≡ None = c.in_err-item.was in
     let zero : length (pairs_of c.take-changed.result.taken) ≡ 0 = ap (λ o. length (pairs_of o)) none in
     record { arena = arena_removed m.is_value m.empty m.op true true c.self.inside.nodes c.take-changed.new.nodes c.self.inside.root c.take-changed.result.root c.self.inside.count c.self.inside.limit c.self.invariant.arena (omega (arith, c.self.ranges)) c.args.key c.take-changed.result.taken c.self.inside.count (omega (arith, zero)) changed; first = c.start_of-self-inside.ensures.front; last = c.end_of-self-inside.ensures.finger }
 
-pub returns-in_err-item-clause-bounded : goal.returns-in_err-item-clause-bounded
-returns-in_err-item-clause-bounded g c = let a = invariant_of-self g c in a.arena.tall
-
 pub invariant_of-self-2 : goal.invariant_of-self-2
 invariant_of-self-2 g c =
     let m = g.M.Monoid in
-    let changed = c.take-changed.ensures.changed in
+    let changed = c.take-changed.ensures.takes.changed in
     let some : c.take-changed.result.taken ≡ Some c.in_ok-item.item = c.in_ok-item.was in
     let done = removed_of m.is_value m.empty m.op true true c.self.inside.nodes c.take-changed.new.nodes c.self.inside.root c.take-changed.result.root c.self.inside.count c.self.inside.limit c.self.invariant.arena (omega (arith, c.self.ranges)) c.args.key c.take-changed.result.taken changed in
     let one : length (pairs_of c.take-changed.result.taken) ≡ 1 = ap (λ o. length (pairs_of o)) some in
     record { arena = arena_removed m.is_value m.empty m.op true true c.self.inside.nodes c.take-changed.new.nodes c.self.inside.root c.take-changed.result.root c.self.inside.count c.self.inside.limit c.self.invariant.arena (omega (arith, c.self.ranges)) c.args.key c.take-changed.result.taken (c.self.inside.count - 1) (omega (arith, one, done.fewer, c.self.invariant.arena.counted)) changed; first = c.start_of-self-inside.ensures.front; last = c.end_of-self-inside.ensures.finger }
 
-pub returns-in_err-item-clause-value : goal.returns-in_err-item-clause-value
-returns-in_err-item-clause-value g c =
+pub returns-in_err-item-clause-removes : goal.returns-in_err-item-clause-removes
+returns-in_err-item-clause-removes g c =
     let m = g.M.Monoid in
-    let view = ap (λ v. v.pairs) c.self.view_is in
-    let changed = c.take-changed.ensures.changed in
+    let view = ap (λ v. v.table.pairs) c.self.view_is in
+    let changed = c.take-changed.ensures.takes.changed in
     let none : c.take-changed.result.taken ≡ None = c.in_err-item.was in
     let answer : c.from_residual.result ≡ None = c.from_residual.ensures in
     let done = removed_of m.is_value m.empty m.op true true c.self.inside.nodes c.take-changed.new.nodes c.self.inside.root c.take-changed.result.root c.self.inside.count c.self.inside.limit c.self.invariant.arena (omega (arith, c.self.ranges)) c.args.key c.take-changed.result.taken changed in
-    answer ∙ sym (ap (option_map (λ x. x.value)) none) ∙ done.value ∙ ap (value_at c.args.key) view
+    let spare = ap (λ v. v.table.spare) c.self.view_is in
+    let a = invariant_of-self g c in
+    record {
+      value = answer ∙ sym (ap (option_map (λ x. x.value)) none) ∙ done.value ∙ ap (value_at c.args.key) view;
+      none = (λ e. sym (ap (has_key c.args.key) view) ∙ done.none.0 none, λ e. answer);
+      rest = done.rest ∙ ap (without c.args.key) view;
+      rising = a.arena.rising;
+      spare = omega (arith, spare);
+    }
 
-pub returns-in_err-item-clause-none : goal.returns-in_err-item-clause-none
-returns-in_err-item-clause-none g c =
+pub returns-clause-removes : goal.returns-clause-removes
+returns-clause-removes g c =
     let m = g.M.Monoid in
-    let view = ap (λ v. v.pairs) c.self.view_is in
-    let changed = c.take-changed.ensures.changed in
-    let none : c.take-changed.result.taken ≡ None = c.in_err-item.was in
-    let answer : c.from_residual.result ≡ None = c.from_residual.ensures in
-    let done = removed_of m.is_value m.empty m.op true true c.self.inside.nodes c.take-changed.new.nodes c.self.inside.root c.take-changed.result.root c.self.inside.count c.self.inside.limit c.self.invariant.arena (omega (arith, c.self.ranges)) c.args.key c.take-changed.result.taken changed in
-    (λ e. sym (ap (has_key c.args.key) view) ∙ done.none.0 none, λ e. answer)
-
-pub returns-in_err-item-clause-rest : goal.returns-in_err-item-clause-rest
-returns-in_err-item-clause-rest g c =
-    let m = g.M.Monoid in
-    let view = ap (λ v. v.pairs) c.self.view_is in
-    let changed = c.take-changed.ensures.changed in
-    let done = removed_of m.is_value m.empty m.op true true c.self.inside.nodes c.take-changed.new.nodes c.self.inside.root c.take-changed.result.root c.self.inside.count c.self.inside.limit c.self.invariant.arena (omega (arith, c.self.ranges)) c.args.key c.take-changed.result.taken changed in
-    done.rest ∙ ap (without c.args.key) view
-
-pub returns-clause-value : goal.returns-clause-value
-returns-clause-value g c =
-    let m = g.M.Monoid in
-    let view = ap (λ v. v.pairs) c.self.view_is in
-    let changed = c.take-changed.ensures.changed in
+    let view = ap (λ v. v.table.pairs) c.self.view_is in
+    let changed = c.take-changed.ensures.takes.changed in
     let some : c.take-changed.result.taken ≡ Some c.in_ok-item.item = c.in_ok-item.was in
     let done = removed_of m.is_value m.empty m.op true true c.self.inside.nodes c.take-changed.new.nodes c.self.inside.root c.take-changed.result.root c.self.inside.count c.self.inside.limit c.self.invariant.arena (omega (arith, c.self.ranges)) c.args.key c.take-changed.result.taken changed in
-    sym (ap (option_map (λ x. x.value)) some) ∙ done.value ∙ ap (value_at c.args.key) view
+    let spare = ap (λ v. v.table.spare) c.self.view_is in
+    let a = invariant_of-self-2 g c in
+    record {
+      value = sym (ap (option_map (λ x. x.value)) some) ∙ done.value ∙ ap (value_at c.args.key) view;
+      none = search rules;
+      rest = done.rest ∙ ap (without c.args.key) view;
+      rising = a.arena.rising;
+      spare = omega (arith, spare);
+    }
 
-pub returns-clause-rest : goal.returns-clause-rest
-returns-clause-rest g c =
-    let m = g.M.Monoid in
-    let view = ap (λ v. v.pairs) c.self.view_is in
-    let changed = c.take-changed.ensures.changed in
-    let done = removed_of m.is_value m.empty m.op true true c.self.inside.nodes c.take-changed.new.nodes c.self.inside.root c.take-changed.result.root c.self.inside.count c.self.inside.limit c.self.invariant.arena (omega (arith, c.self.ranges)) c.args.key c.take-changed.result.taken changed in
-    done.rest ∙ ap (without c.args.key) view
+pub returns-in_err-item-clause-shrinks : goal.returns-in_err-item-clause-shrinks
+returns-in_err-item-clause-shrinks g c =
+    let height = ap (λ v. v.height) c.self.view_is in
+    let full = ap (λ v. v.full) c.self.view_is in
+    let a = invariant_of-self g c in
+    record {
+      reach = record { within = omega (arith, height, c.take-changed.ensures.takes.changed.higher); bounded = a.arena.tall };
+      full = omega (arith, full, c.take-changed.ensures.takes.full);
+    }
 
-pub returns-clause-rising : goal.returns-clause-rising
-returns-clause-rising g c = let a = invariant_of-self-2 g c in a.arena.rising
-
-pub returns-clause-bounded : goal.returns-clause-bounded
-returns-clause-bounded g c = let a = invariant_of-self-2 g c in a.arena.tall
+pub returns-clause-shrinks : goal.returns-clause-shrinks
+returns-clause-shrinks g c =
+    let height = ap (λ v. v.height) c.self.view_is in
+    let full = ap (λ v. v.full) c.self.view_is in
+    let a = invariant_of-self-2 g c in
+    record {
+      reach = record { within = omega (arith, height, c.take-changed.ensures.takes.changed.higher); bounded = a.arena.tall };
+      full = omega (arith, full, c.take-changed.ensures.takes.full);
+    }

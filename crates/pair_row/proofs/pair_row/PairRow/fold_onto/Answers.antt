@@ -4,8 +4,8 @@ use Rattle.agg_laws.specs.Pairs.{within}
 use Rattle.pair_row.proofs.Places.{length-within}
 use Rattle.pair_row.proofs.pair_row.PairRow.fold_onto.Goals as goal
 
-pub returns-clause-cost : goal.returns-clause-cost
-returns-clause-cost g c =
+pub returns-clause-work : goal.returns-clause-work
+returns-clause-work g c =
     let pairs = c.args.self.now.pairs in
     let one_each : c.fold_pairs.new.steps ≤ c.args.steps.now + length (within c.args.low c.args.high pairs) = grind arith in
-    omega (arith, one_each, length-within c.args.low c.args.high pairs)
+    record { cost = omega (arith, one_each, length-within c.args.low c.args.high pairs); one_each = one_each }

@@ -11,5 +11,9 @@ invariant_of-self g c =
     let absent : has_key c.args.key pairs ≡ false = search rules in
     subst AreRising (sym placed) (rising-inserted c.args.key c.args.value pairs c.self.invariant absent)
 
-pub returns-clause-rising : goal.returns-clause-rising
-returns-clause-rising g c = invariant_of-self g c
+pub returns-clause-inserts : goal.returns-clause-inserts
+returns-clause-inserts g c = record {
+  inserted = search rules;
+  rising = invariant_of-self g c;
+  spare = search rules;
+}

@@ -8,7 +8,7 @@ use Rattle.partials.proofs.partials.Partials.extend.Goals as goal
 pub extend_in-requires-clause-there : goal.extend_in-requires-clause-there
 extend_in-requires-clause-there g c =
     let s = c.self.inside in
-    there_inside c.args.low (g.T.AggTree.pairs s.tree) s.near.pairs (rw (← c.self.view_is) at c.requires) (absent_before s.edge c.args.low s.near.pairs c.if-low-self.true c.self.invariant.from)
+    there_inside c.args.low (g.T.AggTree.table s.tree).pairs s.near.pairs (rw (← c.self.view_is) at c.requires) (absent_before s.edge c.args.low s.near.pairs c.if-low-self.true c.self.invariant.from)
 
 pub invariant_of-self : goal.invariant_of-self
 invariant_of-self g c =
@@ -22,7 +22,7 @@ invariant_of-self g c =
 pub returns-then-low-self-clause-extended : goal.returns-then-low-self-clause-extended
 returns-then-low-self-clause-extended g c b is e =
     let s = c.self.inside in
-    let xs = g.T.AggTree.pairs s.tree in
+    let xs = (g.T.AggTree.table s.tree).pairs in
     let absent = absent_before s.edge c.args.low s.near.pairs c.if-low-self.true c.self.invariant.from in
     rw (← c.self.view_is)
     (ap (λ l. l ++ s.near.pairs) (c.extend_in.ensures.extended b is (sym (value_inside c.args.low xs s.near.pairs absent) ∙ (rw (← c.self.view_is) at e)))
@@ -31,13 +31,13 @@ returns-then-low-self-clause-extended g c b is e =
 pub extend-requires : goal.extend-requires
 extend-requires g c =
     let s = c.self.inside in
-    let xs = g.T.AggTree.pairs s.tree in
+    let xs = (g.T.AggTree.table s.tree).pairs in
     there_near c.args.low xs s.near.pairs (rw (← c.self.view_is) at c.requires) (absent_behind s.edge c.args.low xs c.if-low-self.false c.self.invariant.below)
 
 pub invariant_of-self-else-low-self : goal.invariant_of-self-else-low-self
 invariant_of-self-else-low-self g c =
     let s = c.self.inside in
-    let xs = g.T.AggTree.pairs s.tree in
+    let xs = (g.T.AggTree.table s.tree).pairs in
     let there = value_there c.args.low s.near.pairs (there_near c.args.low xs s.near.pairs (rw (← c.self.view_is) at c.requires) (absent_behind s.edge c.args.low xs c.if-low-self.false c.self.invariant.below)) in
     record {
       below = c.self.invariant.below;
@@ -48,7 +48,7 @@ invariant_of-self-else-low-self g c =
 pub returns-else-low-self-clause-extended : goal.returns-else-low-self-clause-extended
 returns-else-low-self-clause-extended g c b is e =
     let s = c.self.inside in
-    let xs = g.T.AggTree.pairs s.tree in
+    let xs = (g.T.AggTree.table s.tree).pairs in
     let absent = absent_behind s.edge c.args.low xs c.if-low-self.false c.self.invariant.below in
     rw (← c.self.view_is)
     (ap (λ l. xs ++ l) (c.extend.ensures.extended b (sym (value_near c.args.low xs s.near.pairs absent) ∙ (rw (← c.self.view_is) at e)))

@@ -12,7 +12,7 @@ invariant_of-self g c =
     let begins : edge ≤ c.args.low = c.make_way-self-inside.ensures.edge c.args.low (c.is_near.ensures.edge c.if-is_near.true) (c.is_near.ensures.first c.if-is_near.true) in
     record {
       below = c.make_way-self-inside.ensures.below;
-      from = subst (AreFrom edge) (sym c.insert.ensures.inserted) (from_inserted edge c.args.low c.args.partial near begins c.make_way-self-inside.ensures.from);
+      from = subst (AreFrom edge) (sym c.insert.ensures.inserts.inserted) (from_inserted edge c.args.low c.args.partial near begins c.make_way-self-inside.ensures.from);
       few = omega (arith, c.insert.ensures.count, c.make_way-self-inside.ensures.few);
     }
 
@@ -20,18 +20,18 @@ pub invariant_of-self-else-is_near : goal.invariant_of-self-else-is_near
 invariant_of-self-else-is_near g c =
     let s = c.self.inside in
     record {
-      below = subst (λ k. AreBelow k (g.T.AggTree.pairs c.insert-else-is_near.new.self)) (sym c.max-self-inside.ensures) (subst (AreBelow _) (sym c.insert-else-is_near.ensures.inserted) (below_inserted s.edge c.args.low c.args.partial (g.T.AggTree.pairs s.tree) c.self.invariant.below));
+      below = subst (λ k. AreBelow k (g.T.AggTree.table c.insert-else-is_near.new.self).pairs) (sym c.max-self-inside.ensures) (subst (AreBelow _) (sym c.insert-else-is_near.ensures.inserts.inserted) (below_inserted s.edge c.args.low c.args.partial (g.T.AggTree.table s.tree).pairs c.self.invariant.below));
       from = subst (λ k. AreFrom k s.near.pairs) (sym c.max-self-inside.ensures) (from_both s.edge c.args.low s.near.pairs c.self.invariant.from (c.is_near.ensures.before c.if-is_near.false));
       few = c.self.invariant.few;
     }
 
 pub returns-then-is_near-clause-inserted : goal.returns-then-is_near-clause-inserted
 returns-then-is_near-clause-inserted g c =
-    let xs = g.T.AggTree.pairs c.make_way-self-inside.new.tree in
+    let xs = (g.T.AggTree.table c.make_way-self-inside.new.tree).pairs in
     let near = c.make_way-self-inside.new.near.pairs in
     let begins : c.make_way-self-inside.result ≤ c.args.low = c.make_way-self-inside.ensures.edge c.args.low (c.is_near.ensures.edge c.if-is_near.true) (c.is_near.ensures.first c.if-is_near.true) in
     rw (← c.self.view_is)
-    (ap (λ l. xs ++ l) c.insert.ensures.inserted
+    (ap (λ l. xs ++ l) c.insert.ensures.inserts.inserted
     ∙ sym (near_inserted c.make_way-self-inside.result c.args.low c.args.partial xs near begins c.make_way-self-inside.ensures.below)
     ∙ ap (inserted c.args.low c.args.partial) c.make_way-self-inside.ensures.pairs)
 
@@ -39,5 +39,5 @@ pub returns-else-is_near-clause-inserted : goal.returns-else-is_near-clause-inse
 returns-else-is_near-clause-inserted g c =
     let s = c.self.inside in
     rw (← c.self.view_is)
-    (ap (λ l. l ++ s.near.pairs) c.insert-else-is_near.ensures.inserted
-    ∙ sym (early_inserted c.args.low c.args.partial (g.T.AggTree.pairs s.tree) s.near.pairs (from_next c.args.low s.near.pairs (c.is_near.ensures.before c.if-is_near.false))))
+    (ap (λ l. l ++ s.near.pairs) c.insert-else-is_near.ensures.inserts.inserted
+    ∙ sym (early_inserted c.args.low c.args.partial (g.T.AggTree.table s.tree).pairs s.near.pairs (from_next c.args.low s.near.pairs (c.is_near.ensures.before c.if-is_near.false))))

@@ -7,13 +7,13 @@ use Rattle.partials.proofs.partials.Partials.set.Goals as goal
 pub set-requires : goal.set-requires
 set-requires g c =
     let s = c.self.inside in
-    there_inside c.args.low (g.T.AggTree.pairs s.tree) s.near.pairs (rw (← c.self.view_is) at c.requires) (absent_before s.edge c.args.low s.near.pairs c.if-low-self.true c.self.invariant.from)
+    there_inside c.args.low (g.T.AggTree.table s.tree).pairs s.near.pairs (rw (← c.self.view_is) at c.requires) (absent_before s.edge c.args.low s.near.pairs c.if-low-self.true c.self.invariant.from)
 
 pub invariant_of-self : goal.invariant_of-self
 invariant_of-self g c =
     let s = c.self.inside in
     record {
-      below = subst (AreBelow s.edge) (sym c.set.ensures.replaced) (below_replaced s.edge c.args.low c.args.partial (g.T.AggTree.pairs s.tree) c.self.invariant.below);
+      below = subst (AreBelow s.edge) (sym c.set.ensures.replaces.replaced) (below_replaced s.edge c.args.low c.args.partial (g.T.AggTree.table s.tree).pairs c.self.invariant.below);
       from = c.self.invariant.from;
       few = c.self.invariant.few;
     }
@@ -21,7 +21,7 @@ invariant_of-self g c =
 pub set-requires-else-low-self : goal.set-requires-else-low-self
 set-requires-else-low-self g c =
     let s = c.self.inside in
-    let xs = g.T.AggTree.pairs s.tree in
+    let xs = (g.T.AggTree.table s.tree).pairs in
     there_near c.args.low xs s.near.pairs (rw (← c.self.view_is) at c.requires) (absent_behind s.edge c.args.low xs c.if-low-self.false c.self.invariant.below)
 
 pub invariant_of-self-else-low-self : goal.invariant_of-self-else-low-self
@@ -29,7 +29,7 @@ invariant_of-self-else-low-self g c =
     let s = c.self.inside in
     record {
       below = c.self.invariant.below;
-      from = subst (AreFrom s.edge) (sym c.set-else-low-self.ensures.replaced) (from_replaced s.edge c.args.low c.args.partial s.near.pairs c.self.invariant.from);
+      from = subst (AreFrom s.edge) (sym c.set-else-low-self.ensures.replaces.replaced) (from_replaced s.edge c.args.low c.args.partial s.near.pairs c.self.invariant.from);
       few = omega (arith, c.self.invariant.few, c.set-else-low-self.ensures.count);
     }
 
@@ -37,13 +37,13 @@ pub returns-then-low-self-clause-replaced : goal.returns-then-low-self-clause-re
 returns-then-low-self-clause-replaced g c =
     let s = c.self.inside in
     rw (← c.self.view_is)
-    (ap (λ l. l ++ s.near.pairs) c.set.ensures.replaced
-    ∙ sym (replaced_inside c.args.low c.args.partial (g.T.AggTree.pairs s.tree) s.near.pairs (absent_before s.edge c.args.low s.near.pairs c.if-low-self.true c.self.invariant.from)))
+    (ap (λ l. l ++ s.near.pairs) c.set.ensures.replaces.replaced
+    ∙ sym (replaced_inside c.args.low c.args.partial (g.T.AggTree.table s.tree).pairs s.near.pairs (absent_before s.edge c.args.low s.near.pairs c.if-low-self.true c.self.invariant.from)))
 
 pub returns-else-low-self-clause-replaced : goal.returns-else-low-self-clause-replaced
 returns-else-low-self-clause-replaced g c =
     let s = c.self.inside in
-    let xs = g.T.AggTree.pairs s.tree in
+    let xs = (g.T.AggTree.table s.tree).pairs in
     rw (← c.self.view_is)
-    (ap (λ l. xs ++ l) c.set-else-low-self.ensures.replaced
+    (ap (λ l. xs ++ l) c.set-else-low-self.ensures.replaces.replaced
     ∙ sym (replaced_near c.args.low c.args.partial xs s.near.pairs (absent_behind s.edge c.args.low xs c.if-low-self.false c.self.invariant.below)))

@@ -8,7 +8,7 @@ pub invariant_of-self : goal.invariant_of-self
 invariant_of-self g c =
     let s = c.self.inside in
     record {
-      below = subst (AreBelow s.edge) (sym c.take_from.ensures.pairs) (below_without s.edge c.args.low (g.T.AggTree.pairs s.tree) c.self.invariant.below);
+      below = subst (AreBelow s.edge) (sym c.take_from.ensures.pairs) (below_without s.edge c.args.low (g.T.AggTree.table s.tree).pairs c.self.invariant.below);
       from = c.self.invariant.from;
       few = c.self.invariant.few;
     }
@@ -26,26 +26,26 @@ pub returns-then-low-self-clause-value : goal.returns-then-low-self-clause-value
 returns-then-low-self-clause-value g c =
     let s = c.self.inside in
     rw (← c.self.view_is)
-    (λ b e. c.take_from.ensures.value b (sym (value_inside c.args.low (g.T.AggTree.pairs s.tree) s.near.pairs (absent_before s.edge c.args.low s.near.pairs c.if-low-self.true c.self.invariant.from)) ∙ e))
+    (λ b e. c.take_from.ensures.value b (sym (value_inside c.args.low (g.T.AggTree.table s.tree).pairs s.near.pairs (absent_before s.edge c.args.low s.near.pairs c.if-low-self.true c.self.invariant.from)) ∙ e))
 
 pub returns-then-low-self-clause-pairs : goal.returns-then-low-self-clause-pairs
 returns-then-low-self-clause-pairs g c =
     let s = c.self.inside in
     rw (← c.self.view_is)
     (ap (λ l. l ++ s.near.pairs) c.take_from.ensures.pairs
-    ∙ sym (without_inside c.args.low (g.T.AggTree.pairs s.tree) s.near.pairs (absent_before s.edge c.args.low s.near.pairs c.if-low-self.true c.self.invariant.from)))
+    ∙ sym (without_inside c.args.low (g.T.AggTree.table s.tree).pairs s.near.pairs (absent_before s.edge c.args.low s.near.pairs c.if-low-self.true c.self.invariant.from)))
 
 pub returns-else-low-self-clause-value : goal.returns-else-low-self-clause-value
 returns-else-low-self-clause-value g c =
     let s = c.self.inside in
-    let xs = g.T.AggTree.pairs s.tree in
+    let xs = (g.T.AggTree.table s.tree).pairs in
     rw (← c.self.view_is)
     (λ b e. c.take_near.ensures.value b (sym (value_near c.args.low xs s.near.pairs (absent_behind s.edge c.args.low xs c.if-low-self.false c.self.invariant.below)) ∙ e))
 
 pub returns-else-low-self-clause-pairs : goal.returns-else-low-self-clause-pairs
 returns-else-low-self-clause-pairs g c =
     let s = c.self.inside in
-    let xs = g.T.AggTree.pairs s.tree in
+    let xs = (g.T.AggTree.table s.tree).pairs in
     rw (← c.self.view_is)
     (ap (λ l. xs ++ l) c.take_near.ensures.pairs
     ∙ sym (without_near c.args.low xs s.near.pairs (absent_behind s.edge c.args.low xs c.if-low-self.false c.self.invariant.below)))
