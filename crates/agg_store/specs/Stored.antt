@@ -3,9 +3,11 @@ use Rattle.std.specs.Prelude.{◌≡◌, ℕ, List}
 use Rattle.std.specs.List.Sorted.{IsStrictlyIncreasing}
 use Rattle.stream_base.specs.declared.def.Def.{Def}
 use Rattle.stream_base.specs.declared.kept.Kept.{Kept}
+use Rattle.stream_base.specs.Laws.{TimesDoNotFall}
 use Rattle.stream_base.specs.Model.Slices.{runs_of}
 use Rattle.stream_base.specs.Model.Windows.{first_time}
 use Rattle.aggregates.specs.Bundled.{Bundled, bundle_of}
+use Rattle.run_laws.specs.Runs.{IsAligned}
 use Rattle.slice_lists.specs.Slices.{AreSlices, joined, values_of}
 
 -- the slices of a key, oldest first; its marks, rising; the greatest time up to which slices were dropped; for how many more tuples or marks there is room; and what the bounds on steps go by
@@ -23,6 +25,11 @@ tuples_of s = joined s.slices
 -- the slices are exactly those of the tuples under the windows and the marks
 abbrev pub IsSliced : List Def → Stored → Type 0
 IsSliced windows s = s.slices ≡ runs_of windows s.marks (tuples_of s)
+
+-- over tuples in event order, as those of every store are, no slice has tuples on both sides of either time
+pub record AreBounds (s : Stored) (low high : ℕ) : Type 0 where
+  pub low_parts : TimesDoNotFall (tuples_of s) → IsAligned s.slices low
+  pub high_parts : TimesDoNotFall (tuples_of s) → IsAligned s.slices high
 
 -- what holds of every store
 pub record IsStore (s : Stored) : Type 0 where

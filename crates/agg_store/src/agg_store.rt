@@ -3,9 +3,9 @@ ghost use Rattle.std.specs.Option.{option_map};
 ghost use Rattle.stream_base.specs.declared.limits.TheConstants.{TIME_MAX};
 ghost use Rattle.stream_base.specs.Model.Windows.{first_time, last_time, within};
 ghost use Rattle.aggregates.specs.Bundled.{bundle_of};
-ghost use Rattle.run_laws.specs.Runs.{IsAligned, runs_within};
+ghost use Rattle.run_laws.specs.Runs.{runs_within};
 ghost use Rattle.slice_lists.specs.Slices.{slice_of, values_of};
-ghost use Rattle.agg_store.specs.Stored.{IsStore, Stored, tuples_of};
+ghost use Rattle.agg_store.specs.Stored.{AreBounds, IsStore, Stored, tuples_of};
 
 use agg_laws::Steps;
 use aggregates::Bundle;
@@ -22,8 +22,7 @@ pub trait AggStore {
     /// The fold of the tuples with `low <= time < high` in event order, from the partials of their
     /// slices. No slice has tuples on both sides of either time.
     fn fold<L>(&self, low: u64, high: u64, steps: &mut Steps<L>) -> Bundle
-        requires low { IsAligned (stored self.now).slices low }
-        requires high { IsAligned (stored self.now).slices high }
+        requires { AreBounds (stored self.now) low high }
         ensures value { result
             ≡ bundle_of (values_of (within low high (tuples_of (stored self.now)))) }
         ensures one_each { steps.new

@@ -13,20 +13,18 @@ use Rattle.stream_base.specs.Model.Slices.{runs_of}
 use Rattle.window_laws.specs.Late.{length_of, slide_of}
 use Rattle.run_laws.specs.Runs.{IsAligned}
 use Rattle.window_laws.proofs.EdgeFacts.{interval_ends_align, interval_starts_align}
-use Rattle.agg_store.specs.Stored.{IsSliced, IsStore, Stored, tuples_of}
-use Rattle.slice_lists.proofs.SliceOrder.{times_of_order}
+use Rattle.agg_store.specs.Stored.{IsSliced, Stored, tuples_of}
 use Rattle.interval_walks.specs.Spans.{ArePartedAt, IsSpan, IsWindowAt}
 
 pub stands_among : (windows : List Def) (window : ℕ) (def : Def) → IsWindowAt windows window def → Contains windows def
 stands_among windows window def h = (window, slice_get_within windows window def h, get_or_from_slice_get windows window def def h)
 
-pub parted_at_edges : (windows : List Def) (window : ℕ) (def : Def) (s : Stored) (length slide : ℕ) → All (λ w. IsKindWithin w.kind) windows → IsWindowAt windows window def → is_timed def.kind ≡ true → IsSliced windows s → IsStore s → length ≡ length_of def.kind → slide ≡ slide_of def.kind → ArePartedAt length slide s.slices
-parted_at_edges windows window def s length slide kinds stands timed sliced o l m =
+pub parted_at_edges : (windows : List Def) (window : ℕ) (def : Def) (s : Stored) (length slide : ℕ) → All (λ w. IsKindWithin w.kind) windows → IsWindowAt windows window def → is_timed def.kind ≡ true → IsSliced windows s → length ≡ length_of def.kind → slide ≡ slide_of def.kind → ArePartedAt length slide s.slices
+parted_at_edges windows window def s length slide kinds stands timed sliced l m =
     let c = stands_among windows window def stands in
-    let h = times_of_order s.slices o.slices.ordered in
     record {
-      starts = λ k. subst (λ slices. IsAligned slices (k * slide)) (sym sliced) (subst (λ n. IsAligned (runs_of windows s.marks (tuples_of s)) (k * n)) (sym m) (interval_starts_align windows s.marks (tuples_of s) def k kinds h c timed));
-      ends = λ k. subst (λ slices. IsAligned slices (k * slide + length)) (sym sliced) (subst (λ n. IsAligned (runs_of windows s.marks (tuples_of s)) (k * n + length)) (sym m) (subst (λ n. IsAligned (runs_of windows s.marks (tuples_of s)) (k * slide_of def.kind + n)) (sym l) (interval_ends_align windows s.marks (tuples_of s) def k kinds h c timed)));
+      starts = λ h k. subst (λ slices. IsAligned slices (k * slide)) (sym sliced) (subst (λ n. IsAligned (runs_of windows s.marks (tuples_of s)) (k * n)) (sym m) (interval_starts_align windows s.marks (tuples_of s) def k kinds h c timed));
+      ends = λ h k. subst (λ slices. IsAligned slices (k * slide + length)) (sym sliced) (subst (λ n. IsAligned (runs_of windows s.marks (tuples_of s)) (k * n + length)) (sym m) (subst (λ n. IsAligned (runs_of windows s.marks (tuples_of s)) (k * slide_of def.kind + n)) (sym l) (interval_ends_align windows s.marks (tuples_of s) def k kinds h c timed)));
     }
 
 -- its intervals move on, and overlap or touch

@@ -11,6 +11,7 @@ use Rattle.run_laws.specs.Runs.{AreInOrder, IsAligned, runs_within}
 use Rattle.window_laws.specs.Walk.{next_start}
 use Rattle.slice_lists.specs.Slices.{AreSlices, joined, values_of}
 use Rattle.interval_walks.specs.Held.{partials_of}
+use Rattle.slice_lists.proofs.SliceOrder.{times_of_order}
 use Rattle.interval_walks.specs.Spans.{ArePartedAt, last_end}
 use Rattle.interval_walks.proofs.HeldFacts.{fold_of_held}
 use Rattle.interval_walks.proofs.Ranges.{fewer_from, in_two, none_turned, number_in_two}
@@ -80,7 +81,7 @@ pub shown_of_held : (span slide low k to : ℕ) (slices : List (List Kept)) (par
 shown_of_held span slide low k to slices partials bundle o parted e t h b =
     b
     ∙ ap (total empty_bundle bundles_combined) (h ∙ ap (λ n. partials_of (runs_within low n slices)) t)
-    ∙ fold_of_held low (low + span) slices o (subst (IsAligned slices) (sym e) (parted.starts k)) (subst (λ n. IsAligned slices (n + span)) (sym e) (parted.ends k))
+    ∙ fold_of_held low (low + span) slices o (subst (IsAligned slices) (sym e) (parted.starts (times_of_order slices o.ordered) k)) (subst (λ n. IsAligned slices (n + span)) (sym e) (parted.ends (times_of_order slices o.ordered) k))
 
 -- told one after another
 pub told_on : {X : Type 0} (f : ℕ → X) (before after : List X) (low : ℕ) (left rest all : List ℕ) (old : List X) → before ++ map f left ≡ old ++ map f all → left ≡ low ∷ rest → after ≡ before ++ f low ∷ [] → after ++ map f rest ≡ old ++ map f all

@@ -5,8 +5,9 @@ use Rattle.stream_base.specs.declared.def.Def.{Def}
 use Rattle.stream_base.specs.declared.kept.Kept.{Kept}
 use Rattle.stream_base.specs.declared.kind.Kind.{Kind}
 use Rattle.stream_base.specs.declared.limits.TheConstants.{FINAL, TIME_MAX}
-use Rattle.stream_base.specs.Laws.{is_timed}
+use Rattle.stream_base.specs.Laws.{TimesDoNotFall, is_timed}
 use Rattle.agg_store.specs.Stored.{IsSliced, Stored}
+use Rattle.slice_lists.specs.Slices.{joined}
 use Rattle.window_laws.specs.Late.{length_of, slide_of}
 use Rattle.run_laws.specs.Runs.{IsAligned}
 
@@ -46,7 +47,7 @@ last_end_of kind time = last_end (length_of kind) (slide_of kind) time
 abbrev pub IsEdge : ℕ → ℕ → ℕ → Type 0
 IsEdge length slide time = (time ≡ 0) ⊎ ((k : ℕ) × (time ≡ k * slide + length))
 
--- no slice has tuples on both sides of a start or an end
+-- over tuples in event order no slice has tuples on both sides of a start or an end
 pub record ArePartedAt (length slide : ℕ) (slices : List (List Kept)) : Type 0 where
-  pub starts : (k : ℕ) → IsAligned slices (k * slide)
-  pub ends : (k : ℕ) → IsAligned slices (k * slide + length)
+  pub starts : TimesDoNotFall (joined slices) → (k : ℕ) → IsAligned slices (k * slide)
+  pub ends : TimesDoNotFall (joined slices) → (k : ℕ) → IsAligned slices (k * slide + length)

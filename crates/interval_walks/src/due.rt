@@ -64,7 +64,6 @@ pub fn tell_due<Q: AggQueue<Bundle>, S: AggStore, L>(
         + length (due_from span.now.length span.now.slide (tuples_of (S.stored store.now))
         from new) }
 {
-    let _count = store.slice_count();
     let mut start = from;
     while let Some(low) = next_due(store, span, start, new) {
         tell_one(held, owner, span, store, low, out, steps);
@@ -103,7 +102,6 @@ fn tell_one<Q: AggQueue<Bundle>, S: AggStore, L>(
         (runs_within (max low (held.old).to) (low + span.now.length)
         (S.stored store.now).slices) + 1 }
 {
-    let _count = store.slice_count();
     let end = low + span.length;
     held.pull(store, low, end, steps);
     let bundle = held.fold(steps);

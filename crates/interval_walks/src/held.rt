@@ -2,7 +2,8 @@
 ghost use Rattle.std.specs.Prelude.{◌≡◌, ◌≤◌, ◌+◌, ◌*◌, ◌++◌, [], ◌∷◌, OnOk, drop, length, max, min};
 ghost use Rattle.aggregates.specs.Bundled.{bundles_combined, empty_bundle};
 ghost use Rattle.agg_laws.specs.Laws.{total};
-ghost use Rattle.run_laws.specs.Runs.{runs_within};
+ghost use Rattle.run_laws.specs.Runs.{AreInOrder, runs_within};
+ghost use Rattle.agg_store.specs.Stored.{IsStore};
 ghost use Rattle.interval_walks.specs.Held.{HasMoreRoom, HoldsFrom, LetsGo, partials_of};
 
 use crate::next::next_slice;
@@ -94,6 +95,7 @@ impl<Q: AggQueue<Bundle>> Held<Q> {
             ≡ (self.old).spare }
         ensures cost { steps.new + (self.new).credit ≤ steps.old + (self.old).credit
             + 10 * length (runs_within (max from (self.old).to) to (S.stored store.now).slices) }
+        ensures holds { IsStore (S.stored store.now) }
     {
         let mut at = from.max(self.to);
         while let Some(slice) = next_slice(store, at, to) {
@@ -101,7 +103,6 @@ impl<Q: AggQueue<Bundle>> Held<Q> {
             self.take(partial, steps);
             at = slice.high + 1;
         }
-        let _count = store.slice_count();
         self.to = self.to.max(to);
     }
 
@@ -113,6 +114,7 @@ impl<Q: AggQueue<Bundle>> Held<Q> {
         ensures held { from ≤ to → HoldsFrom from (S.stored store.now) self.old
             → HoldsFrom to (S.stored store.now) self.new }
         ensures to { (self.new).to ≡ (self.old).to }
+        ensures ordered { AreInOrder (S.stored store.now).slices }
     {
         let end = to.min(self.to);
         let mut at = from;
@@ -120,7 +122,6 @@ impl<Q: AggQueue<Bundle>> Held<Q> {
             self.let_go(steps);
             at = slice.high + 1;
         }
-        let _count = store.slice_count();
     }
 
     fn take<L>(&mut self, partial: Bundle, steps: &mut Steps<L>)

@@ -2,7 +2,7 @@
 ghost use Rattle.std.specs.Prelude.{◌≡◌, [], IfSome, IfNone, length};
 ghost use Rattle.run_laws.specs.Runs.{runs_within};
 ghost use Rattle.window_laws.specs.Walk.{due_from};
-ghost use Rattle.agg_store.specs.Stored.{tuples_of};
+ghost use Rattle.agg_store.specs.Stored.{IsStore, tuples_of};
 ghost use Rattle.interval_walks.specs.Held.{IsEndFrom, IsNextDue, IsNextIn};
 ghost use Rattle.interval_walks.specs.Walks.{MayWalk, StartsAt};
 
@@ -15,6 +15,7 @@ use stream_base::FINAL;
 pub fn next_slice<S: AggStore>(store: &S, from: u64, to: u64) -> Option<Slice>
     ensures some { IfSome result (λ slice. IsNextIn (S.stored store.now).slices from to slice) }
     ensures none { IfNone result (runs_within from to (S.stored store.now).slices ≡ []) }
+    ensures holds { IsStore (S.stored store.now) }
 {
     let slice = store.slice_from(from)?;
     if slice.low < to { Some(slice) } else { None }
@@ -27,6 +28,7 @@ pub fn next_due<S: AggStore>(store: &S, span: &Span, from: u64, new: u64) -> Opt
         (λ low. IsNextDue span.now.length span.now.slide (S.stored store.now) from new low) }
     ensures none { IfNone result
         (due_from span.now.length span.now.slide (tuples_of (S.stored store.now)) from new ≡ []) }
+    ensures holds { IsStore (S.stored store.now) }
 {
     let slice = store.slice_from(from)?;
     let low = from.max(span.next_start(slice.low));

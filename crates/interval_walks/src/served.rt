@@ -3,11 +3,10 @@ ghost use Rattle.std.specs.Prelude.{◌≡◌, All, true};
 ghost use Rattle.stream_base.specs.Laws.{is_timed};
 ghost use Rattle.stream_base.specs.Limits.{IsKindWithin};
 ghost use Rattle.window_laws.specs.Late.{length_of, slide_of};
-ghost use Rattle.agg_store.specs.Stored.{IsStore};
+ghost use Rattle.agg_store.specs.Stored.{Stored};
 ghost use Rattle.interval_walks.specs.Spans.{ArePartedAt, IsServedOver, IsWindowAt, is_served};
 
 use crate::span::Span;
-use agg_store::AggStore;
 use stream_base::{Def, Defs};
 
 /// A window, and how its intervals lie.
@@ -17,18 +16,18 @@ pub struct Served {
     pub span: Span,
 }
 
-/// The window at a place, at whose starts and ends the slices of a store part.
-pub fn serve<S: AggStore>(defs: &Defs, window: u32, store: &S) -> Served
-    requires { IsServedOver defs.now.windows window (S.stored store.now) }
+/// The window at a place. At its starts and ends the slices part of every store over which it is
+/// served.
+pub fn serve(defs: &Defs, window: u32) -> Served
+    requires { is_served defs.now.windows window ≡ true }
     ensures stands { IsWindowAt defs.now.windows window result.def }
     ensures timed { is_timed result.def.kind ≡ true }
     ensures within { IsKindWithin result.def.kind }
     ensures length { result.span.length ≡ length_of result.def.kind }
     ensures slide { result.span.slide ≡ slide_of result.def.kind }
-    ensures parted { ArePartedAt result.span.length result.span.slide (S.stored store.now).slices }
-    ensures holds { IsStore (S.stored store.now) }
+    ensures parted { (s : Stored) → IsServedOver defs.now.windows window s
+        → ArePartedAt result.span.length result.span.slide s.slices }
 {
-    let _count = store.slice_count();
     let def = window_at(defs, window);
     let span = Span::of(&def.kind);
     Served { def, span }

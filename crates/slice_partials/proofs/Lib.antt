@@ -1,5 +1,6 @@
 pub mod Folding
 pub mod PartialFacts
 pub mod EnterFacts
+pub mod CountFacts
 pub mod SplitPartials
 pub mod LeavePartials

@@ -24,7 +24,6 @@ fn add<T: AggTree<Bundle>, L>(
         runs.old partials.old runs.new partials.new }
     ensures cost { steps.new ≤ steps.old + 64 * ((partials.old).reach + 2) }
 {
-    let _count = runs.len();
     partials.insert(x.time, lifted(&x), steps);
     runs.enter(at, at, x);
 }
@@ -43,7 +42,6 @@ fn extend<T: AggTree<Bundle>, L>(
         runs.old partials.old runs.new partials.new }
     ensures cost { steps.new ≤ steps.old + 64 * ((partials.old).reach + 3) }
 {
-    let _count = runs.len();
     let low = runs.slice(at).low;
     partials.extend(low, &lifted(&x), steps);
     runs.enter(at, at + 1, x);
@@ -63,7 +61,6 @@ fn front<T: AggTree<Bundle>, L>(
         runs.old partials.old runs.new partials.new }
     ensures cost { steps.new ≤ steps.old + 128 * ((partials.old).reach + 3) }
 {
-    let _count = runs.len();
     let low = runs.slice(at).low;
     let own = partials.take(low, steps);
     let bundle = lifted(&x).combine(&own, steps);
@@ -86,7 +83,6 @@ fn refold<T: AggTree<Bundle>, L>(
     ensures cost { steps.new ≤ steps.old + (128 * ((partials.old).reach + 3)
         + length (joined (slices_between at (at + 1) (runs.old).slices))) }
 {
-    let _count = runs.len();
     let low = runs.slice(at).low;
     runs.enter(at, at + 1, x);
     let bundle = folded(runs.tuples_of(at), steps);
@@ -106,7 +102,6 @@ fn merge<T: AggTree<Bundle>, L>(
         runs.old partials.old runs.new partials.new }
     ensures cost { steps.new ≤ steps.old + 128 * ((partials.old).reach + 3) }
 {
-    let _count = runs.len();
     let low = runs.slice(at).low;
     let next = runs.slice(at + 1).low;
     let left = partials.read(low, steps);

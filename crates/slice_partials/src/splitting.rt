@@ -1,8 +1,7 @@
 //! A slice is split in two.
-ghost use Rattle.std.specs.Prelude.{◌≡◌, ◌≤◌, ◌+◌, ◌*◌, [], length, map, slice_index_or};
-ghost use Rattle.slice_lists.specs.Slices.{CanSplit, split_at};
-ghost use Rattle.agg_store.specs.Stored.{partial_of};
-ghost use Rattle.slice_partials.specs.Following.{Follow};
+ghost use Rattle.std.specs.Prelude.{◌≤◌, ◌+◌, ◌*◌, [], length, slice_index_or};
+ghost use Rattle.slice_lists.specs.Slices.{split_at};
+ghost use Rattle.slice_partials.specs.Following.{Follow, MaySplit};
 
 use crate::lifting::folded;
 use agg_laws::{AggTree, Steps};
@@ -18,15 +17,12 @@ pub fn split<T: AggTree<Bundle>, L>(
     time: u64,
     steps: &mut Steps<L>,
 )
-    requires can { CanSplit at time runs.old }
-    requires spare { 1 ≤ (partials.old).spare }
-    requires stand { (partials.old).pairs ≡ map partial_of (runs.old).slices }
+    requires { MaySplit at time runs.old partials.old }
     ensures follow { Follow (split_at at time (runs.old).slices)
         runs.old partials.old runs.new partials.new }
     ensures cost { steps.new ≤ steps.old + (128 * ((partials.old).reach + 3)
         + length (slice_index_or (runs.old).slices at [])) }
 {
-    let _count = runs.len();
     let low = runs.slice(at).low;
     runs.split(at, time);
     let next = runs.slice(at + 1).low;

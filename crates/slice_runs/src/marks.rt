@@ -1,11 +1,12 @@
 //! The marks of a key, rising.
-ghost use Rattle.std.specs.Prelude.{◌≡◌, ◌≤◌, ◌+◌, ℕ, [], ◌==◌, ◌&&◌, nat_lt, nat_le, length, slice_index, OnOk};
+ghost use Rattle.std.specs.Prelude.{◌≡◌, ◌≤◌, ◌+◌, ℕ, [], ◌==◌, ◌&&◌, nat_lt, nat_le, length, slice_index};
 ghost use Rattle.std.specs.BTreeSet.{insert_key};
 ghost use Rattle.std.specs.List.{list_any};
 ghost use Rattle.std.specs.List.Sorted.{IsStrictlyIncreasing};
 ghost use Rattle.std.specs.Ordering.{nat_cmp};
 ghost use Rattle.slice_lists.specs.Places.{IsPlaceOf};
 ghost use Rattle.slice_lists.specs.Touched.{marks_left};
+ghost use Rattle.slice_runs.specs.Marked.{Reserves};
 
 use std::alloc::Global;
 use std::marker::Model;
@@ -44,9 +45,7 @@ impl Marks {
 
     /// Makes room for one mark more.
     pub fn reserve(&mut self) -> Result<(), NoMemory>
-        ensures room { OnOk result (1 ≤ self.new.spare) }
-        ensures spare { self.old.spare ≤ self.new.spare }
-        ensures times { self.new.times ≡ self.old.times }
+        ensures { Reserves result self.old self.new }
     {
         self.times.reserve(1)?;
         Ok(())
@@ -59,7 +58,7 @@ impl Marks {
         ensures rising { IsStrictlyIncreasing self.new.times }
         ensures spare { self.old.spare ≤ self.new.spare + 1 }
     {
-        let place = before(&self.times, time);
+        let place = self.before(time);
         if !is_marked(&self.times, place, time) {
             self.times.insert(place, time).unwrap();
         }
@@ -69,7 +68,8 @@ impl Marks {
     pub fn has_between(&self, low: u64, high: u64) -> bool
         ensures { result ≡ list_any (λ m. nat_lt low m && nat_le m high) self.now.times }
     {
-        has_mark(&self.times, low, high)
+        let place = self.up_to(low);
+        place < self.times.len() && self.times[place] <= high
     }
 
     /// Leaves the marks behind a time, and of those up to it the greatest.
@@ -81,11 +81,25 @@ impl Marks {
             ≡ list_any (λ m. nat_lt a m && nat_le m b) self.old.times }
         ensures spare { self.old.spare ≤ self.new.spare }
     {
-        let count = up_to(&self.times, time);
+        let count = self.up_to(time);
         if count > 0 {
             let last = self.times[count - 1];
             self.times.retain(|mark| last <= *mark);
         }
+    }
+
+    // How many marks lie before a time.
+    fn before(&self, time: u64) -> usize
+        ensures { IsPlaceOf (λ m. m) self.now.times time result }
+    {
+        self.times.partition_point(|mark| *mark < time)
+    }
+
+    // How many marks lie at or before a time.
+    fn up_to(&self, time: u64) -> usize
+        ensures { IsPlaceOf (λ m. m) self.now.times (time + 1) result }
+    {
+        self.times.partition_point(|mark| *mark <= time)
     }
 }
 
@@ -93,28 +107,4 @@ fn is_marked(marks: &[u64], place: usize, time: u64) -> bool
     ensures { result ≡ (nat_lt place (length marks.now) && (slice_index marks.now place == time)) }
 {
     place < marks.len() && marks[place] == time
-}
-
-fn has_mark(marks: &[u64], low: u64, high: u64) -> bool
-    requires { IsStrictlyIncreasing marks.now }
-    ensures { result ≡ list_any (λ m. nat_lt low m && nat_le m high) marks.now }
-{
-    let place = up_to(marks, low);
-    place < marks.len() && marks[place] <= high
-}
-
-// How many marks lie before a time.
-fn before(marks: &[u64], time: u64) -> usize
-    requires { IsStrictlyIncreasing marks.now }
-    ensures { IsPlaceOf (λ m. m) marks.now time result }
-{
-    marks.partition_point(|mark| *mark < time)
-}
-
-// How many marks lie at or before a time.
-fn up_to(marks: &[u64], time: u64) -> usize
-    requires { IsStrictlyIncreasing marks.now }
-    ensures { IsPlaceOf (λ m. m) marks.now (time + 1) result }
-{
-    marks.partition_point(|mark| *mark <= time)
 }

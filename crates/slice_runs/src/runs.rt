@@ -1,9 +1,8 @@
 //! Tuples in event order, parted into slices.
-ghost use Rattle.std.specs.Prelude.{◌≡◌, ◌≤◌, ◌<◌, ◌+◌, ◌-◌, ◌++◌, ◌∷◌, [], length, take, drop, filter, slice_index_or, nat_le, nat_lt, OnOk, IfSome, IfNone, All, FitsSigned, false, vec_len, vec_capacity};
+ghost use Rattle.std.specs.Prelude.{◌≡◌, ◌≤◌, ◌<◌, ◌+◌, ◌-◌, ◌^◌, ◌++◌, [], length, take, drop, filter, slice_index_or, nat_le, nat_lt, OnOk, IfSome, IfNone, All, false, vec_len, vec_capacity};
 ghost use Rattle.std.specs.List.{insert};
-ghost use Rattle.std.specs.Int.{w64};
 ghost use Rattle.stream_base.specs.Model.Windows.{first_time, last_time};
-ghost use Rattle.run_laws.specs.Runs.{AreInOrder, IsAligned};
+ghost use Rattle.run_laws.specs.Runs.{IsAligned};
 ghost use Rattle.slice_lists.specs.Touched.{is_across};
 ghost use Rattle.slice_lists.specs.Sides.{IsAcrossAt};
 ghost use Rattle.slice_lists.specs.Places.{IsPlaceOf};
@@ -111,11 +110,11 @@ impl Runs {
     pub fn enter(&mut self, from: usize, to: usize, x: Kept)
         requires { CanEnter from to x self.old }
         ensures slices { (self.new).slices ≡ entered_at from to x (self.old).slices }
+        ensures holds { AreSlices (self.new).slices }
         ensures spare { (self.old).spare ≤ (self.new).spare + 1 }
     {
         let place = place_of(&self.tuples, x.time);
         put_tuple(&mut self.tuples, place, x);
-        let _count = self.tuples.len();
         enter_bounds(&mut self.bounds, from, to, x.time);
     }
 
@@ -124,6 +123,7 @@ impl Runs {
         requires place { IsPlaceOf first_time (self.old).slices time count }
         requires aligned { IsAligned (self.old).slices time }
         ensures slices { (self.new).slices ≡ drop count (self.old).slices }
+        ensures holds { AreSlices (self.new).slices }
         ensures spare { (self.old).spare ≤ (self.new).spare }
     {
         self.tuples.retain(|x| time <= x.time);
@@ -151,9 +151,9 @@ impl Runs {
     pub fn split(&mut self, at: usize, time: u64)
         requires { CanSplit at time self.old }
         ensures slices { (self.new).slices ≡ split_at at time (self.old).slices }
+        ensures holds { AreSlices (self.new).slices }
         ensures spare { (self.old).spare ≤ (self.new).spare + 1 }
     {
-        let _count = self.len();
         let (front, back) = parts_at(self.tuples_of(at), time);
         split_bounds(&mut self.bounds, at, front, back);
     }
@@ -165,6 +165,7 @@ fn put_tuple(tuples: &mut Vec<Kept>, place: usize, x: Kept)
     requires room { vec_len tuples.old < vec_capacity tuples.old }
     ensures items { tuples.new.items ≡ insert tuples.old.items place x }
     ensures len { vec_len tuples.new ≡ vec_len tuples.old + 1 }
+    ensures fits { vec_len tuples.new < 2 ^ 64 }
     ensures capacity { vec_capacity tuples.old ≤ vec_capacity tuples.new }
 {
     if place == tuples.len() {

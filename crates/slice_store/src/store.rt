@@ -1,5 +1,5 @@
 //! The store of a key's slices.
-ghost use Rattle.std.specs.Prelude.{◌≡◌, ◌≤◌, ◌<◌, ◌+◌, ◌*◌, List, [], length, filter, max, nat_lt, OnOk, All, FitsSigned, true};
+ghost use Rattle.std.specs.Prelude.{◌≡◌, ◌≤◌, ◌<◌, ◌+◌, ◌*◌, List, [], length, filter, max, nat_lt, All, FitsSigned, true};
 ghost use Rattle.std.specs.Int.{w64};
 ghost use Rattle.std.specs.BTreeSet.{insert_key};
 ghost use Rattle.std.specs.List.{flat_map, list_any};
@@ -14,8 +14,8 @@ ghost use Rattle.partials.specs.Apart.{IsReachOver};
 ghost use Rattle.slice_lists.specs.Slices.{joined, kept_at};
 ghost use Rattle.slice_lists.specs.Touched.{is_across, marks_left, slices_from};
 ghost use Rattle.agg_store.specs.Entered.{IsPut, slices_near};
-ghost use Rattle.agg_store.specs.Stored.{IsAsBefore, IsSliced, IsStore, tuples_of};
-ghost use Rattle.slice_store.specs.Placing.{MayTake, is_last, placed_in};
+ghost use Rattle.agg_store.specs.Stored.{IsSliced, IsStore, tuples_of};
+ghost use Rattle.slice_store.specs.Placing.{MayTake, Reserves, is_last, placed_in};
 
 use crate::placed::Placed;
 use agg_laws::{AggTree, Steps};
@@ -82,9 +82,7 @@ impl<T: AggTree<Bundle>> SliceStore<T> {
 
     /// Makes room for one tuple or mark more.
     pub fn reserve(&mut self) -> Result<(), NoMemory>
-        ensures room { OnOk result (1 ≤ self.new.spare) }
-        ensures spare { self.old.spare ≤ self.new.spare }
-        ensures kept { IsAsBefore self.old self.new }
+        ensures { Reserves T.bounded result self.old self.new }
     {
         self.runs.reserve()?;
         self.marks.reserve()?;
@@ -122,10 +120,10 @@ impl<T: AggTree<Bundle>> SliceStore<T> {
         ensures in_order { is_last time self.old ≡ true
             → steps.new ≤ steps.old + 128 * (self.old.reach + 3) }
     {
-        let _windows = defs.windows();
+        let windows = defs.windows();
         let at = self.runs.up_to(time);
-        let from = first_entered(&self.runs, defs, &self.marks, at, time);
-        let to = last_entered(&self.runs, defs, &self.marks, at, time);
+        let from = first_entered(&self.runs, windows, &self.marks, at, time);
+        let to = last_entered(&self.runs, windows, &self.marks, at, time);
         let last = self.runs.are_by(time);
         let x = kept_at(pos, time, value);
         enter(&mut self.runs, &mut self.partials, from, to, x, steps);
@@ -191,7 +189,6 @@ impl<T: AggTree<Bundle>> AggStore for SliceStore<T> {
     ghost stored = { λ s. s };
 
     fn fold<L>(&self, low: u64, high: u64, steps: &mut Steps<L>) -> Bundle {
-        let _count = self.runs.len();
         self.partials.fold_range(low, high, steps)
     }
 

@@ -1,6 +1,6 @@
-ghost use Rattle.std.specs.Prelude.{◌≡◌, ◌≤◌, ◌+◌, IfOk, OnOk, max};
+ghost use Rattle.std.specs.Prelude.{◌≡◌, ◌+◌, IfOk, OnOk, max};
 ghost use Rattle.stream_base.specs.declared.limits.TheConstants.{TIME_MAX};
-ghost use Rattle.slice_tests.specs.Together.{AreOfMarks, HaveCome};
+ghost use Rattle.slice_tests.specs.Together.{AreOfMarks, ForgetsNone, HaveCome, MayCome, StandsAt};
 
 use crate::told::{Work, again, gone, is_cut, new};
 use agg_laws::{AggTree, Steps};
@@ -66,9 +66,7 @@ impl<T: AggTree<Bundle>> MarksWindow<T> {
 
     // Takes the steps, one after another; each comes with how many changes were told by then.
     fn follow(&mut self, rt: &impl Abort, script: &[(Step, usize)]) -> Result<(), Fail>
-        requires together { AreOfMarks self.old.defs self.old.store self.old.between }
-        requires few { HaveCome 0 self.old.store }
-        requires known { (self.old.between).forgotten ≡ self.old.forgotten }
+        requires { StandsAt 0 self.old.defs self.old.store self.old.between self.old.forgotten }
     {
         for k in 0..script.len() {
             let (step, told) = script[k];
@@ -79,9 +77,7 @@ impl<T: AggTree<Bundle>> MarksWindow<T> {
     }
 
     fn take(&mut self, rt: &impl Abort, pos: u64, step: Step) -> Result<(), Fail>
-        requires together { AreOfMarks self.old.defs self.old.store self.old.between }
-        requires few { HaveCome pos self.old.store }
-        requires known { (self.old.between).forgotten ≡ self.old.forgotten }
+        requires { StandsAt pos self.old.defs self.old.store self.old.between self.old.forgotten }
         ensures together { OnOk result
             (AreOfMarks self.new.defs self.new.store self.new.between) }
         ensures few { OnOk result (HaveCome (pos + 1) self.new.store) }
@@ -108,15 +104,12 @@ impl<T: AggTree<Bundle>> MarksWindow<T> {
 
     // One tuple more under a watermark.
     fn put(&mut self, pos: u64, time: u64, value: i64, water: u64) -> Result<(), Fail>
-        requires together { AreOfMarks self.old.defs self.old.store self.old.between }
-        requires few { HaveCome pos self.old.store }
-        requires unsettled { (self.old.between).forgotten ≤ time }
-        requires time { time ≤ TIME_MAX }
+        requires { MayCome pos time self.old.defs self.old.store self.old.between }
         ensures together { OnOk result
             (AreOfMarks self.new.defs self.new.store self.new.between) }
         ensures few { OnOk result (HaveCome (pos + 1) self.new.store) }
-        ensures same { (self.new.between).forgotten ≡ (self.old.between).forgotten }
-        ensures forgotten { self.new.forgotten ≡ self.old.forgotten }
+        ensures forgets { ForgetsNone self.old.between self.old.forgotten
+            self.new.between self.new.forgotten }
     {
         slices_part_at_edges();
         self.store.reserve()?;
@@ -143,15 +136,12 @@ impl<T: AggTree<Bundle>> MarksWindow<T> {
 
     // One mark more under a watermark.
     fn mark(&mut self, pos: u64, time: u64, water: u64) -> Result<(), Fail>
-        requires together { AreOfMarks self.old.defs self.old.store self.old.between }
-        requires few { HaveCome pos self.old.store }
-        requires unsettled { (self.old.between).forgotten ≤ time }
-        requires time { time ≤ TIME_MAX }
+        requires { MayCome pos time self.old.defs self.old.store self.old.between }
         ensures together { OnOk result
             (AreOfMarks self.new.defs self.new.store self.new.between) }
         ensures few { OnOk result (HaveCome (pos + 1) self.new.store) }
-        ensures same { (self.new.between).forgotten ≡ (self.old.between).forgotten }
-        ensures forgotten { self.new.forgotten ≡ self.old.forgotten }
+        ensures forgets { ForgetsNone self.old.between self.old.forgotten
+            self.new.between self.new.forgotten }
     {
         slices_part_at_edges();
         self.store.reserve()?;
@@ -177,8 +167,8 @@ impl<T: AggTree<Bundle>> MarksWindow<T> {
         requires { AreOfMarks self.old.defs self.old.store self.old.between }
         ensures together { AreOfMarks self.new.defs self.new.store self.new.between }
         ensures store { self.new.store ≡ self.old.store }
-        ensures same { (self.new.between).forgotten ≡ (self.old.between).forgotten }
-        ensures forgotten { self.new.forgotten ≡ self.old.forgotten }
+        ensures forgets { ForgetsNone self.old.between self.old.forgotten
+            self.new.between self.new.forgotten }
     {
         slices_part_at_edges();
         is_cut(&self.defs, &self.store);

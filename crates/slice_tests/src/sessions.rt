@@ -1,7 +1,7 @@
-ghost use Rattle.std.specs.Prelude.{◌≡◌, ◌≤◌, IfOk, OnOk, max};
+ghost use Rattle.std.specs.Prelude.{◌≡◌, IfOk, OnOk, max};
 ghost use Rattle.stream_base.specs.declared.limits.TheConstants.{TIME_MAX};
 ghost use Rattle.context_windows.specs.Spanned.{IsSessionAt};
-ghost use Rattle.slice_tests.specs.Together.{AreOfSessions};
+ghost use Rattle.slice_tests.specs.Together.{AreKnown, AreOfSessions, MayJoin};
 
 use crate::told::{Work, again, gone, is_cut, new};
 use agg_laws::{AggTree, Steps};
@@ -59,8 +59,7 @@ impl<T: AggTree<Bundle>> SessionWindow<T> {
 
     // Takes the steps, one after another; each comes with how many changes were told by then.
     fn follow(&mut self, rt: &impl Abort, script: &[(Step, usize)]) -> Result<(), Fail>
-        requires together { AreOfSessions self.old.defs self.old.store self.old.sessions }
-        requires known { (self.old.sessions).forgotten ≡ self.old.forgotten }
+        requires { AreKnown self.old.defs self.old.store self.old.sessions self.old.forgotten }
     {
         for k in 0..script.len() {
             let (step, told) = script[k];
@@ -71,8 +70,7 @@ impl<T: AggTree<Bundle>> SessionWindow<T> {
     }
 
     fn take(&mut self, rt: &impl Abort, pos: u64, step: Step) -> Result<(), Fail>
-        requires together { AreOfSessions self.old.defs self.old.store self.old.sessions }
-        requires known { (self.old.sessions).forgotten ≡ self.old.forgotten }
+        requires { AreKnown self.old.defs self.old.store self.old.sessions self.old.forgotten }
         ensures together { OnOk result
             (AreOfSessions self.new.defs self.new.store self.new.sessions) }
         ensures known { OnOk result ((self.new.sessions).forgotten ≡ self.new.forgotten) }
@@ -93,9 +91,7 @@ impl<T: AggTree<Bundle>> SessionWindow<T> {
 
     // One tuple more under a watermark.
     fn put(&mut self, pos: u64, time: u64, value: i64, water: u64) -> Result<(), Fail>
-        requires together { AreOfSessions self.old.defs self.old.store self.old.sessions }
-        requires unsettled { (self.old.sessions).forgotten ≤ time }
-        requires time { time ≤ TIME_MAX }
+        requires { MayJoin time self.old.defs self.old.store self.old.sessions }
         ensures together { OnOk result
             (AreOfSessions self.new.defs self.new.store self.new.sessions) }
         ensures same { (self.new.sessions).forgotten ≡ (self.old.sessions).forgotten }

@@ -1,6 +1,5 @@
-ghost use Rattle.std.specs.Prelude.{◌≤◌};
-ghost use Rattle.stream_base.specs.declared.limits.TheConstants.{TIME_MAX};
 ghost use Rattle.agg_store.specs.Stored.{IsSliced};
+ghost use Rattle.slice_tests.specs.Together.{MayEnter};
 
 use agg_laws::{AggTree, Steps};
 use agg_store::AggStore;
@@ -25,8 +24,7 @@ fn put<T: AggTree<Bundle>>(
     value: i64,
     steps: &mut Steps<Work>,
 ) -> Result<Placed, NoMemory>
-    requires sliced { IsSliced defs.now.windows store.old }
-    requires time { time ≤ TIME_MAX }
+    requires { MayEnter time defs.now.windows store.old }
     ensures sliced { IsSliced defs.now.windows store.new }
 {
     store.reserve()?;
@@ -40,8 +38,7 @@ fn mark<T: AggTree<Bundle>>(
     time: u64,
     steps: &mut Steps<Work>,
 ) -> Result<bool, NoMemory>
-    requires sliced { IsSliced defs.now.windows store.old }
-    requires time { time ≤ TIME_MAX }
+    requires { MayEnter time defs.now.windows store.old }
     ensures sliced { IsSliced defs.now.windows store.new }
 {
     store.reserve()?;

@@ -26,7 +26,7 @@ use Rattle.slice_lists.specs.Touched.{is_near, slices_from}
 use Rattle.agg_store.specs.Entered.{IsPut, slices_near}
 use Rattle.slice_lists.specs.Slices.{joined}
 use Rattle.agg_store.specs.Stored.{IsSliced, IsStore, Stored}
-use Rattle.slice_lists.proofs.SliceOrder.{IsApart, IsNear, first_below_last}
+use Rattle.slice_lists.proofs.SliceOrder.{IsApart, IsNear, first_below_last, times_of_order}
 use Rattle.interval_walks.specs.Held.{partials_of}
 use Rattle.time_lanes.specs.Lane.{IsAsBefore, IsSameUpTo, Knows, KnowsAll, Laned}
 use Rattle.interval_walks.specs.Spans.{ArePartedAt, IsEdge, IsWindowAt, last_end, last_end_of}
@@ -95,12 +95,12 @@ one_parted low edge time run r l (inr h) = by (cases_Bool (nat_lt (first_time ru
 
 module _ (windows : List Def) (window : ℕ) (def : Def) (old : Stored) (kinds : All (λ w. IsKindWithin w.kind) windows) (stands : IsWindowAt windows window def) (timed : is_timed def.kind ≡ true) (o : IsStore old) (sliced : IsSliced windows old) where
   edges : ArePartedAt (length_of def.kind) (slide_of def.kind) old.slices
-  edges = parted_at_edges windows window def old (length_of def.kind) (slide_of def.kind) kinds stands timed sliced o refl refl
+  edges = parted_at_edges windows window def old (length_of def.kind) (slide_of def.kind) kinds stands timed sliced refl refl
 
   -- a slice lies on one side of an edge
   side : (edge : ℕ) → IsEdge (length_of def.kind) (slide_of def.kind) edge → (run : List Kept) → Contains old.slices run → (last_time run < edge) ⊎ (edge ≤ first_time run)
   side edge (inl z) run c = inr (omega arith)
-  side edge (inr h) run c = subst (λ e. (last_time run < e) ⊎ (e ≤ first_time run)) (sym h.1) (All-contains (λ (r : List Kept). (last_time r < h.0 * slide_of def.kind + length_of def.kind) ⊎ (h.0 * slide_of def.kind + length_of def.kind ≤ first_time r)) old.slices run (edges.ends h.0) c)
+  side edge (inr h) run c = subst (λ e. (last_time run < e) ⊎ (e ≤ first_time run)) (sym h.1) (All-contains (λ (r : List Kept). (last_time r < h.0 * slide_of def.kind + length_of def.kind) ⊎ (h.0 * slide_of def.kind + length_of def.kind ≤ first_time r)) old.slices run (edges.ends (times_of_order old.slices o.slices.ordered) h.0) c)
 
   -- a tuple behind an edge isn't near to a slice before it
   near_behind : (edge : ℕ) (x : Kept) → IsEdge (length_of def.kind) (slide_of def.kind) edge → edge ≤ x.time → (run : List Kept) → Contains (slices_near windows x.time old) run → first_time run ≤ last_time run → edge ≤ first_time run

@@ -88,7 +88,7 @@ impl<Q: AggQueue<Bundle>> Lane<Q> {
         ensures number { (def : Def) → IsWindowAt defs.now.windows window def → IfOk result
             (λ n. n ≡ length (completed_starts def.kind (tuples_of (S.stored store.now)) old new)) }
     {
-        let Served { span, .. } = serve(defs, window, store);
+        let Served { span, .. } = serve(defs, window);
         let start = span.next_start(old);
         let from = if self.stale {
             start
@@ -152,7 +152,7 @@ impl<Q: AggQueue<Bundle>> Lane<Q> {
             + length (slices_in_last def.kind (S.stored store.now) old))
             + length (completed_starts def.kind (tuples_of (S.stored store.now)) old new) }
     {
-        let Served { def, span } = serve(defs, window, store);
+        let Served { def, span } = serve(defs, window);
         let owner = Owner {
             window,
             key,
@@ -217,7 +217,7 @@ impl<Q: AggQueue<Bundle>> Lane<Q> {
         ensures work { AppendsWithin (64 * ((S.stored store.now).reach + 2)) into.old into.new
             steps.old steps.new }
     {
-        let Served { def, span } = serve(defs, window, store);
+        let Served { def, span } = serve(defs, window);
         let found = complete_at(&span, time, water);
         append_formers(def.func, &span, store, found, into, steps);
     }
@@ -255,7 +255,7 @@ impl<Q: AggQueue<Bundle>> Lane<Q> {
         ensures work { AppendsWithin (64 * ((S.stored store.now).reach + 2)) out.old out.new
             steps.old steps.new }
     {
-        let Served { def, span } = serve(defs, window, store);
+        let Served { def, span } = serve(defs, window);
         let owner = Owner {
             window,
             key,
@@ -272,7 +272,7 @@ impl<Q: AggQueue<Bundle>> Lane<Q> {
         ensures { (def : Def) (marks : List ℕ) → IsWindowAt defs.now.windows window def
             → result ≡ first_open (moment (tuples_of (S.stored store.now)) marks water) def }
     {
-        let Served { span, .. } = serve(defs, window, store);
+        let Served { span, .. } = serve(defs, window);
         end_from(store, &span, span.next_start(water))
     }
 

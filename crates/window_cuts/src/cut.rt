@@ -1,22 +1,27 @@
 ghost use Rattle.std.specs.Prelude.{◌≡◌, ◌≤◌, ◌↔◌, [], IsTrue};
 ghost use Rattle.std.specs.List.{Any};
-ghost use Rattle.stream_base.specs.Limits.{IsKindWithin};
+ghost use Rattle.stream_base.specs.Limits.{AreTimes, IsKindWithin, MayCut};
 ghost use Rattle.stream_base.specs.Model.Cuts.{CutsBetween, cuts_between, has_cut, has_bound};
 
-use stream_base::{Defs, Kind, TIME_MAX};
+use stream_base::{Def, Defs, Kind};
 
 /// Whether there is a cut between two times: a tumbling or sliding window starts or ends after
 /// `low` and at or before `high`, or they are at least the least session gap apart. No interval is
 /// walked: how far the last start or end lies before `high` is the remainder of a division.
 pub fn cut_between(defs: &Defs, low: u64, high: u64) -> bool
-    requires ordered { low ≤ high }
-    requires in_time { high ≤ TIME_MAX }
+    requires { AreTimes low high }
     ensures exactly { IsTrue result ↔ Any (λ w. CutsBetween w.kind low high) defs.now.windows }
     ensures computed { result ≡ has_cut defs.now.windows [] low high }
 {
-    defs.windows()
-        .iter()
-        .any(|window| cuts(&window.kind, low, high))
+    have_cut(defs.windows(), low, high)
+}
+
+/// The same of windows within their limits.
+pub fn have_cut(windows: &[Def], low: u64, high: u64) -> bool
+    requires { MayCut windows.now low high }
+    ensures { result ≡ has_cut windows.now [] low high }
+{
+    windows.iter().any(|window| cuts(&window.kind, low, high))
 }
 
 fn cuts(kind: &Kind, low: u64, high: u64) -> bool

@@ -7,4 +7,4 @@
 
 mod cut;
 
-pub use cut::cut_between;
+pub use cut::{cut_between, have_cut};

@@ -15,7 +15,7 @@ tell_one-requires-clause-room g c =
     let d = c.in-Some.ensures.some in
     let low = c.in-Some.low in
     let last = end_by span.length span.slide (d.multiple).0 c.args.new span.within.moves (omega (arith, (d.multiple).1, d.ends)) in
-    room_in_part span.length span.slide low c.loop-low.start c.loop-low.held.to (last_end span.length span.slide c.args.new) c.loop-low.held.spare s.slices span.within.overlaps d.onward (omega (arith, (d.multiple).1, last)) c.slice_count-count.ensures.holds.slices.ordered
+    room_in_part span.length span.slide low c.loop-low.start c.loop-low.held.to (last_end span.length span.slide c.args.new) c.loop-low.held.spare s.slices span.within.overlaps d.onward (omega (arith, (d.multiple).1, last)) c.in-Some.ensures.holds.slices.ordered
     (omega (arith, c.loop-low.invariant.room, c.requires.room))
 
 pub loop-low-preserved : goal.loop-low-preserved
@@ -26,7 +26,7 @@ loop-low-preserved g c =
     let low = c.in-Some.low in
     let h = c.loop-low.invariant in
     let t = c.tell_one.ensures in
-    let o = c.slice_count-count.ensures.holds.slices.ordered in
+    let o = c.in-Some.ensures.holds.slices.ordered in
     let k = (d.multiple).0 in
     let ends = end_by span.length span.slide k c.args.new span.within.moves (omega (arith, (d.multiple).1, d.ends)) in
     let last = last_end span.length span.slide c.args.new in

@@ -3,5 +3,5 @@ use Rattle.interval_walks.proofs.ServedFacts.{parted_at_edges}
 use Rattle.interval_walks.proofs.served.serve.Goals as goal
 
 pub returns-clause-parted : goal.returns-clause-parted
-returns-clause-parted g c =
-    parted_at_edges c.args.defs.now.windows c.args.window c.window_at-def.result (g.S.AggStore.stored c.args.store.now) c.of-span.result.length c.of-span.result.slide c.window_at-def.ensures.kinds c.window_at-def.ensures.stands c.window_at-def.ensures.timed c.requires.sliced c.slice_count-count.ensures.holds c.of-span.ensures.length c.of-span.ensures.slide
+returns-clause-parted c = λ s over.
+    parted_at_edges c.args.defs.now.windows c.args.window c.window_at-def.result s c.of-span.result.length c.of-span.result.slide c.window_at-def.ensures.kinds c.window_at-def.ensures.stands c.window_at-def.ensures.timed over.sliced c.of-span.ensures.length c.of-span.ensures.slide

@@ -7,6 +7,7 @@ use Rattle.slice_partials.proofs.entering.enter.Goals as goal
 
 pub add-requires : goal.add-requires
 add-requires g c = record {
+  holds = c.requires.holds;
   can = can_alone c.args.from c.args.to c.args.x c.args.runs.now c.requires.can c.if-count-eq0.true;
   spare = c.requires.spare;
   stand = c.requires.stand;

@@ -12,7 +12,11 @@ use Rattle.slice_lists.specs.Slices.{values_of}
 use Rattle.agg_store.specs.Stored.{partial_of}
 use Rattle.slice_lists.proofs.SliceFacts.{values_at}
 use Rattle.slice_partials.proofs.PartialFacts.{extended_there, partial_found, partial_is_value, partial_there}
+use Rattle.slice_partials.proofs.CountFacts.{few_slices}
 use Rattle.slice_partials.proofs.entering.extend.Goals as goal
+
+pub overflow_add-at : goal.overflow_add-at
+overflow_add-at g c = omega (arith, c.requires.may.can.within, few_slices c.args.runs.now.slices c.requires.may.holds)
 
 pub extend-requires : goal.extend-requires
 extend-requires g c =
@@ -36,6 +40,7 @@ returns-clause-follow g c =
     ∙ bundle_of-append (values_of p) (x.value ∷ []) (values_at runs c.args.at l c.slice-low.ensures.holds) (All-cons (FitsSigned w64) x.value [] c.requires.may.can.value (All-nil (FitsSigned w64))) in
     record {
       slices = c.enter.ensures.slices;
+      holds = c.enter.ensures.holds;
       stand = c.extend.ensures.extended (bundle_of (values_of p)) (partial_is_value runs c.args.at l c.slice-low.ensures.holds) found
           ∙ (λ i. replaced (ap (λ (s : Slice). s.low) c.slice-low.ensures.shown i) (bundles_combined (bundle_of (values_of p)) c.lifted.result) (c.requires.may.stand i))
           ∙ extended_there runs c.args.at (c.args.at + 1) x c.slice-low.ensures.holds.ordered c.requires.may.can.ordered refl l c.requires.late (bundles_combined (bundle_of (values_of p)) c.lifted.result) both

@@ -11,7 +11,11 @@ use Rattle.slice_lists.specs.Slices.{values_of}
 use Rattle.agg_store.specs.Stored.{partial_of}
 use Rattle.slice_partials.proofs.PartialFacts.{fronted_absent, fronted_there, partial_found}
 use Rattle.slice_lists.proofs.SliceFacts.{values_at}
+use Rattle.slice_partials.proofs.CountFacts.{few_slices}
 use Rattle.slice_partials.proofs.entering.front.Goals as goal
+
+pub overflow_add-at : goal.overflow_add-at
+overflow_add-at g c = omega (arith, c.requires.may.can.within, few_slices c.args.runs.now.slices c.requires.may.holds)
 
 pub insert-requires-clause-absent : goal.insert-requires-clause-absent
 insert-requires-clause-absent g c =
@@ -35,6 +39,7 @@ returns-clause-follow g c =
     c.combine-bundle.ensures.joined ((c.args.x).value ∷ []) (values_of p) (All-cons (FitsSigned w64) (c.args.x).value [] c.requires.may.can.value (All-nil (FitsSigned w64))) (values_at runs c.args.at l c.slice-low.ensures.holds) c.lifted.ensures own in
     record {
       slices = c.enter.ensures.slices;
+      holds = c.enter.ensures.holds;
       stand = c.insert.ensures.inserted
           ∙ ap (inserted (c.args.x).time c.combine-bundle.result) c.take-own.ensures.pairs
           ∙ (λ i. inserted (c.args.x).time c.combine-bundle.result (without (ap (λ (s : Slice). s.low) c.slice-low.ensures.shown i) (c.requires.may.stand i)))

@@ -12,7 +12,14 @@ use Rattle.slice_lists.specs.Slices.{slice_of, values_of}
 use Rattle.agg_store.specs.Stored.{partial_of}
 use Rattle.slice_lists.proofs.SliceFacts.{values_at}
 use Rattle.slice_partials.proofs.PartialFacts.{merged_is, merged_there, partial_found, partial_is_value}
+use Rattle.slice_partials.proofs.CountFacts.{few_slices}
 use Rattle.slice_partials.proofs.entering.merge.Goals as goal
+
+pub overflow_add-at : goal.overflow_add-at
+overflow_add-at g c = omega (arith, c.requires.can.within, few_slices c.args.runs.now.slices c.requires.holds)
+
+pub overflow_add-at-2 : goal.overflow_add-at-2
+overflow_add-at-2 g c = omega (arith, c.requires.can.within, few_slices c.args.runs.now.slices c.requires.holds)
 
 pub set-requires : goal.set-requires
 set-requires g c =
@@ -50,6 +57,7 @@ returns-clause-follow g c =
     let between = c.requires.can.between refl in
     record {
       slices = c.enter.ensures.slices;
+      holds = c.enter.ensures.holds;
       stand = c.set.ensures.replaced
           ∙ ap (replaced c.slice-low.result.low c.combine-bundle.result) c.take-right.ensures.pairs
           ∙ (λ i. replaced (ap (λ (s : Slice). s.low) c.slice-low.ensures.shown i) c.combine-bundle.result (without (ap (λ (s : Slice). s.low) next i) (c.requires.stand i)))

@@ -9,7 +9,11 @@ use Rattle.slice_lists.specs.Slices.{values_of}
 use Rattle.agg_store.specs.Stored.{partial_of}
 use Rattle.slice_lists.proofs.SliceFacts.{entered_there, refolded_length}
 use Rattle.slice_partials.proofs.PartialFacts.{partial_there, refolded_there}
+use Rattle.slice_partials.proofs.CountFacts.{few_slices}
 use Rattle.slice_partials.proofs.entering.refold.Goals as goal
+
+pub overflow_add-at : goal.overflow_add-at
+overflow_add-at g c = omega (arith, c.requires.may.can.within, few_slices c.args.runs.now.slices c.requires.may.holds)
 
 pub set-requires : goal.set-requires
 set-requires g c =
@@ -26,6 +30,7 @@ returns-clause-follow g c =
     c.tuples_of.ensures ∙ ap (λ rs. get_or rs c.args.at []) c.enter.ensures.slices ∙ entered_there runs c.args.at (c.args.at + 1) c.args.x refl l in
     record {
       slices = c.enter.ensures.slices;
+      holds = c.enter.ensures.holds;
       stand = c.set.ensures.replaced
           ∙ (λ i. replaced (ap (λ (s : Slice). s.low) c.slice-low.ensures.shown i) c.folded-bundle.result (c.requires.may.stand i))
           ∙ refolded_there runs c.args.at (c.args.at + 1) c.args.x c.slice-low.ensures.holds.ordered c.requires.may.can.ordered refl l c.requires.late c.folded-bundle.result (c.folded-bundle.ensures.value ∙ ap (λ ts. bundle_of (values_of ts)) own)

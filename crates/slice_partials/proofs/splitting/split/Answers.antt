@@ -13,7 +13,14 @@ use Rattle.agg_store.specs.Stored.{partial_of}
 use Rattle.slice_lists.proofs.MarkFacts.{parts_length, split_first, split_longer, split_second}
 use Rattle.slice_partials.proofs.SplitPartials.{split_absent, split_there}
 use Rattle.slice_partials.proofs.PartialFacts.{partial_there}
+use Rattle.slice_partials.proofs.CountFacts.{few_slices}
 use Rattle.slice_partials.proofs.splitting.split.Goals as goal
+
+pub overflow_add-at : goal.overflow_add-at
+overflow_add-at g c = omega (arith, c.requires.can.within, few_slices c.args.runs.now.slices c.requires.holds)
+
+pub overflow_add-at-2 : goal.overflow_add-at-2
+overflow_add-at-2 g c = omega (arith, c.requires.can.within, few_slices c.args.runs.now.slices c.requires.holds)
 
 pub slice-next-requires : goal.slice-next-requires
 slice-next-requires g c =
@@ -51,6 +58,7 @@ returns-clause-follow g c =
     let back = c.folded-back.ensures.value ∙ ap (λ ts. bundle_of (values_of ts)) (c.tuples_of-2.ensures ∙ ap (λ rs. get_or rs (at + 1) []) c.split.ensures.slices ∙ split_second runs at time c.requires.can.within) in
     record {
       slices = c.split.ensures.slices;
+      holds = c.split.ensures.holds;
       stand = c.insert.ensures.inserted
           ∙ (λ i. inserted (ap (λ (s : Slice). s.low) next i) c.folded-back.result (c.set.ensures.replaced i))
           ∙ (λ i. inserted (first_time (filter (λ (x : Kept). nat_le time x.time) (get_or runs at []))) c.folded-back.result (replaced (ap (λ (s : Slice). s.low) c.slice-low.ensures.shown i) c.folded-front.result (c.requires.stand i)))

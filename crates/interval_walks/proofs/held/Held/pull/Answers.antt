@@ -16,5 +16,5 @@ returns-clause-held g c = λ h.
     ∙ sym (ap (λ l. c.loop-slice.self.partials ++ partials_of l) none ∙ append-nil c.loop-slice.self.partials)
     ∙ c.loop-slice.invariant.partials
     ∙ ap (λ n. c.args.self.now.partials ++ partials_of (runs_within n c.args.to s)) from_is
-    ∙ pulled c.args.from c.args.self.now.to c.args.to s c.args.self.now.partials c.slice_count-count.ensures.holds.slices.ordered h
+    ∙ pulled c.args.from c.args.self.now.to c.args.to s c.args.self.now.partials c.in_default.ensures.holds.slices.ordered h
     ∙ ap (λ n. partials_of (runs_within c.args.from n s)) (sym to_is)

@@ -14,5 +14,5 @@ returns-clause-held g c = λ le h.
     sym (ap (λ l. drop (length l) c.loop-slice.self.partials) none ∙ drop_none c.loop-slice.self.partials)
     ∙ c.loop-slice.invariant.partials
     ∙ ap (λ n. drop (length (runs_within c.args.from n s)) c.args.self.now.partials) end_is
-    ∙ shed_from c.args.from c.args.to c.args.self.now.to s c.args.self.now.partials c.slice_count-count.ensures.holds.slices.ordered le h
+    ∙ shed_from c.args.from c.args.to c.args.self.now.to s c.args.self.now.partials c.in_default.ensures.holds.slices.ordered le h
     ∙ ap (λ n. partials_of (runs_within c.args.to n s)) (sym c.loop-slice.invariant.to)

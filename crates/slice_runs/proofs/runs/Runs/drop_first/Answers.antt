@@ -39,3 +39,6 @@ returns-clause-slices c =
     (parted_again (drop c.args.count runs) c.retain-2.new.self.items c.retain.new.self.items
     (bounds ∙ bounds_left runs time c.args.count place order aligned a.bounds.items c.self.invariant.shown)
     (tuples ∙ ap (filter (λ (x : Kept). nat_le time x.time)) (sym c.self.invariant.together) ∙ tuples_left runs time c.args.count place order aligned))
+
+pub returns-clause-holds : goal.returns-clause-holds
+returns-clause-holds c = let kept = invariant_of-self c in kept.hold

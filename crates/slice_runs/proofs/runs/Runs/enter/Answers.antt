@@ -20,7 +20,7 @@ enter_bounds-requires-clause-number c =
     let number = entered_number runs a.bounds.items c.args.from c.args.to c.args.x c.requires.order c.requires.few c.self.invariant.hold.ordered c.self.invariant.shown in
     let n : length (joined runs) ≡ length a.tuples.items = ap length c.self.invariant.together in
     let longer : length c.put_tuple.new.tuples.items ≡ length a.tuples.items + 1 = ap length c.put_tuple.ensures.items ∙ length-insert a.tuples.items c.place_of-place.result c.args.x (rw c.deref.ensures.value at c.place_of-place.ensures.within) in
-    omega (arith, number, n, longer, c.len-count.ensures, c.len-count.type_inv)
+    omega (arith, number, n, longer, c.put_tuple.ensures.fits)
 
 pub invariant_of-self : goal.invariant_of-self
 invariant_of-self c =
@@ -48,3 +48,6 @@ returns-clause-slices c =
     rw (← c.self.view_is)
     (parted_again (entered_at c.args.from c.args.to c.args.x runs) c.enter_bounds.new.bounds.items c.put_tuple.new.tuples.items slices
     (placed ∙ ap (λ l. put_in_order l c.args.x) (sym c.self.invariant.together) ∙ entered_tuples runs c.args.from c.args.to c.args.x c.requires.order ordered))
+
+pub returns-clause-holds : goal.returns-clause-holds
+returns-clause-holds c = let kept = invariant_of-self c in kept.hold

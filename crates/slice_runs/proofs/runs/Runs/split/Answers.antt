@@ -17,7 +17,7 @@ parts_at-requires c =
     let run = get_or c.args.self.now.slices c.args.at [] in
     subst (AreAcross c.args.time) (sym c.tuples_of.ensures)
     (record {
-      in_order = run_in_order run (run_of c.args.self.now.slices c.args.at c.requires.within c.len-count.ensures.holds.ordered);
+      in_order = run_in_order run (run_of c.args.self.now.slices c.args.at c.requires.within (rw (← c.self.view_is) c.self.invariant.hold.ordered));
       before = c.requires.before;
       behind = c.requires.behind;
     })
@@ -57,3 +57,6 @@ returns-clause-slices c =
     let bounds : c.split_bounds.new.bounds.items ≡ map slice_of (split_at at time runs) = c.split_bounds.ensures.items ∙ split_shown runs at time l a.bounds.items _ _ c.self.invariant.shown front back in
     let tuples : a.tuples.items ≡ joined (split_at at time runs) = sym c.self.invariant.together ∙ split_tuples runs at time l whole in
     rw (← c.self.view_is) (parted_again (split_at at time runs) c.split_bounds.new.bounds.items a.tuples.items bounds tuples)
+
+pub returns-clause-holds : goal.returns-clause-holds
+returns-clause-holds c = let kept = invariant_of-self c in kept.hold

@@ -7,11 +7,11 @@ use Rattle.slice_store.proofs.store.SliceStore.mark.Goals as goal
 
 pub invariant_of-self : goal.invariant_of-self
 invariant_of-self g c =
-    record { rising = c.add.ensures.rising; partials = c.split.ensures.follow.stand }
+    record { holds = c.split.ensures.follow.holds; rising = c.add.ensures.rising; partials = c.split.ensures.follow.stand }
 
 pub invariant_of-self-in-None : goal.invariant_of-self-in-None
 invariant_of-self-in-None g c =
-    record { rising = c.add.ensures.rising; partials = c.self.invariant.partials }
+    record { holds = c.self.invariant.holds; rising = c.add.ensures.rising; partials = c.self.invariant.partials }
 
 pub returns-in-Some-clause-sliced : goal.returns-in-Some-clause-sliced
 returns-in-Some-clause-sliced g c =

@@ -17,8 +17,9 @@ enter-requires g c =
     let x : Kept = kept_at c.args.pos c.args.time c.args.value in
     let same : c.kept_at-x.result ≡ x = c.kept_at-x.ensures.kept ∙ ap (kept_at c.args.pos c.args.time) (to_z-of_z w64 c.args.value c.ranges.value) in
     let e : IsEdit c.args.defs.now.windows s.marks.times s.runs.slices from to x =
-    edit_at c.args.defs.now s.marks.times s.marks.times s.marks.times s.runs.slices x c.up_to-at.result from to c.windows-windows.ensures.limits c.up_to-at.ensures.holds ((rw (← c.self.view_is) at c.requires).sliced) c.up_to-at.ensures.place refl refl c.first_entered-from.ensures c.last_entered-to.ensures in
+    edit_at c.args.defs.now s.marks.times s.marks.times s.marks.times s.runs.slices x c.up_to-at.result from to c.windows-windows.ensures.limits c.up_to-at.ensures.holds ((rw (← c.self.view_is) at c.requires).sliced) c.up_to-at.ensures.place refl refl (rw c.windows-windows.ensures.value at c.first_entered-from.ensures) (rw c.windows-windows.ensures.value at c.last_entered-to.ensures) in
     record {
+      holds = c.up_to-at.ensures.holds;
       can = can_enter c.args.defs.now.windows s.marks.times s.runs c.kept_at-x.result from to
           (subst (λ (y : Kept). IsEdit c.args.defs.now.windows s.marks.times s.runs.slices from to y) (sym same) e)
           (let may = rw (← c.self.view_is) at c.requires in omega (arith, may.room))
@@ -36,7 +37,7 @@ returns-clause-sliced g c =
     let x : Kept = kept_at c.args.pos c.args.time c.args.value in
     let same : c.kept_at-x.result ≡ x = c.kept_at-x.ensures.kept ∙ ap (kept_at c.args.pos c.args.time) (to_z-of_z w64 c.args.value c.ranges.value) in
     let e : IsEdit c.args.defs.now.windows s.marks.times s.runs.slices from to x =
-    edit_at c.args.defs.now s.marks.times s.marks.times s.marks.times s.runs.slices x c.up_to-at.result from to c.windows-windows.ensures.limits c.up_to-at.ensures.holds ((rw (← c.self.view_is) at c.requires).sliced) c.up_to-at.ensures.place refl refl c.first_entered-from.ensures c.last_entered-to.ensures in
+    edit_at c.args.defs.now s.marks.times s.marks.times s.marks.times s.runs.slices x c.up_to-at.result from to c.windows-windows.ensures.limits c.up_to-at.ensures.holds ((rw (← c.self.view_is) at c.requires).sliced) c.up_to-at.ensures.place refl refl (rw c.windows-windows.ensures.value at c.first_entered-from.ensures) (rw c.windows-windows.ensures.value at c.last_entered-to.ensures) in
     sliced_again c.args.defs.now.windows s.marks.times s.runs.slices c.enter.new.runs.slices x c.kept_at-x.result from to e same c.enter.ensures.follow.slices
 
 pub returns-clause-tuples : goal.returns-clause-tuples
@@ -47,7 +48,7 @@ returns-clause-tuples g c =
     let x : Kept = kept_at c.args.pos c.args.time c.args.value in
     let same : c.kept_at-x.result ≡ x = c.kept_at-x.ensures.kept ∙ ap (kept_at c.args.pos c.args.time) (to_z-of_z w64 c.args.value c.ranges.value) in
     let e : IsEdit c.args.defs.now.windows s.marks.times s.runs.slices from to x =
-    edit_at c.args.defs.now s.marks.times s.marks.times s.marks.times s.runs.slices x c.up_to-at.result from to c.windows-windows.ensures.limits c.up_to-at.ensures.holds ((rw (← c.self.view_is) at c.requires).sliced) c.up_to-at.ensures.place refl refl c.first_entered-from.ensures c.last_entered-to.ensures in
+    edit_at c.args.defs.now s.marks.times s.marks.times s.marks.times s.runs.slices x c.up_to-at.result from to c.windows-windows.ensures.limits c.up_to-at.ensures.holds ((rw (← c.self.view_is) at c.requires).sliced) c.up_to-at.ensures.place refl refl (rw c.windows-windows.ensures.value at c.first_entered-from.ensures) (rw c.windows-windows.ensures.value at c.last_entered-to.ensures) in
     rw (← c.self.view_is) (tuples_with c.args.defs.now.windows s.marks.times s.runs.slices c.enter.new.runs.slices x c.kept_at-x.result from to e same c.enter.ensures.follow.slices)
 
 pub returns-clause-put : goal.returns-clause-put
@@ -58,7 +59,7 @@ returns-clause-put g c =
     let x : Kept = kept_at c.args.pos c.args.time c.args.value in
     let same : c.kept_at-x.result ≡ x = c.kept_at-x.ensures.kept ∙ ap (kept_at c.args.pos c.args.time) (to_z-of_z w64 c.args.value c.ranges.value) in
     let e : IsEdit c.args.defs.now.windows s.marks.times s.runs.slices from to x =
-    edit_at c.args.defs.now s.marks.times s.marks.times s.marks.times s.runs.slices x c.up_to-at.result from to c.windows-windows.ensures.limits c.up_to-at.ensures.holds ((rw (← c.self.view_is) at c.requires).sliced) c.up_to-at.ensures.place refl refl c.first_entered-from.ensures c.last_entered-to.ensures in
+    edit_at c.args.defs.now s.marks.times s.marks.times s.marks.times s.runs.slices x c.up_to-at.result from to c.windows-windows.ensures.limits c.up_to-at.ensures.holds ((rw (← c.self.view_is) at c.requires).sliced) c.up_to-at.ensures.place refl refl (rw c.windows-windows.ensures.value at c.first_entered-from.ensures) (rw c.windows-windows.ensures.value at c.last_entered-to.ensures) in
     rw (← c.self.view_is)
     (record {
       before = take from s.runs.slices;
@@ -75,7 +76,7 @@ returns-clause-answer g c =
     let x : Kept = kept_at c.args.pos c.args.time c.args.value in
     let same : c.kept_at-x.result ≡ x = c.kept_at-x.ensures.kept ∙ ap (kept_at c.args.pos c.args.time) (to_z-of_z w64 c.args.value c.ranges.value) in
     let e : IsEdit c.args.defs.now.windows s.marks.times s.runs.slices from to x =
-    edit_at c.args.defs.now s.marks.times s.marks.times s.marks.times s.runs.slices x c.up_to-at.result from to c.windows-windows.ensures.limits c.up_to-at.ensures.holds ((rw (← c.self.view_is) at c.requires).sliced) c.up_to-at.ensures.place refl refl c.first_entered-from.ensures c.last_entered-to.ensures in
+    edit_at c.args.defs.now s.marks.times s.marks.times s.marks.times s.runs.slices x c.up_to-at.result from to c.windows-windows.ensures.limits c.up_to-at.ensures.holds ((rw (← c.self.view_is) at c.requires).sliced) c.up_to-at.ensures.place refl refl (rw c.windows-windows.ensures.value at c.first_entered-from.ensures) (rw c.windows-windows.ensures.value at c.last_entered-to.ensures) in
     rw (← c.self.view_is)
     (c.placed_in.ensures _ (near_length c.args.defs.now.windows s.marks.times s.runs.slices x from to e)
     ∙ ap (placed_in _) c.are_by-last.ensures)
@@ -88,6 +89,6 @@ returns-clause-cost g c =
     let x : Kept = kept_at c.args.pos c.args.time c.args.value in
     let same : c.kept_at-x.result ≡ x = c.kept_at-x.ensures.kept ∙ ap (kept_at c.args.pos c.args.time) (to_z-of_z w64 c.args.value c.ranges.value) in
     let e : IsEdit c.args.defs.now.windows s.marks.times s.runs.slices from to x =
-    edit_at c.args.defs.now s.marks.times s.marks.times s.marks.times s.runs.slices x c.up_to-at.result from to c.windows-windows.ensures.limits c.up_to-at.ensures.holds ((rw (← c.self.view_is) at c.requires).sliced) c.up_to-at.ensures.place refl refl c.first_entered-from.ensures c.last_entered-to.ensures in
+    edit_at c.args.defs.now s.marks.times s.marks.times s.marks.times s.runs.slices x c.up_to-at.result from to c.windows-windows.ensures.limits c.up_to-at.ensures.holds ((rw (← c.self.view_is) at c.requires).sliced) c.up_to-at.ensures.place refl refl (rw c.windows-windows.ensures.value at c.first_entered-from.ensures) (rw c.windows-windows.ensures.value at c.last_entered-to.ensures) in
     rw (← c.self.view_is)
     (omega (arith, c.enter.ensures.cost, near_joined c.args.defs.now.windows s.marks.times s.runs.slices x from to e))
