@@ -4,4 +4,5 @@ pub mod SortFacts
 pub mod SettleFacts
 pub mod StateFacts
 pub mod Steps
+pub mod StoreFacts
 pub mod WorkFacts

@@ -19,7 +19,7 @@ use Rattle.run_laws.proofs.Order.{runs_behind}
 use Rattle.slice_lists.specs.declared.slice.Slice.{Slice}
 use Rattle.slice_lists.specs.Touched.{slices_from}
 use Rattle.slice_lists.specs.Slices.{AreSlices, joined, slice_of}
-use Rattle.agg_store.specs.Stored.{IsStore, Stored, tuples_of}
+use Rattle.agg_store.specs.Stored.{Stored, tuples_of}
 use Rattle.slice_lists.proofs.SliceOrder.{IsApart, IsNear, first_below_last}
 use Rattle.key_windows.specs.Calls.{moment}
 use Rattle.key_parts.specs.Calls.{Standing, window_at}
@@ -76,14 +76,14 @@ all_from_first time low slices l a = filter_all (λ run. nat_le time (first_time
 -- ---- before a watermark, and at it
 module _ {P : Type 0} (stands : Standing P) (d : Definitions) (settles_at : ℕ → P → ℕ) (some : list_all (λ w. is_events w.kind) d.windows ≡ false) where
   -- under a watermark at which the first time is not settled, no tuple is
-  pub open_at : (kept : List Kept) (marks : List ℕ) (water new next : ℕ) (s : Stored) (parts : List P) (low : ℕ) → IsStore s → water ≤ new → (f : StandsFor stands d (moment kept marks water) next s parts)
+  pub open_at : (kept : List Kept) (marks : List ℕ) (water new next : ℕ) (s : Stored) (parts : List P) (low : ℕ) → water ≤ new → (f : StandsFor stands d (moment kept marks water) next s parts)
       → EachPart (λ i part. SettlesUpTo d.lateness (at_water (without_first f.without (moment kept marks water)) new) (window_at d i) (settles_at i part)) parts
       → ((least : ℕ) → IsLeastOf settles_at (new - d.lateness) parts least → least ≤ low) → All (λ run. low ≤ first_time run) s.slices → NoneSettled d (moment kept marks new) s
-  open_at kept marks water new next s parts low store l f each le first =
+  open_at kept marks water new next s parts low l f each le first =
       let m : Moment = moment kept marks water in
       let held = held_after_move d m f.without s new f.held l in
       let o = least_there settles_at (new - d.lateness) parts in
-      open_from d (moment kept marks new) f.without o.0 s s held store (up_to_time stands d settles_at some m new next s parts o.0 f o.1 each) (sym (all_from_first o.0 low s.slices (le o.0 o.1) first))
+      open_from d (moment kept marks new) f.without o.0 s s held f.store (up_to_time stands d settles_at some m new next s parts o.0 f o.1 each) (sym (all_from_first o.0 low s.slices (le o.0 o.1) first))
 
   -- at a watermark at which a time is settled, so are the tuples of that time and of earlier ones
   pub settled_then : (kept : List Kept) (marks : List ℕ) (water due next : ℕ) (s : Stored) (parts : List P) (low : ℕ) (x : Kept) → water ≤ due → (f : StandsFor stands d (moment kept marks water) next s parts)

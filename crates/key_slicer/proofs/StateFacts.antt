@@ -1,13 +1,13 @@
 -- What the state of a key stands for.
-use Rattle.std.proofs.Common.{false, ◌≡◌, ◌∙◌, ◌≤◌, ◌<◌, ◌+◌, ◌-◌, ℕ, List, [], ◌∷◌, get_or, length, map, ap, sym, refl, subst, arith, rules, inl, inr, ⊎_elim}
-use Rattle.std.specs.Prelude.{◌≢◌, All, filter}
+use Rattle.std.proofs.Common.{false, ◌≡◌, ◌∙◌, ◌≤◌, ◌<◌, ◌+◌, ◌-◌, ℕ, List, [], ◌∷◌, get_or, length, map, ap, sym, refl, subst, arith, rules, inl, inr, w64, ⊎_elim}
+use Rattle.std.specs.Prelude.{◌≢◌, All, FitsSigned, filter}
 use Rattle.std.specs.BTreeSet.{insert_key}
 use Rattle.std.specs.List.{Contains, enumerate_from, flat_map, list_all}
 use Rattle.std.specs.Ordering.{nat_cmp}
 use Rattle.std.specs.List.Sorted.{IsStrictlyIncreasing}
 use Rattle.std.proofs.Math.Seq.{drop-nil}
 use Rattle.std.proofs.lemmas.List.Elements.{All-contains, All-nil, All-weaker}
-use Rattle.stream_base.specs.Limits.{AreWithinLimits, Definitions}
+use Rattle.stream_base.specs.Limits.{AreWithinLimits, Definitions, IsKindWithin}
 use Rattle.stream_base.specs.declared.change.Change.{Change}
 use Rattle.stream_base.specs.declared.change.Change.TheVariants.{New}
 use Rattle.stream_base.specs.Laws.{becomes_complete, completions}
@@ -30,9 +30,10 @@ use Rattle.run_laws.specs.Runs.{IsAligned, parted_at}
 use Rattle.window_laws.specs.Settled.{without_first}
 use Rattle.window_laws.proofs.SettledFacts.{not_all}
 use Rattle.window_laws.proofs.KeptFacts.{put_is_kept}
-use Rattle.slice_lists.specs.Touched.{slices_from}
+use Rattle.partials.specs.Apart.{IsReachOver}
+use Rattle.slice_lists.specs.Touched.{marks_left, slices_from}
 use Rattle.slice_lists.specs.Slices.{joined}
-use Rattle.agg_store.specs.Stored.{IsAsBefore, IsSliced, IsStore, Stored, tuples_of}
+use Rattle.agg_store.specs.Stored.{IsAsBefore, IsSliced, Stored, tuples_of}
 use Rattle.slice_lists.proofs.MarkFacts.{rising_more}
 use Rattle.slice_lists.proofs.SliceEdits.{put_length}
 use Rattle.key_windows.specs.Calls.{IsWater, changes_by_move, moment}
@@ -49,6 +50,7 @@ use Rattle.held_laws.proofs.OpenFacts.{open_after_mark, open_after_tuple, open_f
 use Rattle.key_slicer.specs.Parts.{AllStandAt, AllTakeTuple, AreStanding, EachPart, IsLeastOf, rooms}
 use Rattle.key_slicer.specs.States.{Fits, IsBlank, IsReadyToTake, StandsFor}
 use Rattle.key_slicer.proofs.Loops.{none_of, one_of_all}
+use Rattle.key_slicer.proofs.StoreFacts.{store_held, store_marked, store_purged, store_put, store_with_room}
 
 -- ---- a store with more room
 as_before : (s t : Stored) → IsAsBefore s t → record { slices = s.slices; marks = s.marks; dropped = s.dropped; spare = t.spare; reach = t.reach } ≡ t
@@ -77,8 +79,8 @@ no_more_room s = record { slices = refl; marks = refl; dropped = refl; reach = r
 
 module _ {P : Type 0} (stands : Standing P) (d : Definitions) where
   -- all parts of a key that its state stands for stand at its watermark
-  pub all_stand : (m : Moment) (water next : ℕ) (s : Stored) (parts : List P) → m.water ≡ water → IsStore s → (f : StandsFor stands d m next s parts) → AllStandAt stands d water s parts m f.without
-  all_stand m water next s parts is store f = record { water_is = is; lists = (next, f.lists); store = store; held = f.held; stood = f.stood }
+  pub all_stand : (m : Moment) (water next : ℕ) (s : Stored) (parts : List P) → m.water ≡ water → (f : StandsFor stands d m next s parts) → AllStandAt stands d water s parts m f.without
+  all_stand m water next s parts is f = record { water_is = is; lists = (next, f.lists); store = f.store; held = f.held; stood = f.stood }
 
   -- what the parts and the store stand for they go on to stand for
   pub stands_reserved : ((window : ℕ) (m : Moment) (n : ℕ) (s more : Stored) (part : P) → IsAsBefore s more → stands d window m n s part → stands d window m n more part)
@@ -90,6 +92,7 @@ module _ {P : Type 0} (stands : Standing P) (d : Definitions) where
       record {
         without = f.without;
         lists = f.lists;
+        store = store_with_room s t e f.store;
         held = held_with_room d m f.without s t e f.held;
         stood = record { as_many = a.as_many; each = λ i x l. law i m f.without s t _ e (a.each i x l) };
         bare = λ all. e.slices ∙ f.bare all;
@@ -164,73 +167,80 @@ module _ {P : Type 0} (stands : Standing P) (d : Definitions) where
       at : (water : ℕ) → StandsFor stands d (moment [] [] water) 0 s parts
       at water =
           let held : IsHeld d (moment [] [] water) 0 s = fresh_held d water s limits.kinds slices marks dropped sliced in
+          let lists : AreLists (moment [] [] water) 0 = record {
+            kept = (held.may_leave).kept;
+            times = All-nil (λ (x : Kept). x.time ≤ TIME_MAX);
+            below = All-nil (λ (x : Kept). x.position < 0);
+            few = omega arith;
+            most = omega arith;
+            rising = none_rise;
+            mark_times = All-nil (λ mark. mark ≤ TIME_MAX);
+          } in
           record {
             without = 0;
-            lists = record {
-              kept = (held.may_leave).kept;
-              times = All-nil (λ (x : Kept). x.time ≤ TIME_MAX);
-              below = All-nil (λ (x : Kept). x.position < 0);
-              few = omega arith;
-              most = omega arith;
-              rising = none_rise;
-              mark_times = All-nil (λ mark. mark ≤ TIME_MAX);
-            };
+            lists = lists;
+            store = store_held d (moment [] [] water) 0 0 s held lists (subst (λ ss. All (λ (x : Kept). FitsSigned w64 x.value) (joined ss)) (sym slices) (All-nil (λ (x : Kept). FitsSigned w64 x.value))) (subst IsStrictlyIncreasing (sym marks) none_rise);
             held = held;
             stood = stood water s slices;
             bare = λ all. slices;
           }
 
   -- a tuple comes
-  pub put_step : (m : Moment) (next : ℕ) (s : Stored) (parts : List P) (x : Kept) (more : ℕ) (after : Stored) (f : StandsFor stands d m next s parts) → IsStore s
+  pub put_step : (m : Moment) (next : ℕ) (s : Stored) (parts : List P) (x : Kept) (more : ℕ) (after : Stored) (f : StandsFor stands d m next s parts)
       → next ≤ x.position → x.position < JOURNAL_MAX → x.time ≤ TIME_MAX → m.water ≤ x.time + d.lateness → Comes d f.without s x more after → IsPutStep d m f.without s x more after
-  put_step m next s parts x more after f store l few early in_time comes = record {
+  put_step m next s parts x more after f l few early in_time comes = record {
     lists = lists_later m next x.position l (omega arith) f.lists;
     next = few;
     time = early;
     in_time = in_time;
-    store = store;
+    store = f.store;
     held = f.held;
     comes = comes;
   }
 
   pub fits_put : (kept : List Kept) (marks : List ℕ) (water n : ℕ) (s : Stored) (x : Kept) (more : ℕ) (after : Stored) (later : List P) → IsWater water → NoneSettled d (moment kept marks water) s
-      → IsPutStep d (moment kept marks water) n s x more after → AreStanding stands d (with_tuple (moment kept marks water) x) more after later → (all_count_events d → after.slices ≡ [])
+      → IsPutStep d (moment kept marks water) n s x more after → FitsSigned w64 x.value → AreStanding stands d (with_tuple (moment kept marks water) x) more after later → (all_count_events d → after.slices ≡ [])
       → Fits stands d (put_in_order kept x) marks water (x.position + 1) after later
-  fits_put kept marks water n s x more after later is open_ p stood bare = record {
-    known = record {
-      without = more;
-      lists = lists_with_tuple (moment kept marks water) x p.next p.time p.lists;
-      held = held_after_tuple d (moment kept marks water) n s x more after p;
-      stood = stood;
-      bare = bare;
-    };
-    none_settled = open_after_tuple d (moment kept marks water) n s x more after p open_;
-    clock = inl is;
-  }
+  fits_put kept marks water n s x more after later is open_ p value stood bare =
+      let m : Moment = moment kept marks water in
+      let lists : AreLists (with_tuple m x) (x.position + 1) = lists_with_tuple m x p.next p.time p.lists in
+      let held : IsHeld d (with_tuple m x) more after = held_after_tuple d m n s x more after p in
+      record {
+        known = record {
+          without = more;
+          lists = lists;
+          store = store_put d m (with_tuple m x) n (x.position + 1) s x more after p held lists value;
+          held = held;
+          stood = stood;
+          bare = bare;
+        };
+        none_settled = open_after_tuple d m n s x more after p open_;
+        clock = inl is;
+      }
 
-  pub all_take : (is_asked : Definitions → ℕ → Moment → ℕ → P → Type 0) (m : Moment) (water next : ℕ) (s : Stored) (parts later : List P) (x : Kept) (after : Stored) → m.water ≡ water → IsWater water → IsStore s
+  pub all_take : (is_asked : Definitions → ℕ → Moment → ℕ → P → Type 0) (m : Moment) (water next : ℕ) (s : Stored) (parts later : List P) (x : Kept) (after : Stored) → m.water ≡ water → IsWater water
       → (f : StandsFor stands d m next s parts) → next ≤ x.position → x.position < JOURNAL_MAX → x.time ≤ TIME_MAX → m.water ≤ x.time + d.lateness
       → (comes : (n : ℕ) → (more : ℕ) × Comes d n s x more after)
       → ((m : Moment) (n : ℕ) (s : Stored) → AreStanding stands d m n s parts → AreStanding stands d m n s later)
       → ((m : Moment) (n : ℕ) → AllStandAt stands d water s parts m n → EachPart (λ i part. is_asked d i m x.time part) later)
       → AllTakeTuple stands d is_asked water x after later m f.without s (comes f.without).0
-  all_take is_asked m water next s parts later x after is under store f l few early in_time comes stays asked = record {
+  all_take is_asked m water next s parts later x after is under f l few early in_time comes stays asked = record {
     water_is = is;
     is_water = under;
-    step = put_step m next s parts x (comes f.without).0 after f store l few early in_time (comes f.without).1;
+    step = put_step m next s parts x (comes f.without).0 after f l few early in_time (comes f.without).1;
     stood = stays m f.without s f.stood;
-    asked = asked m f.without (all_stand stands d m water next s parts is store f);
+    asked = asked m f.without (all_stand stands d m water next s parts is f);
   }
 
   -- a mark comes
-  pub mark_step : (m : Moment) (next : ℕ) (s : Stored) (parts : List P) (time : ℕ) (after : Stored) (f : StandsFor stands d m next s parts) → IsStore s → time ≤ TIME_MAX → m.water ≤ time + d.lateness
+  pub mark_step : (m : Moment) (next : ℕ) (s : Stored) (parts : List P) (time : ℕ) (after : Stored) (f : StandsFor stands d m next s parts) → time ≤ TIME_MAX → m.water ≤ time + d.lateness
       → tuples_of after ≡ tuples_of s → after.slices ≡ flat_map (parted_at time) s.slices → IsSliced d.windows after → after.marks ≡ insert_key nat_cmp s.marks time → after.dropped ≡ s.dropped
       → IsMarkStep d m f.without s time after
-  mark_step m next s parts time after f store early in_time tuples slices sliced marks dropped = record {
+  mark_step m next s parts time after f early in_time tuples slices sliced marks dropped = record {
     lists = (next, f.lists);
     early = early;
     in_time = in_time;
-    store = store;
+    store = f.store;
     held = f.held;
     tuples = tuples;
     slices = slices;
@@ -241,13 +251,17 @@ module _ {P : Type 0} (stands : Standing P) (d : Definitions) where
 
   pub stands_marked : (m : Moment) (next n : ℕ) (s : Stored) (time : ℕ) (after : Stored) (later : List P) → AreLists m next → IsMarkStep d m n s time after → AreStanding stands d (with_mark m time) n after later
       → (all_count_events d → s.slices ≡ []) → StandsFor stands d (with_mark m time) next after later
-  stands_marked m next n s time after later lists p stood bare = record {
-    without = n;
-    lists = lists_with_mark m next time p.early lists;
-    held = held_after_mark d m n s time after p;
-    stood = stood;
-    bare = λ all. p.slices ∙ ap (flat_map (parted_at time)) (bare all);
-  }
+  stands_marked m next n s time after later lists p stood bare =
+      let more : AreLists (with_mark m time) next = lists_with_mark m next time p.early lists in
+      let held : IsHeld d (with_mark m time) n after = held_after_mark d m n s time after p in
+      record {
+        without = n;
+        lists = more;
+        store = store_marked d m (with_mark m time) n next s time after p held more;
+        held = held;
+        stood = stood;
+        bare = λ all. p.slices ∙ ap (flat_map (parted_at time)) (bare all);
+      }
 
   -- no tuple is settled by it where it lies behind the watermark minus the lateness
   pub fits_marked : (kept : List Kept) (marks : List ℕ) (water next n : ℕ) (s : Stored) (time : ℕ) (after : Stored) (later : List P) → IsWater water → water < time + d.lateness → NoneSettled d (moment kept marks water) s
@@ -265,6 +279,7 @@ module _ {P : Type 0} (stands : Standing P) (d : Definitions) where
   stands_moved kept marks old new next s parts later l f stood = record {
     without = f.without;
     lists = lists_at_water (moment kept marks old) next new f.lists;
+    store = f.store;
     held = held_after_move d (moment kept marks old) f.without s new f.held l;
     stood = stood;
     bare = f.bare;
@@ -273,16 +288,16 @@ module _ {P : Type 0} (stands : Standing P) (d : Definitions) where
   -- it moves to where nothing becomes complete and no tuple is settled, and the state is left as it is
   pub fits_waiting : ((d : Definitions) (window : ℕ) (key : List ℕ) (m : Moment) (n : ℕ) (s : Stored) (part : P) (new : ℕ) → StandsAt stands d window m.water s part m n → m.water ≤ new
       → completions key m new (window, window_at d window) ≡ [] → stands d window (at_water m new) n s part)
-      → (key : List ℕ) (kept : List Kept) (marks : List ℕ) (old new next : ℕ) (s : Stored) (parts : List P) → IsStore s → old ≤ new → IsWater new
+      → (key : List ℕ) (kept : List Kept) (marks : List ℕ) (old new next : ℕ) (s : Stored) (parts : List P) → old ≤ new → IsWater new
       → flat_map (completions key (moment kept marks old) new) (enumerate_from 0 d.windows) ≡ [] → NoneSettled d (moment kept marks new) s
       → StandsFor stands d (moment kept marks old) next s parts → Fits stands d kept marks new next s parts
-  fits_waiting law key kept marks old new next s parts store l is none open_ f =
+  fits_waiting law key kept marks old new next s parts l is none open_ f =
       let m : Moment = moment kept marks old in
       let many : length parts ≡ length d.windows = (f.stood).as_many in
       record {
         known = stands_moved kept marks old new next s parts parts l f (record {
           as_many = many;
-          each = λ i x b. law d i key m f.without s (get_or parts i x) new (one_of_all stands d old s parts m f.without i x b (all_stand stands d m old next s parts refl store f)) l
+          each = λ i x b. law d i key m f.without s (get_or parts i x) new (one_of_all stands d old s parts m f.without i x b (all_stand stands d m old next s parts refl f)) l
               (none_of (completions key m new) d.windows i (record { kind = Marks; func = Count }) (omega (arith, b, many)) none);
         });
         none_settled = open_;
@@ -303,13 +318,14 @@ module _ {P : Type 0} (stands : Standing P) (d : Definitions) where
   fits_same kept marks water next next' s s' parts parts' en es ep f =
       subst (λ n. Fits stands d kept marks water n s' parts') (sym en) (subst (λ t. Fits stands d kept marks water next t parts') (sym es) (subst (λ ps. Fits stands d kept marks water next s ps) (sym ep) f))
 
-pub ready_to_take : {P : Type 0} (is_ready : ℕ → P → Type 0) (room : ℕ → P → ℕ) (water : ℕ) (s s' : Stored) (parts parts' : List P) (total promise : ℕ) (scratch : List Change) (spare : ℕ)
-    → IsWater water → EachPart is_ready parts → 1 ≤ s.spare → total ≡ rooms room parts → s' ≡ s → parts' ≡ parts → promise ≡ total → scratch ≡ [] → total ≤ spare
-    → IsReadyToTake is_ready room water s' parts' promise scratch spare
-ready_to_take is_ready room water s s' parts parts' total promise scratch spare is each one sum es ep said none fits = record {
+pub ready_to_take : {P : Type 0} (bounded : ℕ → ℕ → Type 0) (is_ready : ℕ → P → Type 0) (room : ℕ → P → ℕ) (water : ℕ) (s s' : Stored) (parts parts' : List P) (total promise : ℕ) (scratch : List Change) (spare : ℕ)
+    → IsWater water → EachPart is_ready parts → 1 ≤ s.spare → IsReachOver bounded (length s.slices) s.reach → total ≡ rooms room parts → s' ≡ s → parts' ≡ parts → promise ≡ total → scratch ≡ [] → total ≤ spare
+    → IsReadyToTake bounded is_ready room water s' parts' promise scratch spare
+ready_to_take bounded is_ready room water s s' parts parts' total promise scratch spare is each one reach sum es ep said none fits = record {
   water_is = is;
   each = subst (EachPart is_ready) (sym ep) each;
   store = subst (λ (t : Stored). 1 ≤ t.spare) (sym es) one;
+  reach = subst (λ (t : Stored). IsReachOver bounded (length t.slices) t.reach) (sym es) reach;
   promised = said ∙ sum ∙ ap (rooms room) (sym ep);
   empty = none;
   fits_in = omega (arith, said, fits);
@@ -331,50 +347,50 @@ module _ {P : Type 0} (stands : Standing P) (d : Definitions) (settles_at : ℕ 
       })
 
   -- as many slices begin there or later as the unsettled tuples have
-  pub slices_counted : (kept : List Kept) (marks : List ℕ) (w water next : ℕ) (s : Stored) (parts : List P) (time : ℕ) → IsStore s → w ≤ water → (f : StandsFor stands d (moment kept marks w) next s parts)
+  pub slices_counted : (kept : List Kept) (marks : List ℕ) (w water next : ℕ) (s : Stored) (parts : List P) (time : ℕ) → w ≤ water → (f : StandsFor stands d (moment kept marks w) next s parts)
       → IsLeastOf settles_at (water - d.lateness) parts time
       → EachPart (λ i part. SettlesUpTo d.lateness (at_water (without_first f.without (moment kept marks w)) water) (window_at d i) (settles_at i part)) parts
       → length (slices_from time s.slices) ≡ length (runs_of d.windows marks (unsettled d (moment kept marks water)))
-  slices_counted kept marks w water next s parts time store le f least each =
-      ap length (sym (unsettled_slices d (moment kept marks w) f.without water time s f.held store le (up_to_time (moment kept marks w) water next s parts time f least each)))
+  slices_counted kept marks w water next s parts time le f least each =
+      ap length (sym (unsettled_slices d (moment kept marks w) f.without water time s f.held f.store le (up_to_time (moment kept marks w) water next s parts time f least each)))
 
   -- where the slices before it have left, and the parts have forgotten what ended, the state goes on to stand for the key
-  pub purge_step : (m : Moment) (next : ℕ) (s after : Stored) (parts : List P) (time : ℕ) → IsStore s → (f : StandsFor stands d m next s parts) → IsLeastOf settles_at (m.water - d.lateness) parts time
+  pub purge_step : (m : Moment) (next : ℕ) (s after : Stored) (parts : List P) (time : ℕ) → (f : StandsFor stands d m next s parts) → IsLeastOf settles_at (m.water - d.lateness) parts time
       → EachPart (λ i part. SettlesUpTo d.lateness (without_first f.without m) (window_at d i) (settles_at i part)) parts
       → IsDropped time s after → (IsSliced d.windows s → IsSliced d.windows after)
       → (more : ℕ) × IsPurge d m f.without s time more after
-  purge_step m next s after parts time store f least each dropped sliced =
+  purge_step m next s after parts time f least each dropped sliced =
       let up = up_to_time m m.water next s parts time f least each in
-      purged d m f.without next time s after f.held f.lists store least.by_most (λ x c l. up.before x c l) dropped (sliced (f.held).sliced)
+      purged d m f.without next time s after f.held f.lists f.store least.by_most (λ x c l. up.before x c l) dropped (sliced (f.held).sliced)
 
-  pub aligned : (m : Moment) (next : ℕ) (s : Stored) (parts : List P) (time : ℕ) → IsStore s → (f : StandsFor stands d m next s parts) → IsLeastOf settles_at (m.water - d.lateness) parts time
+  pub aligned : (m : Moment) (next : ℕ) (s : Stored) (parts : List P) (time : ℕ) → (f : StandsFor stands d m next s parts) → IsLeastOf settles_at (m.water - d.lateness) parts time
       → EachPart (λ i part. SettlesUpTo d.lateness (without_first f.without m) (window_at d i) (settles_at i part)) parts
       → IsAligned s.slices time
-  aligned m next s parts time store f least each = parts_where_settled d m f.without time s f.held store (up_to_time m m.water next s parts time f least each)
+  aligned m next s parts time f least each = parts_where_settled d m f.without time s f.held f.store (up_to_time m m.water next s parts time f least each)
 
-  pub fits_purged : (kept : List Kept) (marks : List ℕ) (water next n time more : ℕ) (s after : Stored) (later : List P) → IsWater water → AreLists (moment kept marks water) next → IsPurge d (moment kept marks water) n s time more after
+  pub fits_purged : (kept : List Kept) (marks : List ℕ) (water next n time more : ℕ) (s after : Stored) (later : List P) → IsWater water → AreLists (moment kept marks water) next → IsPurge d (moment kept marks water) n s time more after → after.marks ≡ marks_left time s.marks
       → AreStanding stands d (moment kept marks water) more after later → (all_count_events d → s.slices ≡ []) → NoneSettled d (moment kept marks water) after → Fits stands d kept marks water next after later
-  fits_purged kept marks water next n time more s after later is lists p stood bare open_ = record {
-    known = record { without = more; lists = lists; held = p.still_held; stood = stood; bare = λ all. p.slices ∙ ap (slices_from time) (bare all) };
+  fits_purged kept marks water next n time more s after later is lists p left stood bare open_ = record {
+    known = record { without = more; lists = lists; store = store_purged d (moment kept marks water) n next time more s after p lists left; held = p.still_held; stood = stood; bare = λ all. p.slices ∙ ap (slices_from time) (bare all) };
     none_settled = open_;
     clock = inl is;
   }
 
   -- no tuple is settled in what is left from the time on
-  pub open_left : (m : Moment) (next : ℕ) (s after : Stored) (parts : List P) (time : ℕ) → IsStore s → (f : StandsFor stands d m next s parts) → IsLeastOf settles_at (m.water - d.lateness) parts time
+  pub open_left : (m : Moment) (next : ℕ) (s after : Stored) (parts : List P) (time : ℕ) → (f : StandsFor stands d m next s parts) → IsLeastOf settles_at (m.water - d.lateness) parts time
       → EachPart (λ i part. SettlesUpTo d.lateness (without_first f.without m) (window_at d i) (settles_at i part)) parts
       → after.slices ≡ slices_from time s.slices → NoneSettled d m after
-  open_left m next s after parts time store f least each left = open_from d m f.without time s after f.held store (up_to_time m m.water next s parts time f least each) left
+  open_left m next s after parts time f least each left = open_from d m f.without time s after f.held f.store (up_to_time m m.water next s parts time f least each) left
 
 -- ---- what a move changes
-pub move_is : (d : Definitions) (key : List ℕ) (kept : List Kept) (marks : List ℕ) (old new next : ℕ) → AreWithinLimits d → AreLists (moment kept marks old) next → old ≤ new
+pub move_is : (d : Definitions) (key : List ℕ) (kept : List Kept) (marks : List ℕ) (old new next : ℕ) → All (λ w. IsKindWithin w.kind) d.windows → AreLists (moment kept marks old) next → old ≤ new
     → changes_by_move d key kept marks old new ≡ flat_map (completions key (moment kept marks old) new) (enumerate_from 0 d.windows)
-move_is d key kept marks old new next limits a l = changes_at_water d.windows key kept marks old new limits.kinds (a.kept).in_order l
+move_is d key kept marks old new next kinds a l = changes_at_water d.windows key kept marks old new kinds (a.kept).in_order l
 
 -- nothing, where there is no tuple
-pub nothing_moves : (d : Definitions) (key : List ℕ) (kept : List Kept) (marks : List ℕ) (old new next : ℕ) → AreWithinLimits d → AreLists (moment kept marks old) next → old ≤ new → kept ≡ []
+pub nothing_moves : (d : Definitions) (key : List ℕ) (kept : List Kept) (marks : List ℕ) (old new next : ℕ) → All (λ w. IsKindWithin w.kind) d.windows → AreLists (moment kept marks old) next → old ≤ new → kept ≡ []
     → changes_by_move d key kept marks old new ≡ []
-nothing_moves d key kept marks old new next limits a l none =
-    move_is d key kept marks old new next limits a l
+nothing_moves d key kept marks old new next kinds a l none =
+    move_is d key kept marks old new next kinds a l
     ∙ flat_map_none (completions key (moment kept marks old) new) (enumerate_from 0 d.windows)
     (λ w c. ap (λ is. map (λ i. New (row_of w.0 key (w.1).func i)) (filter (becomes_complete old new) is)) (ap (λ ks. instances_of (w.1).kind ks marks) none ∙ no_instances (w.1).kind marks))

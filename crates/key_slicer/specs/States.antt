@@ -1,5 +1,5 @@
 -- For which lists the state of a key stands, and for which call it has room.
-use Rattle.std.specs.Prelude.{◌≡◌, ◌≤◌, ◌⊎◌, ℕ, List, [], All}
+use Rattle.std.specs.Prelude.{◌≡◌, ◌≤◌, ◌⊎◌, ℕ, List, [], All, length}
 use Rattle.std.specs.List.{Contains}
 use Rattle.stream_base.specs.Limits.{Definitions}
 use Rattle.stream_base.specs.declared.change.Change.{Change}
@@ -7,7 +7,8 @@ use Rattle.stream_base.specs.declared.kept.Kept.{Kept}
 use Rattle.stream_base.specs.declared.limits.TheConstants.{TIME_MAX}
 use Rattle.stream_base.specs.Model.Changes.{Moment}
 use Rattle.stream_base.specs.Model.Windows.{first_time}
-use Rattle.agg_store.specs.Stored.{IsSliced, Stored, tuples_of}
+use Rattle.partials.specs.Apart.{IsReachOver}
+use Rattle.agg_store.specs.Stored.{IsSliced, IsStore, Stored, tuples_of}
 use Rattle.key_windows.specs.Calls.{Call, IsWater, moment}
 use Rattle.key_windows.specs.Calls.Call.{Put, Mark, Move}
 use Rattle.key_parts.specs.Calls.{Standing}
@@ -21,6 +22,7 @@ module _ {P : Type 0} (stands : Standing P) (d : Definitions) where
   pub record StandsFor (m : Moment) (next : ℕ) (s : Stored) (parts : List P) : Type 0 where
     pub without : ℕ
     pub lists : AreLists m next
+    pub store : IsStore s
     pub held : IsHeld d m without s
     pub stood : AreStanding stands d m without s parts
     pub bare : all_count_events d → s.slices ≡ []
@@ -60,11 +62,12 @@ pub record MayEnter (d : Definitions) (time : ℕ) (s : Stored) : Type 0 where
   pub sliced : IsSliced d.windows s
   pub bare : all_count_events d → s.slices ≡ []
 
--- each part is ready and the store has room for what comes; and so much room is promised as all parts need, for changes that are put together first
-pub record IsReadyToTake {P : Type 0} (is_ready : ℕ → P → Type 0) (room : ℕ → P → ℕ) (water : ℕ) (s : Stored) (parts : List P) (promise : ℕ) (scratch : List Change) (spare : ℕ) : Type 0 where
+-- each part is ready and the store has room for what comes, its reach bounded by its slices; and so much room is promised as all parts need, for changes that are put together first
+pub record IsReadyToTake {P : Type 0} (bounded : ℕ → ℕ → Type 0) (is_ready : ℕ → P → Type 0) (room : ℕ → P → ℕ) (water : ℕ) (s : Stored) (parts : List P) (promise : ℕ) (scratch : List Change) (spare : ℕ) : Type 0 where
   pub water_is : IsWater water
   pub each : EachPart is_ready parts
   pub store : 1 ≤ s.spare
+  pub reach : IsReachOver bounded (length s.slices) s.reach
   pub promised : promise ≡ rooms room parts
   pub empty : scratch ≡ []
   pub fits_in : promise ≤ spare
@@ -75,12 +78,12 @@ pub record CanMoveAll {P : Type 0} (can_move : ℕ → P → Type 0) (room : ℕ
   pub promised : promise ≡ rooms room parts
 
 -- room was made for the call to come
-abbrev pub IsReady : {P : Type 0} → (Definitions → ℕ → ℕ → ℕ → P → Type 0) → (Definitions → ℕ → ℕ → ℕ → P → ℕ) → (Definitions → ℕ → ℕ → ℕ → P → ℕ)
+abbrev pub IsReady : {P : Type 0} → (ℕ → ℕ → Type 0) → (Definitions → ℕ → ℕ → ℕ → P → Type 0) → (Definitions → ℕ → ℕ → ℕ → P → ℕ) → (Definitions → ℕ → ℕ → ℕ → P → ℕ)
     → (Definitions → ℕ → Stored → ℕ → ℕ → P → Type 0) → (Definitions → ℕ → Stored → ℕ → ℕ → P → ℕ)
     → Definitions → Call → Stored → List P → ℕ → List Change → ℕ → Type 0
-IsReady is_ready put_room mark_room can_move move_room d (Put time water) s parts promise scratch spare =
-    IsReadyToTake (λ i part. is_ready d i time water part) (λ i part. put_room d i time water part) water s parts promise scratch spare
-IsReady is_ready put_room mark_room can_move move_room d (Mark time water) s parts promise scratch spare =
-    IsReadyToTake (λ i part. is_ready d i time water part) (λ i part. mark_room d i time water part) water s parts promise scratch spare
-IsReady is_ready put_room mark_room can_move move_room d (Move old new) s parts promise scratch spare =
+IsReady bounded is_ready put_room mark_room can_move move_room d (Put time water) s parts promise scratch spare =
+    IsReadyToTake bounded (λ i part. is_ready d i time water part) (λ i part. put_room d i time water part) water s parts promise scratch spare
+IsReady bounded is_ready put_room mark_room can_move move_room d (Mark time water) s parts promise scratch spare =
+    IsReadyToTake bounded (λ i part. is_ready d i time water part) (λ i part. mark_room d i time water part) water s parts promise scratch spare
+IsReady bounded is_ready put_room mark_room can_move move_room d (Move old new) s parts promise scratch spare =
     IsWater old → CanMoveAll (λ i part. can_move d i s old new part) (λ i part. move_room d i s old new part) parts promise

@@ -4,7 +4,7 @@ ghost use Rattle.key_slicer.specs.Parts.{AllAhead, all_credit};
 ghost use Rattle.key_slicer.specs.States.{Fits, IsReady};
 ghost use Rattle.key_slicer.specs.Work.{bounds_mark, bounds_put, catch_up, mark_work, move_work, put_work};
 
-use crate::key_state::{KeyState, all_count_events, is_water, put_in, vouch};
+use crate::key_state::{KeyState, all_count_events, is_water, put_in};
 use crate::parts::Parts;
 use crate::sorted::append_sorted;
 use agg_laws::{AggTree, Steps};
@@ -21,8 +21,8 @@ impl<T: AggTree<Bundle> + Drop, P: AnyPart> KeyWindows for KeyState<T, P> {
     ghost fits = { λ d kept marks water k. Fits P.stands d kept marks water
         k.next k.store k.parts.list.items };
 
-    ghost is_ready = { λ d call k. IsReady P.is_ready P.put_room P.mark_room P.can_move
-        P.move_room d call k.store k.parts.list.items k.promise k.scratch.items
+    ghost is_ready = { λ d call k. IsReady T.bounded P.is_ready P.put_room P.mark_room
+        P.can_move P.move_room d call k.store k.parts.list.items k.promise k.scratch.items
         (vec_capacity k.scratch - vec_len k.scratch) };
 
     ghost promised = { λ k. k.promise };
@@ -49,7 +49,6 @@ impl<T: AggTree<Bundle> + Drop, P: AnyPart> KeyWindows for KeyState<T, P> {
     ghost catch_up = { λ d water k. catch_up P.missed d k.store water };
 
     fn fresh(alloc: Global, defs: &Defs, key: KeyText) -> Result<KeyState<T, P>, NoMemory> {
-        let _windows = defs.windows();
         Ok(KeyState {
             key,
             store: SliceStore::new(alloc),
@@ -61,7 +60,6 @@ impl<T: AggTree<Bundle> + Drop, P: AnyPart> KeyWindows for KeyState<T, P> {
     }
 
     fn reserve_put(&mut self, defs: &Defs, time: u64, water: u64) -> Result<u64, NoMemory> {
-        vouch(&self.store);
         let room = self.parts.reserve_put(defs, time, water)?;
         self.store.reserve()?;
         self.make_room(room)?;
@@ -78,7 +76,6 @@ impl<T: AggTree<Bundle> + Drop, P: AnyPart> KeyWindows for KeyState<T, P> {
         out: &mut Vec<Change>,
         steps: &mut Steps<L>,
     ) {
-        vouch(&self.store);
         self.parts.before(defs, &self.store, time, water, steps);
         put_in(&mut self.store, defs, pos, time, value, steps);
         self.parts.put(
@@ -97,7 +94,6 @@ impl<T: AggTree<Bundle> + Drop, P: AnyPart> KeyWindows for KeyState<T, P> {
     }
 
     fn reserve_mark(&mut self, defs: &Defs, time: u64, water: u64) -> Result<u64, NoMemory> {
-        vouch(&self.store);
         let room = self.parts.reserve_mark(defs, time, water)?;
         self.store.reserve()?;
         self.make_room(room)?;
@@ -112,9 +108,7 @@ impl<T: AggTree<Bundle> + Drop, P: AnyPart> KeyWindows for KeyState<T, P> {
         out: &mut Vec<Change>,
         steps: &mut Steps<L>,
     ) {
-        vouch(&self.store);
         self.store.mark(defs, time, steps);
-        vouch(&self.store);
         self.parts.mark(
             defs,
             &self.store,
@@ -136,7 +130,6 @@ impl<T: AggTree<Bundle> + Drop, P: AnyPart> KeyWindows for KeyState<T, P> {
         if !is_water(old) {
             return Ok(0);
         }
-        vouch(&self.store);
         let room = self.parts.reserve_water(defs, &self.store, old, new)?;
         self.promise = room;
         Ok(room)
@@ -150,9 +143,7 @@ impl<T: AggTree<Bundle> + Drop, P: AnyPart> KeyWindows for KeyState<T, P> {
         out: &mut Vec<Change>,
         steps: &mut Steps<L>,
     ) {
-        let _windows = defs.windows();
         if is_water(old) {
-            vouch(&self.store);
             self.parts
                 .water(defs, &self.store, &self.key, old, new, out, steps);
             self.purge(defs, new, steps);
@@ -160,8 +151,6 @@ impl<T: AggTree<Bundle> + Drop, P: AnyPart> KeyWindows for KeyState<T, P> {
     }
 
     fn next_due(&self, defs: &Defs, water: u64) -> u64 {
-        let _windows = defs.windows();
-        vouch(&self.store);
         let settled = self.next_settled(defs, water);
         self.parts.next_due(defs, &self.store, water).min(settled)
     }
@@ -170,7 +159,6 @@ impl<T: AggTree<Bundle> + Drop, P: AnyPart> KeyWindows for KeyState<T, P> {
         if all_count_events(defs) {
             return 0;
         }
-        vouch(&self.store);
         let time = self.parts.first_unsettled(defs, water);
         self.store.count_from(time)
     }

@@ -2,10 +2,8 @@
 ghost use Rattle.std.specs.Prelude.{◌≡◌, ◌≤◌, ◌+◌, ◌-◌, ◌*◌, [], ℕ, length, true, IfNone, IfSome, OnOk, vec_capacity, vec_len};
 ghost use Rattle.std.specs.List.{list_all};
 ghost use Rattle.stream_base.specs.Model.Slices.{is_events};
-ghost use Rattle.partials.specs.Apart.{IsReachOver};
 ghost use Rattle.agg_store.specs.Entered.{slices_near};
 ghost use Rattle.slice_lists.specs.Slices.{joined};
-ghost use Rattle.agg_store.specs.Stored.{IsStore};
 ghost use Rattle.key_windows.specs.Calls.{IsWater, kept_at};
 ghost use Rattle.key_parts.specs.Moves.{Comes, all_count_events};
 ghost use Rattle.key_slicer.specs.States.{IsFirstTime, MayEnter};
@@ -49,14 +47,6 @@ impl<T: AggTree<Bundle>, P: KeyPart> KeyState<T, P> {
         self.promise = room;
         Ok(())
     }
-}
-
-// Changes nothing, and tells a proof what every store keeps, and how its reach is bounded.
-pub fn vouch<T: AggTree<Bundle>>(store: &SliceStore<T>)
-    ensures holds { IsStore store.now }
-    ensures reach { IsReachOver T.bounded (length store.now.slices) store.now.reach }
-{
-    let _count = store.slice_count();
 }
 
 // The time of the first tuple in a store.

@@ -2,12 +2,11 @@
 ghost use Rattle.std.specs.Prelude.{◌≡◌, ◌≤◌, ◌+◌, ◌-◌, ◌*◌, ℕ, List, length, false};
 ghost use Rattle.stream_base.specs.declared.kept.Kept.{Kept};
 ghost use Rattle.slice_lists.specs.Touched.{slices_from};
-ghost use Rattle.agg_store.specs.Stored.{IsStore};
 ghost use Rattle.key_windows.specs.Calls.{moment};
 ghost use Rattle.key_slicer.specs.Parts.{AllAhead, all_credit};
 ghost use Rattle.key_slicer.specs.States.{Fits, MayPurge, StandsFor};
 
-use crate::key_state::{KeyState, all_count_events, first_time, vouch};
+use crate::key_state::{KeyState, all_count_events, first_time};
 use agg_laws::{AggTree, Steps};
 use aggregates::Bundle;
 use key_parts::KeyPart;
@@ -25,7 +24,6 @@ impl<T: AggTree<Bundle>, P: KeyPart> KeyState<T, P> {
             (moment kept marks water) self.old.next self.old.store self.old.parts.list.items
             → Fits P.stands defs.now kept marks
             water self.new.next self.new.store self.new.parts.list.items }
-        ensures holds { IsStore self.new.store }
         ensures reach { self.new.store.reach ≤ self.old.store.reach }
         ensures work { steps.new ≤ steps.old + 64 * (self.old.store.reach + 2)
             * (length self.old.store.slices - length self.new.store.slices) }
@@ -34,7 +32,6 @@ impl<T: AggTree<Bundle>, P: KeyPart> KeyState<T, P> {
         ensures ahead { AllAhead P.is_ahead defs.now water self.old.store self.old.parts.list.items
             → AllAhead P.is_ahead defs.now water self.new.store self.new.parts.list.items }
     {
-        vouch(&self.store);
         if all_count_events(defs) {
             return;
         }
@@ -42,7 +39,6 @@ impl<T: AggTree<Bundle>, P: KeyPart> KeyState<T, P> {
         if begins_before(&self.store, time) {
             self.store.drop_settled(time, steps);
             self.parts.drop_settled(defs, water);
-            vouch(&self.store);
         }
     }
 }

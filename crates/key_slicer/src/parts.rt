@@ -1,5 +1,6 @@
 //! The parts of a key's windows.
 ghost use Rattle.std.specs.Prelude.{◌≡◌, ◌≤◌, ◌+◌, [], ℕ, length, IfOk};
+ghost use Rattle.stream_base.specs.Limits.{AreWithinLimits};
 ghost use Rattle.stream_base.specs.declared.limits.TheConstants.{WINDOWS_MAX};
 ghost use Rattle.agg_store.specs.Stored.{Stored};
 ghost use Rattle.key_windows.specs.Calls.{moment};
@@ -23,6 +24,7 @@ impl<P: AnyPart> Parts<P> {
         ensures credit { IfOk result (λ parts. all_credit P.credit parts.list.items ≡ 0) }
         ensures ahead { (water : ℕ) (s : Stored) → s.slices ≡ [] → IfOk result
             (λ parts. AllAhead P.is_ahead defs.now water s parts.list.items) }
+        ensures limits { AreWithinLimits defs.now }
     {
         let count = window_count(defs);
         let mut list = Vec::new(alloc);
@@ -38,6 +40,7 @@ impl<P: AnyPart> Parts<P> {
 pub fn window_count(defs: &Defs) -> u32
     ensures count { result ≡ length (defs.now).windows }
     ensures few { result ≤ WINDOWS_MAX }
+    ensures limits { AreWithinLimits defs.now }
 {
     defs.windows().len() as u32
 }

@@ -9,7 +9,7 @@ ghost use Rattle.key_windows.specs.Calls.{IsWater, moment};
 ghost use Rattle.held_laws.specs.Settling.{NoneSettled};
 ghost use Rattle.key_slicer.specs.States.{Fits, FitsSome, IsFirstTime};
 
-use crate::key_state::{KeyState, all_count_events, first_time, vouch};
+use crate::key_state::{KeyState, all_count_events, first_time};
 use agg_laws::AggTree;
 use aggregates::Bundle;
 use key_parts::KeyPart;
@@ -59,7 +59,6 @@ impl<T: AggTree<Bundle>, P: KeyPart> KeyState<T, P> {
             → Contains (tuples_of self.now.store) x → x.time ≤ time → result ≤ FINAL
             → (water < result) × (is_settled defs.now (moment kept marks result) x ≡ true) }
     {
-        vouch(&self.store);
         water_from(self.parts.settled_by(defs, time))
     }
 }

@@ -1,7 +1,7 @@
 -- How the changes under the entries are kept: one behind the other, with the end of each entry's.
 use Rattle.std.specs.Prelude.{◌≡◌, ◌+◌, ◌-◌, ◌==◌, ℕ, List, [], ◌∷◌, length, slice_index, if◌then◌else◌}
 use Rattle.std.specs.List.{flat_map}
-use Rattle.stream_base.specs.Limits.{Definitions}
+use Rattle.stream_base.specs.Limits.{AreWithinLimits, Definitions}
 use Rattle.stream_base.specs.declared.change.Change.{Change}
 use Rattle.stream_base.specs.declared.kept.Kept.{Kept}
 use Rattle.shard_core.specs.Engines.{IsTableOf}
@@ -26,8 +26,9 @@ start_at ends position = if position == 0 then 0 else slice_index ends (position
 abbrev pub sharded : Recorded → Sharded
 sharded past = record { defs = past.defs; sources = past.sources; journal = past.journal }
 
--- the table of keys is that of the past, and under each of its entries stand the changes of the definitions
+-- the definitions are within their limits, the table of keys is that of the past, and under each of its entries stand the changes of the definitions
 pub record IsShard {K : Type 0} (key_of : K → List ℕ) (fits : Definitions → List Kept → List ℕ → ℕ → K → Type 0) (next_position : K → ℕ) (past : Recorded) (keys : KeyTable K) (changes : List Change) (ends : List ℕ) : Type 0 where
+  pub limits : AreWithinLimits past.defs
   pub keys_are : IsTableOf key_of fits next_position past keys
   pub changes_are : changes ≡ joined (changes_behind past.defs past.sources [] past.journal)
   pub ends_are : ends ≡ ends_from 0 (changes_behind past.defs past.sources [] past.journal)

@@ -62,8 +62,6 @@ impl<K: KeyWindows> KeyTable<K> {
         ensures { TakesIn K.key_of K.fits K.next_position past.now entry.now result
             self.new out.old.items out.new.items steps.old steps.new }
     {
-        let _defs = past.defs();
-        let _journal = past.journal();
         let new = past.water_after(entry);
         if new == past.water() {
             return Ok(());

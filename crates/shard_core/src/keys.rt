@@ -1,4 +1,4 @@
-ghost use Rattle.std.specs.Prelude.{◌≡◌, ◌<◌, [], IfOk, OnOk, Some, None, length};
+ghost use Rattle.std.specs.Prelude.{◌≡◌, ◌<◌, ℕ, List, [], IfOk, OnOk, Some, None, length};
 ghost use Rattle.std.specs.List.{HoldsAt};
 ghost use Rattle.stream_base.specs.declared.entry.Entry.{Entry};
 ghost use Rattle.stream_base.specs.declared.limits.TheConstants.{JOURNAL_MAX};
@@ -70,18 +70,16 @@ impl<K: KeyWindows> KeyTable<K> {
         Ok(place)
     }
 
-    // Notes that the state of a key, which is at this place, stands under the watermark of the
-    // past: nothing is due of it up to there, so it stands there as it is.
-    fn catch_up(&mut self, past: &Past, key: &KeyText, place: usize)
+    // Notes that the state at the place of a key stands under the watermark of the past: nothing is
+    // due of it up to there, so it stands there as it is.
+    fn catch_up(&mut self, past: &Past, place: usize)
         requires current { IsTableOf K.key_of K.fits K.next_position past.now self.old }
-        requires place { place_of self.old key.now ≡ Some place }
+        requires place { (key : List ℕ) × (place_of self.old key ≡ Some place) }
         ensures current { IsTableOf K.key_of K.fits K.next_position past.now self.new }
         ensures index { self.new.index ≡ self.old.index }
         ensures water { HoldsAt (λ slot. slot.water
             ≡ water_of past.now.sources past.now.journal) self.new.slots.items place }
     {
-        let _ = key;
-        let _defs = past.defs();
         self.slots[place].water = past.water();
     }
 
@@ -95,7 +93,7 @@ impl<K: KeyWindows> KeyTable<K> {
             ≡ water_of past.now.sources past.now.journal) self.new.slots.items p) }
     {
         let place = self.place_or_add(alloc, past, key)?;
-        self.catch_up(past, key, place);
+        self.catch_up(past, place);
         Ok(place)
     }
 

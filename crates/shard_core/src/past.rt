@@ -42,6 +42,7 @@ impl Past {
         ensures defs { IfOk result (λ past. past.defs ≡ defs) }
         ensures sources { IfOk result (λ past. past.sources ≡ sources) }
         ensures journal { IfOk result (λ past. past.journal ≡ []) }
+        ensures limits { IfOk result (λ past. AreWithinLimits past.defs) }
     {
         let waters = Waters::new(alloc, sources, defs.lateness())?;
         Ok(Past {
@@ -85,6 +86,7 @@ impl Past {
     pub fn water(&self) -> u64
         ensures value { result ≡ water_of self.now.sources self.now.journal }
         ensures is_water { IsWater result }
+        ensures limits { AreWithinLimits self.now.defs }
     {
         self.waters.water()
     }
@@ -106,7 +108,9 @@ impl Past {
     // The watermark behind an entry that comes now.
     pub fn water_after(&self, entry: &Entry) -> u64
         requires { IsKnown self.now.sources entry.now }
-        ensures { result ≡ water_of self.now.sources (self.now.journal ++ entry.now ∷ []) }
+        ensures value { result
+            ≡ water_of self.now.sources (self.now.journal ++ entry.now ∷ []) }
+        ensures is_water { IsWater result }
     {
         match entry.what {
             What::Tuple { .. } | What::Mark { .. } => self.waters.water(),

@@ -76,6 +76,7 @@ impl<K: KeyWindows> KeyedShard<K> {
         ensures full { IsErrOf result ApplyFault.Full
             ↔ ((has_ended entry.now.source self.old.journal ≡ false) × (length self.old.journal
             ≡ JOURNAL_MAX)) }
+        ensures limits { AreWithinLimits self.old.defs }
     {
         if self.past.has_ended(entry.source) {
             return Err(ApplyFault::Ended);

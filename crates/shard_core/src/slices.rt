@@ -1,5 +1,5 @@
-ghost use Rattle.std.specs.Prelude.{◌≡◌, Some, length};
-ghost use Rattle.shard_core.specs.Engines.{IsTableOf, place_of};
+ghost use Rattle.std.specs.Prelude.{◌≡◌, length};
+ghost use Rattle.shard_core.specs.Engines.{IsTableOf};
 ghost use Rattle.shard_core.specs.Shard.{slices_after};
 
 use crate::keys::KeyTable;
@@ -8,27 +8,19 @@ use key_windows::KeyWindows;
 use stream_base::KeyText;
 
 impl<K: KeyWindows> KeyTable<K> {
-    // How many slices what isn't settled of a key has: none where the key has no place.
+    // How many slices what isn't settled of a key has: none where the key has no place. Its state
+    // may stand under an earlier watermark than that of the past.
     pub fn slice_count(&self, past: &Past, key: &KeyText) -> u64
         requires { IsTableOf K.key_of K.fits K.next_position past.now self.now }
         ensures { result
             ≡ length (slices_after past.now.defs past.now.sources past.now.journal key.now) }
     {
         match self.index.get(key) {
-            Some(place) => self.count_slices(past, key, place),
+            Some(place) => {
+                let slot = &self.slots[place];
+                slot.state.slice_count(past.defs(), past.water())
+            }
             None => 0,
         }
-    }
-
-    // The same of a key at this place, whose state may stand under an earlier watermark.
-    fn count_slices(&self, past: &Past, key: &KeyText, place: usize) -> u64
-        requires current { IsTableOf K.key_of K.fits K.next_position past.now self.now }
-        requires place { place_of self.now key.now ≡ Some place }
-        ensures { result
-            ≡ length (slices_after past.now.defs past.now.sources past.now.journal key.now) }
-    {
-        let _ = key;
-        let slot = &self.slots[place];
-        slot.state.slice_count(past.defs(), past.water())
     }
 }

@@ -33,6 +33,5 @@ pub fn apply_counted<L>(
         ↔ ((has_ended entry.now.source shard.old.journal ≡ false) × (length shard.old.journal
         ≡ JOURNAL_MAX)) }
 {
-    let _defs = shard.defs();
     shard.apply(entry, steps)
 }

@@ -21,7 +21,7 @@ purge-requires g c =
     let d = c.args.defs.now in
     let m = moment r.0 r.1 c.args.water in
     let f = r.2.known in
-    let step = mark_step g.P.KeyPart.stands d m s.next s.store s.parts.list.items c.args.time c.mark.new.self f c.vouch.ensures.holds c.requires.in_time.within c.requires.in_time.accepted
+    let step = mark_step g.P.KeyPart.stands d m s.next s.store s.parts.list.items c.args.time c.mark.new.self f c.requires.in_time.within c.requires.in_time.accepted
     c.mark.ensures.tuples c.mark.ensures.slices c.mark.ensures.sliced c.mark.ensures.marks c.mark.ensures.dropped in
     let marked : StandsFor g.P.KeyPart.stands d (with_mark m c.args.time) s.next c.mark.new.self c.mark-2.new.self.list.items =
     stands_marked g.P.KeyPart.stands d m s.next f.without s.store c.args.time c.mark.new.self c.mark-2.new.self.list.items f.lists step
@@ -37,7 +37,7 @@ returns-then-time-lateness-clause-taken g c = record {
       let d = c.args.defs.now in
       let m = moment kept marks c.args.water in
       let f = fits.known in
-      let step = mark_step g.P.KeyPart.stands d m s.next s.store s.parts.list.items c.args.time c.mark.new.self f c.vouch.ensures.holds c.requires.in_time.within c.requires.in_time.accepted
+      let step = mark_step g.P.KeyPart.stands d m s.next s.store s.parts.list.items c.args.time c.mark.new.self f c.requires.in_time.within c.requires.in_time.accepted
       c.mark.ensures.tuples c.mark.ensures.slices c.mark.ensures.sliced c.mark.ensures.marks c.mark.ensures.dropped in
       appended_sorted s.key m (with_mark m c.args.time) d.windows s.scratch.items c.mark-2.new.out.items c.as_slice.result.now c.args.out.now.items c.append_sorted.new.out.items c.requires.ready.empty
       (c.mark-2.ensures.changes m f.without s.store (record { water_is = refl; is_water = c.requires.ready.water_is; step = step; stood = f.stood })) c.as_slice.ensures.value c.append_sorted.ensures.items;
@@ -47,7 +47,7 @@ returns-then-time-lateness-clause-taken g c = record {
       let d = c.args.defs.now in
       let m = moment kept marks c.args.water in
       let f = fits.known in
-      let step = mark_step g.P.KeyPart.stands d m s.next s.store s.parts.list.items c.args.time c.mark.new.self f c.vouch.ensures.holds c.requires.in_time.within c.requires.in_time.accepted
+      let step = mark_step g.P.KeyPart.stands d m s.next s.store s.parts.list.items c.args.time c.mark.new.self f c.requires.in_time.within c.requires.in_time.accepted
       c.mark.ensures.tuples c.mark.ensures.slices c.mark.ensures.sliced c.mark.ensures.marks c.mark.ensures.dropped in
       let marked : StandsFor g.P.KeyPart.stands d (with_mark m c.args.time) s.next c.mark.new.self c.mark-2.new.self.list.items =
       stands_marked g.P.KeyPart.stands d m s.next f.without s.store c.args.time c.mark.new.self c.mark-2.new.self.list.items f.lists step
@@ -64,7 +64,7 @@ returns-else-time-lateness-clause-taken g c = record {
       let d = c.args.defs.now in
       let m = moment kept marks c.args.water in
       let f = fits.known in
-      let step = mark_step g.P.KeyPart.stands d m s.next s.store s.parts.list.items c.args.time c.mark.new.self f c.vouch.ensures.holds c.requires.in_time.within c.requires.in_time.accepted
+      let step = mark_step g.P.KeyPart.stands d m s.next s.store s.parts.list.items c.args.time c.mark.new.self f c.requires.in_time.within c.requires.in_time.accepted
       c.mark.ensures.tuples c.mark.ensures.slices c.mark.ensures.sliced c.mark.ensures.marks c.mark.ensures.dropped in
       appended_sorted s.key m (with_mark m c.args.time) d.windows s.scratch.items c.mark-2.new.out.items c.as_slice.result.now c.args.out.now.items c.append_sorted.new.out.items c.requires.ready.empty
       (c.mark-2.ensures.changes m f.without s.store (record { water_is = refl; is_water = c.requires.ready.water_is; step = step; stood = f.stood })) c.as_slice.ensures.value c.append_sorted.ensures.items;
@@ -74,7 +74,7 @@ returns-else-time-lateness-clause-taken g c = record {
       let d = c.args.defs.now in
       let m = moment kept marks c.args.water in
       let f = fits.known in
-      let step = mark_step g.P.KeyPart.stands d m s.next s.store s.parts.list.items c.args.time c.mark.new.self f c.vouch.ensures.holds c.requires.in_time.within c.requires.in_time.accepted
+      let step = mark_step g.P.KeyPart.stands d m s.next s.store s.parts.list.items c.args.time c.mark.new.self f c.requires.in_time.within c.requires.in_time.accepted
       c.mark.ensures.tuples c.mark.ensures.slices c.mark.ensures.sliced c.mark.ensures.marks c.mark.ensures.dropped in
       let marked : StandsFor g.P.KeyPart.stands d (with_mark m c.args.time) s.next c.mark.new.self c.mark-2.new.self.list.items =
       stands_marked g.P.KeyPart.stands d m s.next f.without s.store c.args.time c.mark.new.self c.mark-2.new.self.list.items f.lists step
@@ -88,7 +88,7 @@ returns-then-time-lateness-clause-work g c = λ kept marks fits.
     let d = c.args.defs.now in
     let m = moment kept marks c.args.water in
     let f = fits.known in
-    let step = mark_step g.P.KeyPart.stands d m s.next s.store s.parts.list.items c.args.time c.mark.new.self f c.vouch.ensures.holds c.requires.in_time.within c.requires.in_time.accepted
+    let step = mark_step g.P.KeyPart.stands d m s.next s.store s.parts.list.items c.args.time c.mark.new.self f c.requires.in_time.within c.requires.in_time.accepted
     c.mark.ensures.tuples c.mark.ensures.slices c.mark.ensures.sliced c.mark.ensures.marks c.mark.ensures.dropped in
     let changed = vec_len c.mark-2.new.out - vec_len s.scratch in
     let many : changed ≡ length (changes_between d.windows s.key m (with_mark m c.args.time)) = omega (arith, as_many_turns s.key m (with_mark m c.args.time) d.windows, grown s.scratch.items c.mark-2.new.out.items (flat_map (turns s.key m (with_mark m c.args.time)) (enumerate_from 0 d.windows)) (c.mark-2.ensures.changes m f.without s.store (record { water_is = refl; is_water = c.requires.ready.water_is; step = step; stood = f.stood }))) in
@@ -101,7 +101,7 @@ returns-else-time-lateness-clause-work g c = λ kept marks fits.
     let d = c.args.defs.now in
     let m = moment kept marks c.args.water in
     let f = fits.known in
-    let step = mark_step g.P.KeyPart.stands d m s.next s.store s.parts.list.items c.args.time c.mark.new.self f c.vouch.ensures.holds c.requires.in_time.within c.requires.in_time.accepted
+    let step = mark_step g.P.KeyPart.stands d m s.next s.store s.parts.list.items c.args.time c.mark.new.self f c.requires.in_time.within c.requires.in_time.accepted
     c.mark.ensures.tuples c.mark.ensures.slices c.mark.ensures.sliced c.mark.ensures.marks c.mark.ensures.dropped in
     let changed = vec_len c.mark-2.new.out - vec_len s.scratch in
     let many : changed ≡ length (changes_between d.windows s.key m (with_mark m c.args.time)) = omega (arith, as_many_turns s.key m (with_mark m c.args.time) d.windows, grown s.scratch.items c.mark-2.new.out.items (flat_map (turns s.key m (with_mark m c.args.time)) (enumerate_from 0 d.windows)) (c.mark-2.ensures.changes m f.without s.store (record { water_is = refl; is_water = c.requires.ready.water_is; step = step; stood = f.stood }))) in
@@ -115,7 +115,7 @@ returns-then-time-lateness-clause-bound g c = λ kept marks fits.
     let m = moment kept marks c.args.water in
     let then_ = (returns-then-time-lateness-clause-taken g c).fits kept marks fits in (
       mark_work d s.key m (with_mark m c.args.time) c.args.time s.store c.purge.new.self.store,
-      mark_is_bounded g.T.AggTree.bounded d s.key m fits.known.without c.args.time s.store fits.known.held c.vouch.ensures.holds fits.none_settled c.vouch.ensures.reach (with_mark m c.args.time) then_.known.without c.purge.new.self.store then_.known.held c.purge.ensures.holds then_.none_settled,
+      mark_is_bounded g.T.AggTree.bounded d s.key m fits.known.without c.args.time s.store fits.known.held fits.known.store fits.none_settled c.requires.ready.reach (with_mark m c.args.time) then_.known.without c.purge.new.self.store then_.known.held then_.known.store then_.none_settled,
       returns-then-time-lateness-clause-work g c kept marks fits,
     )
 
@@ -126,7 +126,7 @@ returns-else-time-lateness-clause-bound g c = λ kept marks fits.
     let m = moment kept marks c.args.water in
     let then_ = (returns-else-time-lateness-clause-taken g c).fits kept marks fits in (
       mark_work d s.key m (with_mark m c.args.time) c.args.time s.store c.mark.new.self,
-      mark_is_bounded g.T.AggTree.bounded d s.key m fits.known.without c.args.time s.store fits.known.held c.vouch.ensures.holds fits.none_settled c.vouch.ensures.reach (with_mark m c.args.time) then_.known.without c.mark.new.self then_.known.held c.vouch-2.ensures.holds then_.none_settled,
+      mark_is_bounded g.T.AggTree.bounded d s.key m fits.known.without c.args.time s.store fits.known.held fits.known.store fits.none_settled c.requires.ready.reach (with_mark m c.args.time) then_.known.without c.mark.new.self then_.known.held then_.known.store then_.none_settled,
       returns-else-time-lateness-clause-work g c kept marks fits,
     )
 
@@ -139,7 +139,7 @@ returns-then-time-lateness-clause-pace g c = record {
       let d = c.args.defs.now in
       let m = moment r.0 r.1 c.args.water in
       let f = r.2.known in
-      let step = mark_step g.P.KeyPart.stands d m s.next s.store s.parts.list.items c.args.time c.mark.new.self f c.vouch.ensures.holds c.requires.in_time.within c.requires.in_time.accepted
+      let step = mark_step g.P.KeyPart.stands d m s.next s.store s.parts.list.items c.args.time c.mark.new.self f c.requires.in_time.within c.requires.in_time.accepted
       c.mark.ensures.tuples c.mark.ensures.slices c.mark.ensures.sliced c.mark.ensures.marks c.mark.ensures.dropped in
       c.purge.ensures.ahead (c.mark-2.ensures.ahead m f.without s.store (record { water_is = refl; is_water = c.requires.ready.water_is; step = step; stood = f.stood }) le each);
 }
@@ -153,7 +153,7 @@ returns-else-time-lateness-clause-pace g c = record {
       let d = c.args.defs.now in
       let m = moment r.0 r.1 c.args.water in
       let f = r.2.known in
-      let step = mark_step g.P.KeyPart.stands d m s.next s.store s.parts.list.items c.args.time c.mark.new.self f c.vouch.ensures.holds c.requires.in_time.within c.requires.in_time.accepted
+      let step = mark_step g.P.KeyPart.stands d m s.next s.store s.parts.list.items c.args.time c.mark.new.self f c.requires.in_time.within c.requires.in_time.accepted
       c.mark.ensures.tuples c.mark.ensures.slices c.mark.ensures.sliced c.mark.ensures.marks c.mark.ensures.dropped in
       c.mark-2.ensures.ahead m f.without s.store (record { water_is = refl; is_water = c.requires.ready.water_is; step = step; stood = f.stood }) le each;
 }

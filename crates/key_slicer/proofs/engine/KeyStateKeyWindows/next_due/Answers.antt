@@ -12,8 +12,8 @@ returns-clause-none_before g c = λ kept marks new fits rises below.
     let s = c.args.self.now in
     let d = c.args.defs.now in
     let m = moment kept marks c.args.water in
-    move_is d s.key kept marks c.args.water new s.next c.windows-windows.ensures.limits fits.known.lists rises
-    ∙ c.next_due.ensures.none_before s.key m fits.known.without new (all_stand g.P.KeyPart.stands d m c.args.water s.next s.store s.parts.list.items refl c.vouch.ensures.holds fits.known) rises (omega (arith, below, c.min.ensures))
+    move_is d s.key kept marks c.args.water new s.next fits.known.held.may_leave.kinds fits.known.lists rises
+    ∙ c.next_due.ensures.none_before s.key m fits.known.without new (all_stand g.P.KeyPart.stands d m c.args.water s.next s.store s.parts.list.items refl fits.known) rises (omega (arith, below, c.min.ensures))
 
 pub returns-clause-waits : goal.returns-clause-waits
 returns-clause-waits g c = λ kept marks new fits rises below is.
@@ -21,8 +21,8 @@ returns-clause-waits g c = λ kept marks new fits rises below is.
     let d = c.args.defs.now in
     let m = moment kept marks c.args.water in
     let f = fits.known in
-    fits_waiting g.P.KeyPart.stands d g.met.P.KeyPart.waits s.key kept marks c.args.water new s.next s.store s.parts.list.items c.vouch.ensures.holds rises is
-    (c.next_due.ensures.none_before s.key m f.without new (all_stand g.P.KeyPart.stands d m c.args.water s.next s.store s.parts.list.items refl c.vouch.ensures.holds f) rises (omega (arith, below, c.min.ensures)))
+    fits_waiting g.P.KeyPart.stands d g.met.P.KeyPart.waits s.key kept marks c.args.water new s.next s.store s.parts.list.items rises is
+    (c.next_due.ensures.none_before s.key m f.without new (all_stand g.P.KeyPart.stands d m c.args.water s.next s.store s.parts.list.items refl f) rises (omega (arith, below, c.min.ensures)))
     (c.next_settled-settled.ensures.none_before kept marks new fits rises (omega (arith, below, c.min.ensures)) is) f
 
 pub returns-clause-some_at : goal.returns-clause-some_at
@@ -36,9 +36,9 @@ returns-clause-some_at g c = λ kept marks fits final.
     ⊎_elim
     (λ (lt : due < settled).
     let same : due ≡ first = omega (arith, c.min.ensures) in
-    let at = c.next_due.ensures.some_at s.key m fits.known.without (all_stand g.P.KeyPart.stands d m c.args.water s.next s.store s.parts.list.items refl c.vouch.ensures.holds fits.known) (omega (arith, same, final)) in (
+    let at = c.next_due.ensures.some_at s.key m fits.known.without (all_stand g.P.KeyPart.stands d m c.args.water s.next s.store s.parts.list.items refl fits.known) (omega (arith, same, final)) in (
       omega (arith, same, at.0),
-      inl (subst (λ w. changes_by_move d s.key kept marks c.args.water w ≢ []) same (λ none. at.1 (sym (move_is d s.key kept marks c.args.water due s.next c.windows-windows.ensures.limits fits.known.lists (omega (arith, at.0))) ∙ none))),
+      inl (subst (λ w. changes_by_move d s.key kept marks c.args.water w ≢ []) same (λ none. at.1 (sym (move_is d s.key kept marks c.args.water due s.next fits.known.held.may_leave.kinds fits.known.lists (omega (arith, at.0))) ∙ none))),
     ))
     (λ (le : settled ≤ due).
     let same : settled ≡ first = omega (arith, c.min.ensures) in

@@ -1,5 +1,6 @@
 -- The store and the parts took the tuple in.
-use Rattle.std.proofs.Common.{◌≡◌, ◌≤◌, ◌+◌, ◌-◌, ◌++◌, ℕ, length, vec_len, arith, refl, rules, subst, to_z, of_z, w64}
+use Rattle.std.proofs.Common.{◌≡◌, ◌≤◌, ◌+◌, ◌-◌, ◌++◌, ℕ, length, vec_len, arith, refl, rules, subst, sym, to_z, of_z, w64}
+use Rattle.std.specs.Prelude.{FitsSigned}
 use Rattle.std.proofs.lemmas.Int.{to_z-of_z}
 use Rattle.std.specs.List.{enumerate_from, flat_map}
 use Rattle.stream_base.specs.Model.Changes.{changes_between}
@@ -25,7 +26,7 @@ put-requires-clause-takes g c =
     let f = r.2.known in
     let more = (c.put_in.ensures.comes f.without).0 in
     let all : AllTakeTuple g.P.KeyPart.stands d g.P.KeyPart.is_asked c.args.water x c.put_in.new.store c.before-2.new.self.list.items m f.without s.store more =
-    all_take g.P.KeyPart.stands d g.P.KeyPart.is_asked m c.args.water s.next s.store s.parts.list.items c.before-2.new.self.list.items x c.put_in.new.store refl c.requires.comes.ready.water_is c.vouch.ensures.holds f
+    all_take g.P.KeyPart.stands d g.P.KeyPart.is_asked m c.args.water s.next s.store s.parts.list.items c.before-2.new.self.list.items x c.put_in.new.store refl c.requires.comes.ready.water_is f
     c.requires.position c.requires.few c.requires.comes.in_time.within c.requires.comes.in_time.accepted c.put_in.ensures.comes c.before-2.ensures.stays c.before-2.ensures.asked in
     (m, f.without, s.store, more, all)
 
@@ -41,7 +42,7 @@ returns-clause-taken g c = record {
       let f = fits.known in
       let more = (c.put_in.ensures.comes f.without).0 in
       let all : AllTakeTuple g.P.KeyPart.stands d g.P.KeyPart.is_asked c.args.water x c.put_in.new.store c.before-2.new.self.list.items m f.without s.store more =
-      all_take g.P.KeyPart.stands d g.P.KeyPart.is_asked m c.args.water s.next s.store s.parts.list.items c.before-2.new.self.list.items x c.put_in.new.store refl c.requires.comes.ready.water_is c.vouch.ensures.holds f
+      all_take g.P.KeyPart.stands d g.P.KeyPart.is_asked m c.args.water s.next s.store s.parts.list.items c.before-2.new.self.list.items x c.put_in.new.store refl c.requires.comes.ready.water_is f
       c.requires.position c.requires.few c.requires.comes.in_time.within c.requires.comes.in_time.accepted c.put_in.ensures.comes c.before-2.ensures.stays c.before-2.ensures.asked in
       subst (λ v. c.append_sorted.new.out.items ≡ c.args.out.now.items ++ changes_by_put d s.key kept marks c.args.water (kept_at c.args.pos c.args.time v)) (to_z-of_z w64 c.args.value c.ranges.value)
       (appended_sorted s.key m (with_tuple m x) d.windows s.scratch.items c.put.new.out.items c.as_slice.result.now c.args.out.now.items c.append_sorted.new.out.items c.requires.comes.ready.empty
@@ -55,10 +56,10 @@ returns-clause-taken g c = record {
       let f = fits.known in
       let more = (c.put_in.ensures.comes f.without).0 in
       let all : AllTakeTuple g.P.KeyPart.stands d g.P.KeyPart.is_asked c.args.water x c.put_in.new.store c.before-2.new.self.list.items m f.without s.store more =
-      all_take g.P.KeyPart.stands d g.P.KeyPart.is_asked m c.args.water s.next s.store s.parts.list.items c.before-2.new.self.list.items x c.put_in.new.store refl c.requires.comes.ready.water_is c.vouch.ensures.holds f
+      all_take g.P.KeyPart.stands d g.P.KeyPart.is_asked m c.args.water s.next s.store s.parts.list.items c.before-2.new.self.list.items x c.put_in.new.store refl c.requires.comes.ready.water_is f
       c.requires.position c.requires.few c.requires.comes.in_time.within c.requires.comes.in_time.accepted c.put_in.ensures.comes c.before-2.ensures.stays c.before-2.ensures.asked in
       subst (λ v. Fits g.P.KeyPart.stands d (put_in_order kept (kept_at c.args.pos c.args.time v)) marks c.args.water (c.args.pos + 1) c.put_in.new.store c.put.new.self.list.items) (to_z-of_z w64 c.args.value c.ranges.value)
-      (fits_put g.P.KeyPart.stands d kept marks c.args.water f.without s.store x more c.put_in.new.store c.put.new.self.list.items c.requires.comes.ready.water_is fits.none_settled all.step (c.put.ensures.stands m f.without s.store more all) c.put_in.ensures.bare);
+      (fits_put g.P.KeyPart.stands d kept marks c.args.water f.without s.store x more c.put_in.new.store c.put.new.self.list.items c.requires.comes.ready.water_is fits.none_settled all.step (subst (FitsSigned w64) (sym (to_z-of_z w64 c.args.value c.ranges.value)) c.ranges.value) (c.put.ensures.stands m f.without s.store more all) c.put_in.ensures.bare);
 }
 
 pub returns-clause-work : goal.returns-clause-work
@@ -70,7 +71,7 @@ returns-clause-work g c = λ kept marks fits.
     let f = fits.known in
     let more = (c.put_in.ensures.comes f.without).0 in
     let all : AllTakeTuple g.P.KeyPart.stands d g.P.KeyPart.is_asked c.args.water x c.put_in.new.store c.before-2.new.self.list.items m f.without s.store more =
-    all_take g.P.KeyPart.stands d g.P.KeyPart.is_asked m c.args.water s.next s.store s.parts.list.items c.before-2.new.self.list.items x c.put_in.new.store refl c.requires.comes.ready.water_is c.vouch.ensures.holds f
+    all_take g.P.KeyPart.stands d g.P.KeyPart.is_asked m c.args.water s.next s.store s.parts.list.items c.before-2.new.self.list.items x c.put_in.new.store refl c.requires.comes.ready.water_is f
     c.requires.position c.requires.few c.requires.comes.in_time.within c.requires.comes.in_time.accepted c.put_in.ensures.comes c.before-2.ensures.stays c.before-2.ensures.asked in
     let changed = vec_len c.put.new.out - vec_len s.scratch in
     let many : changed ≡ length (changes_between d.windows s.key m (with_tuple m x)) = omega (arith, as_many_turns s.key m (with_tuple m x) d.windows, grown s.scratch.items c.put.new.out.items (flat_map (turns s.key m (with_tuple m x)) (enumerate_from 0 d.windows)) (c.put.ensures.changes m f.without s.store more all)) in
@@ -85,7 +86,7 @@ returns-clause-bound g c = λ kept marks fits.
     let m = moment kept marks c.args.water in
     let new = moment (put_in_order kept (kept_at c.args.pos c.args.time c.args.value)) marks c.args.water in (
       put_work d s.key m new c.args.time s.store,
-      put_is_bounded g.T.AggTree.bounded d s.key m fits.known.without c.args.time s.store fits.known.held c.vouch.ensures.holds fits.none_settled c.vouch.ensures.reach new c.requires.comes.in_time.accepted,
+      put_is_bounded g.T.AggTree.bounded d s.key m fits.known.without c.args.time s.store fits.known.held fits.known.store fits.none_settled c.requires.comes.ready.reach new c.requires.comes.in_time.accepted,
       returns-clause-work g c kept marks fits,
     )
 
@@ -101,7 +102,7 @@ returns-clause-pace g c = record {
       let f = r.2.known in
       let more = (c.put_in.ensures.comes f.without).0 in
       let all : AllTakeTuple g.P.KeyPart.stands d g.P.KeyPart.is_asked c.args.water x c.put_in.new.store c.before-2.new.self.list.items m f.without s.store more =
-      all_take g.P.KeyPart.stands d g.P.KeyPart.is_asked m c.args.water s.next s.store s.parts.list.items c.before-2.new.self.list.items x c.put_in.new.store refl c.requires.comes.ready.water_is c.vouch.ensures.holds f
+      all_take g.P.KeyPart.stands d g.P.KeyPart.is_asked m c.args.water s.next s.store s.parts.list.items c.before-2.new.self.list.items x c.put_in.new.store refl c.requires.comes.ready.water_is f
       c.requires.position c.requires.few c.requires.comes.in_time.within c.requires.comes.in_time.accepted c.put_in.ensures.comes c.before-2.ensures.stays c.before-2.ensures.asked in
       c.put.ensures.ahead m f.without s.store more all le (c.before-2.ensures.ahead c.args.water s.store each);
 }

@@ -68,8 +68,8 @@ returns g c = record {
   ready =
       let d = c.args.defs.now in
       let t = c.make_room.new.self in
-      ready_to_take (λ i part. g.P.KeyPart.is_ready d i c.args.time c.args.water part) (λ i part. g.P.KeyPart.mark_room d i c.args.time c.args.water part) c.args.water c.reserve.new.self t.store c.reserve_mark.new.self.list.items t.parts.list.items
-      c.in_ok-room.room t.promise t.scratch.items (vec_capacity t.scratch - vec_len t.scratch) c.requires.to_come.is_water c.in_ok-room.ensures.ready c.in_ok-reserve.ensures.room c.in_ok-room.ensures.room c.make_room.ensures.store (ap (λ (p : Parts g.row.P.Denot). p.list.items) c.make_room.ensures.parts)
+      ready_to_take g.T.AggTree.bounded (λ i part. g.P.KeyPart.is_ready d i c.args.time c.args.water part) (λ i part. g.P.KeyPart.mark_room d i c.args.time c.args.water part) c.args.water c.reserve.new.self t.store c.reserve_mark.new.self.list.items t.parts.list.items
+      c.in_ok-room.room t.promise t.scratch.items (vec_capacity t.scratch - vec_len t.scratch) c.requires.to_come.is_water c.in_ok-room.ensures.ready c.in_ok-reserve.ensures.room c.in_ok-reserve.ensures.reach c.in_ok-room.ensures.room c.make_room.ensures.store (ap (λ (p : Parts g.row.P.Denot). p.list.items) c.make_room.ensures.parts)
       c.in_ok-make_room.ensures.promised c.in_ok-make_room.ensures.empty c.in_ok-make_room.ensures.fits_in;
   promised = search rules;
   credit = omega (arith, ap (λ (p : Parts g.row.P.Denot). rooms (λ i part. g.P.KeyPart.credit part) p.list.items) c.make_room.ensures.parts, c.reserve_mark.ensures.credit);

@@ -16,6 +16,6 @@ returns g c = λ kept marks w fits le.
     let m = moment kept marks w in
     let f = fits.known in
     c.count_from.ensures
-    ∙ slices_counted g.P.KeyPart.stands d (λ i part. g.P.KeyPart.settles_at d i c.args.water part) (sym c.all_count_events.ensures ∙ c.if-all_count_events.false) kept marks w c.args.water s.next s.store s.parts.list.items c.first_unsettled-time.result c.vouch.ensures.holds le f
+    ∙ slices_counted g.P.KeyPart.stands d (λ i part. g.P.KeyPart.settles_at d i c.args.water part) (sym c.all_count_events.ensures ∙ c.if-all_count_events.false) kept marks w c.args.water s.next s.store s.parts.list.items c.first_unsettled-time.result le f
     c.first_unsettled-time.ensures.least
-    (c.first_unsettled-time.ensures.settles m f.without s.store w le (all_stand g.P.KeyPart.stands d m w s.next s.store s.parts.list.items refl c.vouch.ensures.holds f))
+    (c.first_unsettled-time.ensures.settles m f.without s.store w le (all_stand g.P.KeyPart.stands d m w s.next s.store s.parts.list.items refl f))

@@ -13,7 +13,7 @@ purge-requires g c =
     let m = moment r.0 r.1 c.args.old in
     let moved : StandsFor g.P.KeyPart.stands d (moment r.0 r.1 c.args.new) s.next s.store c.water.new.self.list.items =
     stands_moved g.P.KeyPart.stands d r.0 r.1 c.args.old c.args.new s.next s.store s.parts.list.items c.water.new.self.list.items c.requires.in_time.rises r.2.known
-    (c.water.ensures.stands m r.2.known.without (all_stand g.P.KeyPart.stands d m c.args.old s.next s.store s.parts.list.items refl c.vouch.ensures.holds r.2.known)) in
+    (c.water.ensures.stands m r.2.known.without (all_stand g.P.KeyPart.stands d m c.args.old s.next s.store s.parts.list.items refl r.2.known)) in
     record { is_water = c.requires.in_time.is_water; key = (r.0, r.1, moved) }
 
 pub returns-then-is_water-clause-taken : goal.returns-then-is_water-clause-taken
@@ -24,8 +24,8 @@ returns-then-is_water-clause-taken g c = record {
       let s = c.args.self.now in
       let d = c.args.defs.now in
       let m = moment kept marks c.args.old in
-      c.water.ensures.changes m fits.known.without (all_stand g.P.KeyPart.stands d m c.args.old s.next s.store s.parts.list.items refl c.vouch.ensures.holds fits.known)
-      ∙ ap (λ cs. c.args.out.now.items ++ cs) (sym (move_is d s.key kept marks c.args.old c.args.new s.next c.windows-windows.ensures.limits fits.known.lists c.requires.in_time.rises));
+      c.water.ensures.changes m fits.known.without (all_stand g.P.KeyPart.stands d m c.args.old s.next s.store s.parts.list.items refl fits.known)
+      ∙ ap (λ cs. c.args.out.now.items ++ cs) (sym (move_is d s.key kept marks c.args.old c.args.new s.next fits.known.held.may_leave.kinds fits.known.lists c.requires.in_time.rises));
   capacity = c.water.ensures.adds.capacity;
   fits = λ kept marks fits.
       let s = c.args.self.now in
@@ -33,7 +33,7 @@ returns-then-is_water-clause-taken g c = record {
       let m = moment kept marks c.args.old in
       let moved : StandsFor g.P.KeyPart.stands d (moment kept marks c.args.new) s.next s.store c.water.new.self.list.items =
       stands_moved g.P.KeyPart.stands d kept marks c.args.old c.args.new s.next s.store s.parts.list.items c.water.new.self.list.items c.requires.in_time.rises fits.known
-      (c.water.ensures.stands m fits.known.without (all_stand g.P.KeyPart.stands d m c.args.old s.next s.store s.parts.list.items refl c.vouch.ensures.holds fits.known)) in
+      (c.water.ensures.stands m fits.known.without (all_stand g.P.KeyPart.stands d m c.args.old s.next s.store s.parts.list.items refl fits.known)) in
       c.purge.ensures.fits kept marks moved;
 }
 
@@ -46,7 +46,7 @@ returns-else-is_water-clause-taken g c = record {
       let d = c.args.defs.now in
       let none : kept ≡ [] = ⊎_elim (λ is. let yes : c.is_water.result ≡ true = c.is_water.ensures.no is in cc (c.if-is_water.false)) (λ (b : IsBlank g.P.KeyPart.stands d kept marks s.next s.store s.parts.list.items). b.no_tuple) fits.clock in
       sym (append-nil c.args.out.now.items)
-      ∙ ap (λ cs. c.args.out.now.items ++ cs) (sym (nothing_moves d s.key kept marks c.args.old c.args.new s.next c.windows-windows.ensures.limits fits.known.lists c.requires.in_time.rises none));
+      ∙ ap (λ cs. c.args.out.now.items ++ cs) (sym (nothing_moves d s.key kept marks c.args.old c.args.new s.next fits.known.held.may_leave.kinds fits.known.lists c.requires.in_time.rises none));
   capacity = refl;
   fits = λ kept marks fits.
       let s = c.args.self.now in
@@ -62,7 +62,7 @@ returns-then-is_water-clause-ahead g c = λ is.
     let d = c.args.defs.now in
     let m = moment r.0 r.1 c.args.old in
     let f = r.2.known in
-    c.purge.ensures.ahead (c.water.ensures.ahead m f.without (all_stand g.P.KeyPart.stands d m c.args.old s.next s.store s.parts.list.items refl c.vouch.ensures.holds f))
+    c.purge.ensures.ahead (c.water.ensures.ahead m f.without (all_stand g.P.KeyPart.stands d m c.args.old s.next s.store s.parts.list.items refl f))
 
 pub returns-else-is_water-clause-ahead : goal.returns-else-is_water-clause-ahead
 returns-else-is_water-clause-ahead g c = λ is. let yes : c.is_water.result ≡ true = c.is_water.ensures.no is in cc (c.if-is_water.false)
@@ -73,7 +73,7 @@ returns-then-is_water-clause-work_ahead g c = λ kept marks fits each.
     let d = c.args.defs.now in
     let m = moment kept marks c.args.old in
     let f = fits.known in
-    omega (arith, c.water.ensures.work_ahead m f.without (all_stand g.P.KeyPart.stands d m c.args.old s.next s.store s.parts.list.items refl c.vouch.ensures.holds f) each, c.purge.ensures.work, c.purge.ensures.credit)
+    omega (arith, c.water.ensures.work_ahead m f.without (all_stand g.P.KeyPart.stands d m c.args.old s.next s.store s.parts.list.items refl f) each, c.purge.ensures.work, c.purge.ensures.credit)
 
 pub returns-then-is_water-clause-work : goal.returns-then-is_water-clause-work
 returns-then-is_water-clause-work g c = λ kept marks fits.
@@ -81,4 +81,4 @@ returns-then-is_water-clause-work g c = λ kept marks fits.
     let d = c.args.defs.now in
     let m = moment kept marks c.args.old in
     let f = fits.known in
-    omega (arith, c.water.ensures.work m f.without (all_stand g.P.KeyPart.stands d m c.args.old s.next s.store s.parts.list.items refl c.vouch.ensures.holds f), c.purge.ensures.work, c.purge.ensures.credit)
+    omega (arith, c.water.ensures.work m f.without (all_stand g.P.KeyPart.stands d m c.args.old s.next s.store s.parts.list.items refl f), c.purge.ensures.work, c.purge.ensures.credit)

@@ -14,8 +14,8 @@ drop_settled-requires g c =
     let d = c.args.defs.now in
     let m = moment r.0 r.1 c.args.water in
     let f = r.2 in
-    aligned g.P.KeyPart.stands d (λ i part. g.P.KeyPart.settles_at d i c.args.water part) (sym c.all_count_events.ensures ∙ c.if-all_count_events.false) m s.next s.store s.parts.list.items c.first_unsettled-time.result c.vouch.ensures.holds f
-    c.first_unsettled-time.ensures.least (c.first_unsettled-time.ensures.settles m f.without s.store c.args.water (omega arith) (all_stand g.P.KeyPart.stands d m c.args.water s.next s.store s.parts.list.items refl c.vouch.ensures.holds f))
+    aligned g.P.KeyPart.stands d (λ i part. g.P.KeyPart.settles_at d i c.args.water part) (sym c.all_count_events.ensures ∙ c.if-all_count_events.false) m s.next s.store s.parts.list.items c.first_unsettled-time.result f
+    c.first_unsettled-time.ensures.least (c.first_unsettled-time.ensures.settles m f.without s.store c.args.water (omega arith) (all_stand g.P.KeyPart.stands d m c.args.water s.next s.store s.parts.list.items refl f))
 
 pub returns-then-begins_before-clause-fits : goal.returns-then-begins_before-clause-fits
 returns-then-begins_before-clause-fits g c = λ kept marks f.
@@ -23,14 +23,14 @@ returns-then-begins_before-clause-fits g c = λ kept marks f.
     let d = c.args.defs.now in
     let m = moment kept marks c.args.water in
     let time = c.first_unsettled-time.result in
-    let p = purge_step g.P.KeyPart.stands d (λ i part. g.P.KeyPart.settles_at d i c.args.water part) (sym c.all_count_events.ensures ∙ c.if-all_count_events.false) m s.next s.store c.drop_settled.new.self s.parts.list.items time c.vouch.ensures.holds f
-    c.first_unsettled-time.ensures.least (c.first_unsettled-time.ensures.settles m f.without s.store c.args.water (omega arith) (all_stand g.P.KeyPart.stands d m c.args.water s.next s.store s.parts.list.items refl c.vouch.ensures.holds f))
+    let p = purge_step g.P.KeyPart.stands d (λ i part. g.P.KeyPart.settles_at d i c.args.water part) (sym c.all_count_events.ensures ∙ c.if-all_count_events.false) m s.next s.store c.drop_settled.new.self s.parts.list.items time f
+    c.first_unsettled-time.ensures.least (c.first_unsettled-time.ensures.settles m f.without s.store c.args.water (omega arith) (all_stand g.P.KeyPart.stands d m c.args.water s.next s.store s.parts.list.items refl f))
     (record { slices = c.drop_settled.ensures.slices; marks = c.drop_settled.ensures.marks; dropped = c.drop_settled.ensures.dropped }) (c.drop_settled.ensures.sliced d.windows) in
-    fits_purged g.P.KeyPart.stands d (λ i part. g.P.KeyPart.settles_at d i c.args.water part) (sym c.all_count_events.ensures ∙ c.if-all_count_events.false) kept marks c.args.water s.next f.without time p.0 s.store c.drop_settled.new.self c.drop_settled-then-begins_before.new.self.list.items c.requires.is_water f.lists p.1
+    fits_purged g.P.KeyPart.stands d (λ i part. g.P.KeyPart.settles_at d i c.args.water part) (sym c.all_count_events.ensures ∙ c.if-all_count_events.false) kept marks c.args.water s.next f.without time p.0 s.store c.drop_settled.new.self c.drop_settled-then-begins_before.new.self.list.items c.requires.is_water f.lists p.1 c.drop_settled.ensures.marks
     (c.drop_settled-then-begins_before.ensures.stands m f.without time s.store p.0 c.drop_settled.new.self (record { water_is = refl; purge = p.1; stood = f.stood }) c.first_unsettled-time.ensures.least.by_each)
     f.bare
-    (open_left g.P.KeyPart.stands d (λ i part. g.P.KeyPart.settles_at d i c.args.water part) (sym c.all_count_events.ensures ∙ c.if-all_count_events.false) m s.next s.store c.drop_settled.new.self s.parts.list.items time c.vouch.ensures.holds f
-    c.first_unsettled-time.ensures.least (c.first_unsettled-time.ensures.settles m f.without s.store c.args.water (omega arith) (all_stand g.P.KeyPart.stands d m c.args.water s.next s.store s.parts.list.items refl c.vouch.ensures.holds f)) c.drop_settled.ensures.slices)
+    (open_left g.P.KeyPart.stands d (λ i part. g.P.KeyPart.settles_at d i c.args.water part) (sym c.all_count_events.ensures ∙ c.if-all_count_events.false) m s.next s.store c.drop_settled.new.self s.parts.list.items time f
+    c.first_unsettled-time.ensures.least (c.first_unsettled-time.ensures.settles m f.without s.store c.args.water (omega arith) (all_stand g.P.KeyPart.stands d m c.args.water s.next s.store s.parts.list.items refl f)) c.drop_settled.ensures.slices)
 
 pub returns-else-begins_before-clause-fits : goal.returns-else-begins_before-clause-fits
 returns-else-begins_before-clause-fits g c = λ kept marks f.
@@ -39,8 +39,8 @@ returns-else-begins_before-clause-fits g c = λ kept marks f.
     let m = moment kept marks c.args.water in
     record {
       known = f;
-      none_settled = open_left g.P.KeyPart.stands d (λ i part. g.P.KeyPart.settles_at d i c.args.water part) (sym c.all_count_events.ensures ∙ c.if-all_count_events.false) m s.next s.store s.store s.parts.list.items c.first_unsettled-time.result c.vouch.ensures.holds f
-          c.first_unsettled-time.ensures.least (c.first_unsettled-time.ensures.settles m f.without s.store c.args.water (omega arith) (all_stand g.P.KeyPart.stands d m c.args.water s.next s.store s.parts.list.items refl c.vouch.ensures.holds f))
+      none_settled = open_left g.P.KeyPart.stands d (λ i part. g.P.KeyPart.settles_at d i c.args.water part) (sym c.all_count_events.ensures ∙ c.if-all_count_events.false) m s.next s.store s.store s.parts.list.items c.first_unsettled-time.result f
+          c.first_unsettled-time.ensures.least (c.first_unsettled-time.ensures.settles m f.without s.store c.args.water (omega arith) (all_stand g.P.KeyPart.stands d m c.args.water s.next s.store s.parts.list.items refl f))
           (sym (c.begins_before.ensures c.if-begins_before.false));
       clock = inl c.requires.is_water;
     }
@@ -71,7 +71,7 @@ returns-then-begins_before-clause-ahead g c = λ each.
     let m = moment r.0 r.1 c.args.water in
     let f = r.2 in
     let time = c.first_unsettled-time.result in
-    let p = purge_step g.P.KeyPart.stands d (λ i part. g.P.KeyPart.settles_at d i c.args.water part) (sym c.all_count_events.ensures ∙ c.if-all_count_events.false) m s.next s.store c.drop_settled.new.self s.parts.list.items time c.vouch.ensures.holds f
-    c.first_unsettled-time.ensures.least (c.first_unsettled-time.ensures.settles m f.without s.store c.args.water (omega arith) (all_stand g.P.KeyPart.stands d m c.args.water s.next s.store s.parts.list.items refl c.vouch.ensures.holds f))
+    let p = purge_step g.P.KeyPart.stands d (λ i part. g.P.KeyPart.settles_at d i c.args.water part) (sym c.all_count_events.ensures ∙ c.if-all_count_events.false) m s.next s.store c.drop_settled.new.self s.parts.list.items time f
+    c.first_unsettled-time.ensures.least (c.first_unsettled-time.ensures.settles m f.without s.store c.args.water (omega arith) (all_stand g.P.KeyPart.stands d m c.args.water s.next s.store s.parts.list.items refl f))
     (record { slices = c.drop_settled.ensures.slices; marks = c.drop_settled.ensures.marks; dropped = c.drop_settled.ensures.dropped }) (c.drop_settled.ensures.sliced d.windows) in
     c.drop_settled-then-begins_before.ensures.ahead m f.without time s.store p.0 c.drop_settled.new.self (record { water_is = refl; purge = p.1; stood = f.stood }) each

@@ -17,8 +17,8 @@ returns-clause-none_before g c = λ kept marks new fits rises below is.
     let m = moment kept marks c.args.water in
     let f = fits.known in
     let early : new < c.settled_by.result = ⊎_elim (λ lt. lt) (λ (le : c.settled_by.result ≤ new). absurd (omega (arith, below, c.water_from.ensures.first new is le))) (cases_lt new c.settled_by.result) in
-    open_at g.P.KeyPart.stands d (λ i part. g.P.KeyPart.settles_at d i new part) c.requires.some kept marks c.args.water new s.next s.store s.parts.list.items c.args.time c.vouch.ensures.holds rises f
-    (c.settled_by.ensures.settles m f.without s.store c.args.water new rises is (all_stand g.P.KeyPart.stands d m c.args.water s.next s.store s.parts.list.items refl c.vouch.ensures.holds f))
+    open_at g.P.KeyPart.stands d (λ i part. g.P.KeyPart.settles_at d i new part) c.requires.some kept marks c.args.water new s.next s.store s.parts.list.items c.args.time rises f
+    (c.settled_by.ensures.settles m f.without s.store c.args.water new rises is (all_stand g.P.KeyPart.stands d m c.args.water s.next s.store s.parts.list.items refl f))
     (λ least o. c.settled_by.ensures.before new least early o) c.requires.first.least
 
 pub returns-clause-by_then : goal.returns-clause-by_then
@@ -28,7 +28,7 @@ returns-clause-by_then g c = λ kept marks x fits there le final.
     let m = moment kept marks c.args.water in
     let f = fits.known in
     let due = c.water_from.result in
-    let stand = all_stand g.P.KeyPart.stands d m c.args.water s.next s.store s.parts.list.items refl c.vouch.ensures.holds f in
+    let stand = all_stand g.P.KeyPart.stands d m c.args.water s.next s.store s.parts.list.items refl f in
     ⊎_elim
     (λ (lt : c.args.water < due).
     let from : c.args.water ≤ due = omega arith in (
