@@ -98,12 +98,12 @@ end_held d n k i taken back owner h = holds n taken back h.many h.whole h.from k
 pub end_about : (d : Definitions) (n k i : ℕ) (taken : List (Letter Entry)) (back : List (List Entry)) (owner : Owner) → IsEnd d n k taken back owner → IsAbout k (note_of i owner.notes)
 end_about d n k i taken back owner h = ((h.after).noted (not_stray d n k taken back owner h owner.stray refl)).about i
 
-pub end_settled : (d : Definitions) (n k : ℕ) (taken : List (Letter Entry)) (back : List (List Entry)) (owner : Owner) → IsEnd d n k taken back owner → IsJournal (owner.shard).sources (owner.shard).journal → IsSettledShard d n owner.shard
-end_settled d n k taken back owner h journal =
+pub end_settled : (d : Definitions) (n k : ℕ) (taken : List (Letter Entry)) (back : List (List Entry)) (owner : Owner) → IsEnd d n k taken back owner → IsSettledShard d n owner.shard
+end_settled d n k taken back owner h =
     let sources : (owner.shard).sources ≡ n = owner.alike ∙ (h.after).sources_are in
     record {
-      gathered = record { defs = (h.after).defs_are; sources_are = sources; journal = subst (λ (m : ℕ). IsJournal m (owner.shard).journal) sources journal };
-      short = journal.short;
+      gathered = record { defs = (h.after).defs_are; sources_are = sources; journal = subst (λ (m : ℕ). IsJournal m (owner.shard).journal) sources owner.journal };
+      short = (owner.journal).short;
     }
 
 -- at the end of a lane its owner has all that was sent

@@ -1,6 +1,7 @@
 ghost use Rattle.std.specs.Prelude.{◌≡◌, [], length};
 ghost use Rattle.fan_in.specs.Desks.{fixed_of, items_of};
 ghost use Rattle.fan_in.specs.Offers.{Books, MayOffer};
+ghost use Rattle.shard_core.specs.Shard.{IsJournal};
 
 use crate::fixed_part::FixedPart;
 use agg_laws::Steps;
@@ -52,7 +53,9 @@ impl Booked {
 
     /// The shard, handed out.
     pub fn into_shard(self) -> Shard
-        ensures { result ≡ self.shard }
+        ensures value { result ≡ self.shard }
+        ensures numbered { length self.numbers ≡ length (self.shard).journal }
+        ensures journal { IsJournal (self.shard).sources (self.shard).journal }
     {
         let Booked { shard, numbers: _ } = self;
         shard

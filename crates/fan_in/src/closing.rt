@@ -61,10 +61,7 @@ fn close_desk<R: Wait>(
 {
     let column = column_of(alloc, zero, rows)?;
     match desk.close(rt, alloc, column) {
-        Ok((booked, _)) => {
-            let _known = booked.shard().journal_len();
-            Ok(booked.into_shard())
-        }
+        Ok((booked, _)) => Ok(booked.into_shard()),
         Err(_) => Err(NoMemory),
     }
 }

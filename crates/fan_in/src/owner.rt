@@ -1,4 +1,5 @@
 ghost use Rattle.std.specs.Prelude.{◌≡◌, ◌≤◌, ◌<◌};
+ghost use Rattle.shard_core.specs.Shard.{IsJournal};
 
 use crate::outcome::Outcome;
 use crate::plan::Plan;
@@ -24,6 +25,7 @@ pub(crate) struct Owner {
     ghost few: { number < 16 },
     ghost few_sources: { sources ≤ 16 },
     ghost alike: { shard.sources ≡ sources },
+    ghost journal: { IsJournal shard.sources shard.journal },
 }
 
 impl Owner {

@@ -105,7 +105,6 @@ fn settle_lane<G: Gate, R: Threads + Wait>(
         // beyond the limits or behind its end.
         unreachable!()
     }
-    let _journal = owner.shard.journal_len();
     owner
 }
 

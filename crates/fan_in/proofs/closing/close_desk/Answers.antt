@@ -1,5 +1,3 @@
-use Rattle.std.proofs.Common.{subst}
-use Rattle.shard_core.specs.Shard.{IsJournal, Sharded}
 use Rattle.fan_in.proofs.Journals.{all_given, closed, of_desk, settled}
 use Rattle.fan_in.proofs.closing.close_desk.Goals as goal
 
@@ -8,11 +6,10 @@ close-requires-clause-own g c = of_desk _ _ _ _ _ c.requires.zero c.requires.row
 
 pub returns-in-Ok-clause-closed : goal.returns-in-Ok-clause-closed
 returns-in-Ok-clause-closed g c =
-    let journal = subst (λ (s : Sharded). IsJournal s.sources s.journal) c.shard.ensures.value c.journal_len-known.ensures.journal in
-    rw c.into_shard.ensures (closed _ _ _ _ _ c.requires.zero c.requires.rows c.in_ok-column.ensures.column c.in-Ok.booked c.shard.ensures.numbered c.in-Ok.ensures.fixed journal)
+    rw c.into_shard.ensures.value (closed _ _ _ _ _ c.requires.zero c.requires.rows c.in_ok-column.ensures.column c.in-Ok.booked c.into_shard.ensures.numbered c.in-Ok.ensures.fixed c.into_shard.ensures.journal)
 
 pub returns-in-Ok-clause-settled : goal.returns-in-Ok-clause-settled
 returns-in-Ok-clause-settled g c =
     let column = c.in_ok-column.ensures.column in
     let complete = c.in-Ok.ensures.complete (all_given _ _ _ _ _ c.requires.zero c.requires.rows column) in
-    rw c.into_shard.ensures (settled _ _ _ _ _ c.requires.zero c.requires.rows column c.in-Ok.booked c.shard.ensures.numbered c.in-Ok.ensures.begins c.in-Ok.ensures.made complete)
+    rw c.into_shard.ensures.value (settled _ _ _ _ _ c.requires.zero c.requires.rows column c.in-Ok.booked c.into_shard.ensures.numbered c.in-Ok.ensures.begins c.in-Ok.ensures.made complete)

@@ -12,7 +12,7 @@ pub returns-clause-number : goal.returns-clause-number
 returns-clause-number g c = (at_end _ _ _ c.args.mail c.args.rows.now c.args.job c.bring_back.new.receiver _ c.settle-settled.result _ _ c.requires.many c.requires.rows c.requires.owns c.bring_back.ensures.taken c.bring_back.ensures.many c.bring_back.ensures.back c.new.ensures.items c.settle-settled.ensures.taken c.settle-settled.ensures.sent c.apply_rest.ensures.whole c.apply_rest.ensures.sent (c.apply_rest.ensures.after _ _ _)).after.number_is
 
 pub returns-clause-settled : goal.returns-clause-settled
-returns-clause-settled g c = end_settled _ _ _ _ _ _ (at_end _ _ _ c.args.mail c.args.rows.now c.args.job c.bring_back.new.receiver _ c.settle-settled.result _ _ c.requires.many c.requires.rows c.requires.owns c.bring_back.ensures.taken c.bring_back.ensures.many c.bring_back.ensures.back c.new.ensures.items c.settle-settled.ensures.taken c.settle-settled.ensures.sent c.apply_rest.ensures.whole c.apply_rest.ensures.sent (c.apply_rest.ensures.after _ _ _)) c.journal_len-journal.ensures.journal
+returns-clause-settled g c = end_settled _ _ _ _ _ _ (at_end _ _ _ c.args.mail c.args.rows.now c.args.job c.bring_back.new.receiver _ c.settle-settled.result _ _ c.requires.many c.requires.rows c.requires.owns c.bring_back.ensures.taken c.bring_back.ensures.many c.bring_back.ensures.back c.new.ensures.items c.settle-settled.ensures.taken c.settle-settled.ensures.sent c.apply_rest.ensures.whole c.apply_rest.ensures.sent (c.apply_rest.ensures.after _ _ _))
 
 pub returns-clause-about : goal.returns-clause-about
 returns-clause-about g c i = end_about _ _ _ i _ _ _ (at_end _ _ _ c.args.mail c.args.rows.now c.args.job c.bring_back.new.receiver _ c.settle-settled.result _ _ c.requires.many c.requires.rows c.requires.owns c.bring_back.ensures.taken c.bring_back.ensures.many c.bring_back.ensures.back c.new.ensures.items c.settle-settled.ensures.taken c.settle-settled.ensures.sent c.apply_rest.ensures.whole c.apply_rest.ensures.sent (c.apply_rest.ensures.after _ _ _))

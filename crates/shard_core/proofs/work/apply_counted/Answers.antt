@@ -6,6 +6,7 @@ use Rattle.shard_core.proofs.work.apply_counted.Goals as goal
 pub returns-clause-applies : goal.returns-clause-applies
 returns-clause-applies g c = let a = c.apply.ensures.applies in record {
   applied = a.applied;
+  journal = a.journal;
   position = a.position;
   changes = a.changes;
   refused = a.refused;

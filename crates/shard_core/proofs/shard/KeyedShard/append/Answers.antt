@@ -2,7 +2,9 @@
 use Rattle.std.proofs.Common.{◌≡◌, ◌∙◌, ◌++◌, ◌∷◌, [], ap, arith, length, length-append, rules, subst}
 use Rattle.stream_base.specs.Model.Changes.{changes_after}
 use Rattle.shard_core.specs.Flat.{sharded}
+use Rattle.shard_core.specs.Shard.{IsNext}
 use Rattle.shard_core.specs.Work.{IsTupleWithin}
+use Rattle.shard_core.proofs.Journals.{journal_push}
 use Rattle.shard_core.proofs.Shards.{longer_shard}
 use Rattle.shard_core.proofs.shard.KeyedShard.append.Goals as goal
 
@@ -25,6 +27,10 @@ invariant_of-self-2 g c =
 pub returns : goal.returns
 returns g c = record {
   applied = search rules;
+  journal =
+      let ready = c.reserve.new.self in
+      let next : IsNext ready.sources ready.journal c.args.entry.now = rw (c.reserve.ensures.same.sources, c.reserve.ensures.journal) (rw (← c.self.view_is) at c.requires) in
+      rw (c.push.ensures.same.sources, c.push.ensures.journal) (journal_push ready.sources ready.journal c.args.entry.now c.journal.ensures.journal next);
   position = search rules;
   changes =
       let old = c.self.inside.past in
