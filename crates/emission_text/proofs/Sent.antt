@@ -24,6 +24,10 @@ module _ {K : Type 0} {written : K → Option (List ℕ)} {faults : K → ℕ} w
   pub appends_nothing : (text : List ℕ) (sink : K) → AppendsPrefix written faults text text sink sink
   appends_nothing text sink = record { prefix = []; splits = refl; appended = with_back-nothing (written sink); quiet = refl }
 
+  -- putting no text leaves what is pending
+  pub puts_nothing : (pending : List ℕ) (sink : K) → AppendsPrefix written faults (pending ++ []) pending sink sink
+  puts_nothing pending sink = subst (λ text. AppendsPrefix written faults text pending sink sink) (sym (append-nil pending)) (appends_nothing pending sink)
+
   -- all of a text went out
   pub appends_all : {text : List ℕ} {old new : K} → Appends written faults text old new → AppendsPrefix written faults text [] old new
   appends_all {text = text} all = record { prefix = text; splits = sym (append-nil text); appended = all.appended; quiet = all.quiet }

@@ -73,7 +73,7 @@ fn put_front<K: Sink>(form: ReportForm, out: &mut Pending, sink: &mut K) -> Resu
         out.old out.new sink.old sink.new result }
 {
     match form {
-        ReportForm::One => put_pieces(&[], out, sink),
+        ReportForm::One => Ok(()),
         ReportForm::Two => put_pieces(&[b"report 2\n"], out, sink),
     }
 }

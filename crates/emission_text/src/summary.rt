@@ -115,7 +115,7 @@ fn put_last<K: Sink>(last: &Option<Row>, out: &mut Pending, sink: &mut K) -> Res
         out.old out.new sink.old sink.new result }
 {
     match last {
-        None => put_pieces(&[], out, sink),
+        None => Ok(()),
         Some(row) => put_row(b"+", row, out, sink),
     }
 }
