@@ -1,6 +1,5 @@
 -- How a test keeps a store together with the windows that are told from it.
 use Rattle.std.specs.Prelude.{◌≡◌, ◌≤◌, ℕ, List, length}
-use Rattle.stream_base.specs.declared.def.Def.{Def}
 use Rattle.stream_base.specs.declared.limits.TheConstants.{TIME_MAX}
 use Rattle.stream_base.specs.Limits.{Definitions}
 use Rattle.agg_store.specs.Stored.{IsSliced, Stored, tuples_of}
@@ -21,11 +20,6 @@ pub record AreOfMarks (d : Definitions) (store : Stored) (s : Marked) : Type 0 w
 -- the store has no more tuples than there are positions before this one
 abbrev pub HaveCome : ℕ → Stored → Type 0
 HaveCome position store = length (tuples_of store) ≤ position
-
--- a tuple or a mark may come at a time to a store whose slices are those of the windows
-pub record MayEnter (at : ℕ) (windows : List Def) (store : Stored) : Type 0 where
-  pub sliced : IsSliced windows store
-  pub time : at ≤ TIME_MAX
 
 -- the sessions are those of the store, and it is known up to which time they are forgotten
 pub record AreKnown (d : Definitions) (store : Stored) (s : Spanned) (forgotten : ℕ) : Type 0 where

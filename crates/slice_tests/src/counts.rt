@@ -1,9 +1,8 @@
-ghost use Rattle.std.specs.Prelude.{◌≡◌, ◌≤◌, ◌<◌, OnOk, IfOk, vec_len, vec_capacity};
-ghost use Rattle.stream_base.specs.Model.Journal.{put_in_order};
-ghost use Rattle.count_shift.specs.Counting.{IsEvents, IsNextPosition, count_of, kept_at, upper};
+ghost use Rattle.std.specs.Prelude.{◌<◌};
 
 use agg_laws::Steps;
 use count_shift::{CountLane, Shifted};
+use std::alloc::Global;
 use std::process::Abort;
 use std::test::Fail;
 use stream_base::{Change, Def, FINAL, Former, Func, KeyText, Kind, NoMemory, Row, Shown};
@@ -16,6 +15,92 @@ const PAIRS: Def = Def {
     kind: Kind::Events { count: 2 },
     func: Func::Sum,
 };
+
+// What comes to the sums of a key.
+#[derive(Clone, Copy)]
+enum Step {
+    // A tuple of a value at a time, under a watermark, and its rank.
+    Put(u64, i64, u64, u64),
+    // A move of the watermark.
+    Water(u64, u64),
+}
+
+// The sums of a key: its tuples, and the changes.
+#[derive(Drop)]
+struct Pairs {
+    lane: CountLane,
+    key: KeyText,
+    changes: Vec<Change>,
+    steps: Steps<Work>,
+}
+
+impl Pairs {
+    // Sums of key `a` with no tuple yet.
+    fn new(alloc: Global, steps: Steps<Work>) -> Result<Pairs, Fail> {
+        let key = KeyText::from_bytes(b"a")?;
+        Ok(Pairs {
+            lane: CountLane::new(alloc),
+            key,
+            changes: Vec::new(alloc),
+            steps,
+        })
+    }
+
+    // Takes the steps, one after another; each comes with how many changes were told by then.
+    fn follow(&mut self, rt: &impl Abort, script: &[(Step, usize)]) -> Result<(), Fail> {
+        for k in 0..script.len() {
+            let (step, told) = script[k];
+            self.take(rt, k as u64, step)?;
+            assert_eq!(rt; self.changes.len(), told, "after step {k}");
+        }
+        Ok(())
+    }
+
+    fn take(&mut self, rt: &impl Abort, pos: u64, step: Step) -> Result<(), Fail> {
+        match step {
+            Step::Put(time, value, water, rank) => {
+                let found = self.put(pos, time, value, water)?;
+                assert_eq!(rt; found, rank, "at step {pos}");
+            }
+            Step::Water(old, new) => self.move_water(old, new)?,
+        }
+        Ok(())
+    }
+
+    // One tuple more under a watermark; it answers its rank.
+    fn put(&mut self, pos: u64, time: u64, value: i64, water: u64) -> Result<u64, NoMemory> {
+        let changes = self.lane.reserve(2, time, water)?;
+        self.changes.reserve(changes as usize)?;
+        let Shifted { from_rank } = self.lane.put(
+            0,
+            &PAIRS,
+            &self.key,
+            pos,
+            time,
+            value,
+            water,
+            &mut self.changes,
+            &mut self.steps,
+        );
+        Ok(from_rank)
+    }
+
+    // A move of the watermark.
+    fn move_water(&mut self, old: u64, new: u64) -> Result<(), NoMemory> {
+        let due = self.lane.due(2, old, new);
+        self.changes.reserve(due as usize)?;
+        self.lane.rows(
+            0,
+            &PAIRS,
+            &self.key,
+            old,
+            new,
+            &mut self.changes,
+            &mut self.steps,
+        );
+        Ok(())
+    }
+}
 
 // The row of one of those sums, by its start.
 fn pair(key: &KeyText, low: u64, sum: i128) -> Row
@@ -31,13 +116,13 @@ fn pair(key: &KeyText, low: u64, sum: i128) -> Row
     }
 }
 
-fn told_as_new(key: &KeyText, low: u64, sum: i128) -> Change
+fn new(key: &KeyText, low: u64, sum: i128) -> Change
     requires { low < 100 }
 {
     Change::New(pair(key, low, sum))
 }
 
-fn told_again(key: &KeyText, low: u64, sum: i128, was: i128) -> Change
+fn again(key: &KeyText, low: u64, sum: i128, was: i128) -> Change
     requires { low < 100 }
 {
     let former = Former {
@@ -50,108 +135,64 @@ fn told_again(key: &KeyText, low: u64, sum: i128, was: i128) -> Change
     }
 }
 
-// Makes room for a tuple, puts it and answers its rank; `out` then has its changes alone.
-fn put_alone(
-    lane: &mut CountLane,
-    key: &KeyText,
-    pos: u64,
-    time: u64,
-    value: i64,
-    water: u64,
-    out: &mut Vec<Change>,
-    steps: &mut Steps<Work>,
-) -> Result<u64, NoMemory>
-    ensures { IfOk result (λ rank. rank ≡ upper lane.old.kept time) }
-{
-    let changes = lane.reserve(2, time, water)?;
-    out.clear();
-    out.reserve(changes as usize)?;
-    let Shifted { from_rank } = lane.put(0, &PAIRS, key, pos, time, value, water, out, steps);
-    Ok(from_rank)
-}
-
-// Makes room for the rows of a move of the watermark, and appends them; `out` then has them alone.
-fn move_alone(
-    lane: &CountLane,
-    key: &KeyText,
-    old: u64,
-    new: u64,
-    out: &mut Vec<Change>,
-    steps: &mut Steps<Work>,
-) -> Result<u64, NoMemory> {
-    let due = lane.due(2, old, new);
-    out.clear();
-    out.reserve(due as usize)?;
-    lane.rows(0, &PAIRS, key, old, new, out, steps);
-    Ok(due)
-}
-
 #[test]
 fn a_late_tuple_goes_to_its_rank(rt: HostRuntime) -> Result<(), Fail> {
-    let mut steps: Steps<Work> = Steps::start(&rt);
+    let script = [
+        (Step::Put(1, 1, 9, 0), 0),
+        (Step::Put(5, 2, 9, 1), 1),
+        (Step::Put(3, 4, 9, 1), 2),
+    ];
     let a = KeyText::from_bytes(b"a")?;
-    let mut lane = CountLane::new(rt.alloc());
-    let mut out = Vec::new(rt.alloc());
-    assert_eq!(rt;
-        put_alone(&mut lane, &a, 0, 1, 1, 9, &mut out, &mut steps)?,
-        0
-    );
-    assert!(rt; out.is_empty());
-    assert_eq!(rt;
-        put_alone(&mut lane, &a, 1, 5, 2, 9, &mut out, &mut steps)?,
-        1
-    );
-    let first = [told_as_new(&a, 0, 3)];
-    assert_eq!(rt; out.as_slice(), first.as_slice());
-    assert_eq!(rt;
-        put_alone(&mut lane, &a, 2, 3, 4, 9, &mut out, &mut steps)?,
-        1
-    );
-    let second = [told_again(&a, 0, 5, 3)];
-    assert_eq!(rt; out.as_slice(), second.as_slice());
+    let told = [new(&a, 0, 3), again(&a, 0, 5, 3)];
+    let mut pairs = Pairs::new(rt.alloc(), Steps::start(&rt))?;
+    pairs.follow(&rt, &script)?;
+    assert_eq!(rt; pairs.changes.as_slice(), told.as_slice());
     Ok(())
 }
 
 #[test]
 fn a_late_tuple_shifts_each_later_one(rt: HostRuntime) -> Result<(), Fail> {
-    let mut steps: Steps<Work> = Steps::start(&rt);
+    let script = [
+        (Step::Put(1, 1, 0, 0), 0),
+        (Step::Put(5, 2, 0, 1), 0),
+        (Step::Put(7, 4, 0, 2), 0),
+        (Step::Put(9, 8, 0, 3), 0),
+        (Step::Water(0, 9), 2),
+        (Step::Put(3, 16, 9, 1), 4),
+        (Step::Water(9, FINAL), 4),
+    ];
     let a = KeyText::from_bytes(b"a")?;
-    let mut lane = CountLane::new(rt.alloc());
-    let mut out = Vec::new(rt.alloc());
-    for (pos, time, value) in [(0, 1, 1), (1, 5, 2), (2, 7, 4), (3, 9, 8)] {
-        put_alone(&mut lane, &a, pos, time, value, 0, &mut out, &mut steps)?;
-        assert!(rt; out.is_empty());
-    }
-    assert_eq!(rt; move_alone(&lane, &a, 0, 9, &mut out, &mut steps)?, 2);
-    let stood = [told_as_new(&a, 0, 3), told_as_new(&a, 2, 12)];
-    assert_eq!(rt; out.as_slice(), stood.as_slice());
-    assert_eq!(rt;
-        put_alone(&mut lane, &a, 5, 3, 16, 9, &mut out, &mut steps)?,
-        1
-    );
-    let shifted = [told_again(&a, 0, 17, 3), told_again(&a, 2, 6, 12)];
-    assert_eq!(rt; out.as_slice(), shifted.as_slice());
-    assert_eq!(rt; move_alone(&lane, &a, 9, FINAL, &mut out, &mut steps)?, 0);
+    let told = [
+        new(&a, 0, 3),
+        new(&a, 2, 12),
+        again(&a, 0, 17, 3),
+        again(&a, 2, 6, 12),
+    ];
+    let mut pairs = Pairs::new(rt.alloc(), Steps::start(&rt))?;
+    pairs.follow(&rt, &script)?;
+    assert_eq!(rt; pairs.changes.as_slice(), told.as_slice());
     Ok(())
 }
 
 #[test]
 fn a_late_tuple_fills_an_instance(rt: HostRuntime) -> Result<(), Fail> {
-    let mut steps: Steps<Work> = Steps::start(&rt);
+    let script = [
+        (Step::Put(1, 1, 0, 0), 0),
+        (Step::Put(5, 2, 0, 1), 0),
+        (Step::Water(0, 5), 1),
+        (Step::Put(3, 16, 5, 1), 2),
+        (Step::Put(2, 8, 5, 1), 4),
+        (Step::Water(5, FINAL), 4),
+    ];
     let a = KeyText::from_bytes(b"a")?;
-    let mut lane = CountLane::new(rt.alloc());
-    let mut out = Vec::new(rt.alloc());
-    put_alone(&mut lane, &a, 0, 1, 1, 0, &mut out, &mut steps)?;
-    put_alone(&mut lane, &a, 1, 5, 2, 0, &mut out, &mut steps)?;
-    assert_eq!(rt; move_alone(&lane, &a, 0, 5, &mut out, &mut steps)?, 1);
-    let stood = [told_as_new(&a, 0, 3)];
-    assert_eq!(rt; out.as_slice(), stood.as_slice());
-    put_alone(&mut lane, &a, 3, 3, 16, 5, &mut out, &mut steps)?;
-    let shifted = [told_again(&a, 0, 17, 3)];
-    assert_eq!(rt; out.as_slice(), shifted.as_slice());
-    put_alone(&mut lane, &a, 4, 2, 8, 5, &mut out, &mut steps)?;
-    let filled = [told_again(&a, 0, 9, 17), told_as_new(&a, 2, 18)];
-    assert_eq!(rt; out.as_slice(), filled.as_slice());
-    assert_eq!(rt; move_alone(&lane, &a, 5, FINAL, &mut out, &mut steps)?, 0);
+    let told = [
+        new(&a, 0, 3),
+        again(&a, 0, 17, 3),
+        again(&a, 0, 9, 17),
+        new(&a, 2, 18),
+    ];
+    let mut pairs = Pairs::new(rt.alloc(), Steps::start(&rt))?;
+    pairs.follow(&rt, &script)?;
+    assert_eq!(rt; pairs.changes.as_slice(), told.as_slice());
     Ok(())
 }

@@ -1,5 +1,4 @@
 ghost use Rattle.agg_store.specs.Stored.{IsSliced};
-ghost use Rattle.slice_tests.specs.Together.{MayEnter};
 
 use agg_laws::{AggTree, Steps};
 use agg_store::AggStore;
@@ -8,53 +7,84 @@ use fiba_arena::ArenaTree;
 use flat_tree::FlatTree;
 use slice_lists::Slice;
 use slice_store::{Placed, SliceStore};
+use std::alloc::Global;
 use std::process::Abort;
 use std::test::Fail;
-use stream_base::{Def, Defs, FINAL, Func, Kind, NoMemory, Shown};
+use stream_base::{Def, Defs, FINAL, Func, Kind, Shown, TIME_MAX};
 
 // Keeps the steps of a test apart.
 struct Work;
 
-// One tuple more, with room made for it.
-fn put<T: AggTree<Bundle>>(
-    store: &mut SliceStore<T>,
-    defs: &Defs,
-    pos: u64,
-    time: u64,
-    value: i64,
-    steps: &mut Steps<Work>,
-) -> Result<Placed, NoMemory>
-    requires { MayEnter time defs.now.windows store.old }
-    ensures sliced { IsSliced defs.now.windows store.new }
-{
-    store.reserve()?;
-    Ok(store.put(defs, pos, time, value, steps))
+// What comes to the slices of a key, and what they answer.
+#[derive(Clone, Copy)]
+enum Step {
+    // A tuple of a value at a time, and what it does to the slices.
+    Put(u64, i64, Placed),
+    // A mark at a time, and whether it splits a slice.
+    Mark(u64, bool),
+    // What all tuples come to in event order.
+    Fold(Func, i128),
 }
 
-// One mark more.
-fn mark<T: AggTree<Bundle>>(
-    store: &mut SliceStore<T>,
-    defs: &Defs,
-    time: u64,
-    steps: &mut Steps<Work>,
-) -> Result<bool, NoMemory>
-    requires { MayEnter time defs.now.windows store.old }
-    ensures sliced { IsSliced defs.now.windows store.new }
-{
-    store.reserve()?;
-    Ok(store.mark(defs, time, steps))
+// The slices of a key, parted at the cuts of its windows.
+#[derive(Drop)]
+struct Slices<T: AggTree<Bundle>> {
+    defs: Defs,
+    store: SliceStore<T>,
+    steps: Steps<Work>,
+    ghost sliced: { IsSliced defs.windows store },
 }
 
-// What all tuples come to in event order.
-fn fold_all<T: AggTree<Bundle>>(store: &SliceStore<T>, steps: &mut Steps<Work>) -> Bundle {
-    let _count = store.slice_count();
-    store.fold(0, FINAL, steps)
-}
+impl<T: AggTree<Bundle>> Slices<T> {
+    // The slices of no tuple yet.
+    fn new(alloc: Global, windows: Vec<Def>, steps: Steps<Work>) -> Result<Slices<T>, Fail> {
+        Ok(Slices {
+            defs: Defs::new(windows, 0, 0, 0)?,
+            store: SliceStore::new(alloc),
+            steps,
+        })
+    }
 
-// No slice is left.
-fn drop_all<T: AggTree<Bundle>>(store: &mut SliceStore<T>, steps: &mut Steps<Work>) {
-    let _count = store.slice_count();
-    store.drop_settled(FINAL, steps);
+    // Takes the steps, one after another; each comes with how many slices there are then.
+    fn follow(&mut self, rt: &impl Abort, script: &[(Step, u64)]) -> Result<(), Fail> {
+        for k in 0..script.len() {
+            let (step, slices) = script[k];
+            self.take(rt, k as u64, step)?;
+            assert_eq!(rt; self.store.slice_count(), slices, "after step {k}");
+        }
+        Ok(())
+    }
+
+    fn take(&mut self, rt: &impl Abort, pos: u64, step: Step) -> Result<(), Fail> {
+        match step {
+            Step::Put(time, value, placed) => {
+                assert!(rt; time <= TIME_MAX);
+                self.store.reserve()?;
+                let found = self
+                    .store
+                    .put(&self.defs, pos, time, value, &mut self.steps);
+                assert_eq!(rt; found, placed, "at step {pos}");
+            }
+            Step::Mark(time, splits) => {
+                assert!(rt; time <= TIME_MAX);
+                self.store.reserve()?;
+                let found = self.store.mark(&self.defs, time, &mut self.steps);
+                assert_eq!(rt; found, splits, "at step {pos}");
+            }
+            Step::Fold(func, value) => {
+                let _count = self.store.slice_count();
+                let folded = self.store.fold(0, FINAL, &mut self.steps);
+                assert_eq!(rt; folded.show(func), Shown::Whole(value), "at step {pos}");
+            }
+        }
+        Ok(())
+    }
+
+    // No slice is left.
+    fn drop_all(&mut self) {
+        let _count = self.store.slice_count();
+        self.store.drop_settled(FINAL, &mut self.steps);
+    }
 }
 
 fn window(kind: Kind) -> Def {
@@ -65,134 +95,99 @@ fn window(kind: Kind) -> Def {
 }
 
 // Tuples that come late, in and behind slices of ten.
-fn enters_slices_of_ten<T: AggTree<Bundle>>(
+fn enters_slices_of_ten<T: AggTree<Bundle> + Drop>(
     rt: &impl Abort,
-    store: &mut SliceStore<T>,
-    defs: &Defs,
-    steps: &mut Steps<Work>,
-) -> Result<(), Fail>
-    requires { IsSliced defs.now.windows store.old }
-{
-    assert_eq!(rt; put(store, defs, 0, 1, 7, steps)?, Placed::Added);
-    assert_eq!(rt; put(store, defs, 1, 12, 7, steps)?, Placed::Added);
-    assert_eq!(rt; put(store, defs, 2, 5, 7, steps)?, Placed::Joined);
-    assert_eq!(rt; put(store, defs, 3, 14, 7, steps)?, Placed::Appended);
-    assert_eq!(rt; store.slice_count(), 2);
+    alloc: Global,
+    steps: Steps<Work>,
+) -> Result<(), Fail> {
+    let script = [
+        (Step::Put(1, 7, Placed::Added), 1),
+        (Step::Put(12, 7, Placed::Added), 2),
+        (Step::Put(5, 7, Placed::Joined), 2),
+        (Step::Put(14, 7, Placed::Appended), 2),
+        (Step::Fold(Func::Sum, 28), 2),
+    ];
+    let tumbling = window(Kind::Tumbling { length: 10 });
+    let mut slices: Slices<T> = Slices::new(alloc, vec![in alloc; tumbling]?, steps)?;
+    slices.follow(rt, &script)?;
     let second = Slice {
         low: 12,
         high: 14,
         number: 2,
     };
-    assert_eq!(rt; store.slice_from(6), Some(second));
-    assert_eq!(rt; store.slice_from(13), None);
-    assert_eq!(rt; fold_all(store, steps).show(Func::Sum), Shown::Whole(28));
-    drop_all(store, steps);
-    assert_eq!(rt; store.slice_count(), 0);
+    assert_eq!(rt; slices.store.slice_from(6), Some(second));
+    assert_eq!(rt; slices.store.slice_from(13), None);
+    slices.drop_all();
+    assert_eq!(rt; slices.store.slice_count(), 0);
     Ok(())
 }
 
 #[test]
 fn late_tuples_enter_slices_over_a_flat_tree(rt: HostRuntime) -> Result<(), Fail> {
-    let mut steps: Steps<Work> = Steps::start(&rt);
-    let tumbling = window(Kind::Tumbling { length: 10 });
-    let defs = Defs::new(vec![in rt.alloc(); tumbling]?, 0, 0, 0)?;
-    let mut store: SliceStore<FlatTree<Bundle>> = SliceStore::new(rt.alloc());
-    enters_slices_of_ten(&rt, &mut store, &defs, &mut steps)
+    enters_slices_of_ten::<FlatTree<Bundle>>(&rt, rt.alloc(), Steps::start(&rt))
 }
 
 #[test]
 fn late_tuples_enter_slices_over_an_arena_tree(rt: HostRuntime) -> Result<(), Fail> {
-    let mut steps: Steps<Work> = Steps::start(&rt);
-    let tumbling = window(Kind::Tumbling { length: 10 });
-    let defs = Defs::new(vec![in rt.alloc(); tumbling]?, 0, 0, 0)?;
-    let mut store: SliceStore<ArenaTree<Bundle>> = SliceStore::new(rt.alloc());
-    enters_slices_of_ten(&rt, &mut store, &defs, &mut steps)
+    enters_slices_of_ten::<ArenaTree<Bundle>>(&rt, rt.alloc(), Steps::start(&rt))
 }
 
+// With a gap of 4 the tuples at 1 and 2 are a session, and the one at 8 is another. One at 5 is less
+// than 4 away from both. A mark at 4 splits the slice once; a tuple at 6 enters the second part.
 #[test]
 fn a_tuple_between_two_sessions_merges_their_slices(rt: HostRuntime) -> Result<(), Fail> {
-    let mut steps: Steps<Work> = Steps::start(&rt);
+    let script = [
+        (Step::Put(1, 1, Placed::Added), 1),
+        (Step::Put(2, 2, Placed::Appended), 1),
+        (Step::Put(8, 4, Placed::Added), 2),
+        (Step::Put(5, 8, Placed::Merged), 1),
+        (Step::Fold(Func::Last, 4), 1),
+        (Step::Mark(4, true), 2),
+        (Step::Mark(4, false), 2),
+        (Step::Put(6, 16, Placed::Joined), 2),
+    ];
     let tumbling = window(Kind::Tumbling { length: 10 });
     let session = window(Kind::Session { gap: 4 });
-    let defs = Defs::new(vec![in rt.alloc(); tumbling, session]?, 0, 0, 0)?;
-    let mut store: SliceStore<FlatTree<Bundle>> = SliceStore::new(rt.alloc());
-    assert_eq!(rt; put(&mut store, &defs, 0, 1, 1, &mut steps)?, Placed::Added);
-    assert_eq!(rt;
-        put(&mut store, &defs, 1, 2, 2, &mut steps)?,
-        Placed::Appended
-    );
-    assert_eq!(rt; put(&mut store, &defs, 2, 8, 4, &mut steps)?, Placed::Added);
-    assert_eq!(rt;
-        put(&mut store, &defs, 3, 5, 8, &mut steps)?,
-        Placed::Merged
-    );
-    assert_eq!(rt; store.slice_count(), 1);
-    assert_eq!(rt;
-        fold_all(&store, &mut steps).show(Func::Last),
-        Shown::Whole(4)
-    );
-    assert_eq!(rt; mark(&mut store, &defs, 4, &mut steps)?, true);
-    assert_eq!(rt; mark(&mut store, &defs, 4, &mut steps)?, false);
-    assert_eq!(rt;
-        put(&mut store, &defs, 4, 6, 16, &mut steps)?,
-        Placed::Joined
-    );
-    assert_eq!(rt; store.slice_count(), 2);
-    Ok(())
+    let windows = vec![in rt.alloc(); tumbling, session]?;
+    let mut slices: Slices<FlatTree<Bundle>> = Slices::new(rt.alloc(), windows, Steps::start(&rt))?;
+    slices.follow(&rt, &script)
 }
 
+// The hash of 1 and then 3 is 1 * 1099511628211 + 3. With a 9 between them the values rise once.
 #[test]
 fn a_late_tuple_folds_in_event_order(rt: HostRuntime) -> Result<(), Fail> {
-    let mut steps: Steps<Work> = Steps::start(&rt);
-    let tumbling = window(Kind::Tumbling { length: 10 });
-    let defs = Defs::new(vec![in rt.alloc(); tumbling]?, 0, 0, 0)?;
-    let mut store: SliceStore<FlatTree<Bundle>> = SliceStore::new(rt.alloc());
-    assert_eq!(rt; put(&mut store, &defs, 0, 5, 3, &mut steps)?, Placed::Added);
-    assert_eq!(rt;
-        put(&mut store, &defs, 1, 2, 1, &mut steps)?,
-        Placed::Joined
-    );
-    let first_then_third = fold_all(&store, &mut steps).show(Func::Trace);
-    assert_eq!(rt; first_then_third, Shown::Whole(1_099_511_628_214));
-    assert_eq!(rt;
-        put(&mut store, &defs, 2, 3, 9, &mut steps)?,
-        Placed::Joined
-    );
-    assert_eq!(rt;
-        fold_all(&store, &mut steps).show(Func::Rises),
-        Shown::Whole(1)
-    );
-    Ok(())
+    let script = [
+        (Step::Put(5, 3, Placed::Added), 1),
+        (Step::Put(2, 1, Placed::Joined), 1),
+        (Step::Fold(Func::Trace, 1_099_511_628_214), 1),
+        (Step::Put(3, 9, Placed::Joined), 1),
+        (Step::Fold(Func::Rises, 1), 1),
+    ];
+    let windows = vec![in rt.alloc(); window(Kind::Tumbling { length: 10 })]?;
+    let mut slices: Slices<FlatTree<Bundle>> = Slices::new(rt.alloc(), windows, Steps::start(&rt))?;
+    slices.follow(&rt, &script)
 }
 
 #[test]
 fn a_mark_splits_the_slice_that_is_across_it(rt: HostRuntime) -> Result<(), Fail> {
-    let mut steps: Steps<Work> = Steps::start(&rt);
-    let defs = Defs::new(vec![in rt.alloc(); window(Kind::Marks)]?, 0, 0, 0)?;
-    let mut store: SliceStore<FlatTree<Bundle>> = SliceStore::new(rt.alloc());
-    assert_eq!(rt; mark(&mut store, &defs, 4, &mut steps)?, false);
-    assert_eq!(rt; put(&mut store, &defs, 0, 5, 1, &mut steps)?, Placed::Added);
-    assert_eq!(rt;
-        put(&mut store, &defs, 1, 7, 2, &mut steps)?,
-        Placed::Appended
-    );
-    assert_eq!(rt;
-        put(&mut store, &defs, 2, 9, 4, &mut steps)?,
-        Placed::Appended
-    );
-    assert_eq!(rt; mark(&mut store, &defs, 7, &mut steps)?, true);
-    assert_eq!(rt; mark(&mut store, &defs, 6, &mut steps)?, false);
-    assert_eq!(rt; store.slice_count(), 2);
+    let script = [
+        (Step::Mark(4, false), 0),
+        (Step::Put(5, 1, Placed::Added), 1),
+        (Step::Put(7, 2, Placed::Appended), 1),
+        (Step::Put(9, 4, Placed::Appended), 1),
+        (Step::Mark(7, true), 2),
+        (Step::Mark(6, false), 2),
+        (Step::Put(3, 8, Placed::Added), 3),
+        (Step::Fold(Func::First, 8), 3),
+    ];
+    let windows = vec![in rt.alloc(); window(Kind::Marks)]?;
+    let mut slices: Slices<FlatTree<Bundle>> = Slices::new(rt.alloc(), windows, Steps::start(&rt))?;
+    slices.follow(&rt, &script)?;
     let behind = Slice {
         low: 7,
         high: 9,
         number: 2,
     };
-    assert_eq!(rt; store.slice_from(6), Some(behind));
-    assert_eq!(rt; put(&mut store, &defs, 3, 3, 8, &mut steps)?, Placed::Added);
-    assert_eq!(rt;
-        fold_all(&store, &mut steps).show(Func::First),
-        Shown::Whole(8)
-    );
+    assert_eq!(rt; slices.store.slice_from(6), Some(behind));
     Ok(())
 }

@@ -1,8 +1,7 @@
-ghost use Rattle.std.specs.Prelude.{◌≤◌};
-
 use agg_laws::Steps;
 use report_check::{Finding, check_report};
 use std::alloc::Global;
+use std::process::Abort;
 use std::test::Fail;
 use stream_base::{Def, Defs, Entry, Func, KeyText, Kind, What};
 
@@ -67,72 +66,80 @@ fn sessions(alloc: Global) -> Result<Defs, Fail> {
     Ok(Defs::new(vec![in alloc; gap]?, 5, 0, 0)?)
 }
 
-fn found(
+// Of a run with so many shards, whose source said the whole or not, and of this report, that is found.
+type Case = (u16, bool, &'static str, Finding);
+
+fn is_found(
+    rt: &impl Abort,
     alloc: Global,
-    shards: u16,
-    entries: Vec<Entry>,
-    report: &str,
+    case: &Case,
     steps: &mut Steps<()>,
-) -> Result<Finding, Fail>
-    requires { shards ≤ 16 }
-{
+) -> Result<(), Fail> {
+    let (shards, whole, report, finding) = *case;
+    assert!(rt; shards <= 16);
     let defs = sessions(alloc)?;
-    let sources = vec![in alloc; entries]?;
-    Ok(check_report(alloc, &defs, shards, &sources, report.as_bytes(), steps)?)
+    let sources = vec![in alloc; told(alloc, whole)?]?;
+    let found = check_report(alloc, &defs, shards, &sources, report.as_bytes(), steps)?;
+    assert_eq!(rt; found, finding, "{report}");
+    Ok(())
+}
+
+fn are_found(
+    rt: &impl Abort,
+    alloc: Global,
+    cases: &[Case],
+    mut steps: Steps<()>,
+) -> Result<(), Fail> {
+    for case in cases {
+        is_found(rt, alloc, case, &mut steps)?;
+    }
+    Ok(())
 }
 
 #[test]
 fn a_report_is_lawful_in_each_form(rt: HostRuntime) -> Result<(), Fail> {
-    let alloc = rt.alloc();
-    let mut steps = Steps::start(&rt);
-    let brief = found(alloc, 1, told(alloc, true)?, REOPENED, &mut steps)?;
-    assert_eq!(rt; brief, Finding::Lawful);
-    let full = found(alloc, 1, told(alloc, true)?, IN_FULL, &mut steps)?;
-    assert_eq!(rt; full, Finding::Lawful);
-    Ok(())
+    let cases = [
+        (1, true, REOPENED, Finding::Lawful),
+        (1, true, IN_FULL, Finding::Lawful),
+    ];
+    are_found(&rt, rt.alloc(), &cases, Steps::start(&rt))
 }
 
+// Each report is the lawful one with a wrong value, with an entry twice, or as it is for a source
+// that said less, for two shards, and with nothing left of it.
 #[test]
 fn what_is_wrong_is_said_where_it_is(rt: HostRuntime) -> Result<(), Fail> {
-    let alloc = rt.alloc();
-    let mut steps = Steps::start(&rt);
     let value =
         "shard 0\nj 0 t 0 1 a\nj 0 w 5\n+ 0 0 5 1 2 a\nj 0 t 3 2 a\n- 0 0 5 a\nj 0 w 8\n+ 0 0 8 2 3 a\nj 0 e\nend\n";
-    let wrong = found(alloc, 1, told(alloc, true)?, value, &mut steps)?;
-    assert_eq!(rt; wrong, Finding::Text { line: 4 });
     let twice =
         "shard 0\nj 0 t 0 1 a\nj 0 t 0 1 a\nj 0 w 5\n+ 0 0 5 1 1 a\nj 0 t 3 2 a\n- 0 0 5 a\nj 0 w 8\n+ 0 0 8 2 3 a\nj 0 e\nend\n";
-    let wrong = found(alloc, 1, told(alloc, true)?, twice, &mut steps)?;
-    assert_eq!(rt; wrong, Finding::Text { line: 5 });
-    let wrong = found(alloc, 1, told(alloc, false)?, REOPENED, &mut steps)?;
-    assert_eq!(rt;
-        wrong,
-        Finding::Journal {
-            shard: 0,
-            source: 0
-        }
-    );
-    let wrong = found(alloc, 2, told(alloc, true)?, REOPENED, &mut steps)?;
-    assert_eq!(rt; wrong, Finding::Shards { found: 1 });
-    let wrong = found(alloc, 1, told(alloc, true)?, "", &mut steps)?;
-    assert_eq!(rt; wrong, Finding::Text { line: 1 });
-    Ok(())
+    let journal = Finding::Journal {
+        shard: 0,
+        source: 0,
+    };
+    let cases = [
+        (1, true, value, Finding::Text { line: 4 }),
+        (1, true, twice, Finding::Text { line: 5 }),
+        (1, false, REOPENED, journal),
+        (2, true, REOPENED, Finding::Shards { found: 1 }),
+        (1, true, "", Finding::Text { line: 1 }),
+    ];
+    are_found(&rt, rt.alloc(), &cases, Steps::start(&rt))
 }
 
 // Journals that no shard would take are judged too: a source that nobody named, entries behind an
 // end, and another end.
 #[test]
 fn any_journal_is_judged(rt: HostRuntime) -> Result<(), Fail> {
-    let alloc = rt.alloc();
-    let mut steps = Steps::start(&rt);
     let odd = "shard 0\nj 65535 t 0 1 a\nj 0 e\n+ 0 0 5 1 1 a\nj 0 t 1 2 a\nx\nj 0 e\nend\n";
-    let wrong = found(alloc, 1, told(alloc, true)?, odd, &mut steps)?;
-    assert_eq!(rt;
-        wrong,
-        Finding::Journal {
-            shard: 0,
-            source: 0
-        }
-    );
-    Ok(())
+    let journal = Finding::Journal {
+        shard: 0,
+        source: 0,
+    };
+    are_found(
+        &rt,
+        rt.alloc(),
+        &[(1, true, odd, journal)],
+        Steps::start(&rt),
+    )
 }

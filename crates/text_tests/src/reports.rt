@@ -52,58 +52,44 @@ fn put(rt: &impl Abort, shard: &mut Shard, what: What, steps: &mut Steps<Work>) 
     Ok(())
 }
 
+// A shard whose source said this.
+fn shard_of(
+    rt: &impl Abort,
+    alloc: Global,
+    said: &[What],
+    steps: &mut Steps<Work>,
+) -> Result<Shard, Fail> {
+    let mut shard = empty_shard(alloc)?;
+    for what in said {
+        put(rt, &mut shard, *what, steps)?;
+    }
+    Ok(shard)
+}
+
+fn tuple(key: KeyText, time: u64, value: i64) -> What {
+    What::Tuple { key, time, value }
+}
+
+fn water(time: u64) -> What {
+    What::Water { time }
+}
+
 // Two shards whose report is known.
 fn two_shards<R: Abort + Threads>(rt: &R, alloc: Global) -> Result<[Shard; 2], Fail> {
-    let mut steps: Steps<Work> = Steps::start(rt);
     let a = KeyText::from_bytes(b"a")?;
     let b = KeyText::from_bytes(b"b")?;
     let c = KeyText::from_bytes(b"c")?;
-    let mut first = empty_shard(alloc)?;
-    put(
-        rt,
-        &mut first,
-        What::Tuple {
-            key: b,
-            time: 2,
-            value: 6,
-        },
-        &mut steps,
-    )?;
-    put(rt, &mut first, What::Water { time: 10 }, &mut steps)?;
-    put(rt, &mut first, What::End, &mut steps)?;
-    let mut second = empty_shard(alloc)?;
-    put(
-        rt,
-        &mut second,
-        What::Tuple {
-            key: a,
-            time: 1,
-            value: -5,
-        },
-        &mut steps,
-    )?;
-    put(rt, &mut second, What::Water { time: 10 }, &mut steps)?;
-    put(
-        rt,
-        &mut second,
-        What::Tuple {
-            key: a,
-            time: 9,
-            value: 7,
-        },
-        &mut steps,
-    )?;
-    put(
-        rt,
-        &mut second,
-        What::Tuple {
-            key: c,
-            time: 19,
-            value: 0,
-        },
-        &mut steps,
-    )?;
-    put(rt, &mut second, What::End, &mut steps)?;
+    let said = [tuple(b, 2, 6), water(10), What::End];
+    let more = [
+        tuple(a, 1, -5),
+        water(10),
+        tuple(a, 9, 7),
+        tuple(c, 19, 0),
+        What::End,
+    ];
+    let mut steps: Steps<Work> = Steps::start(rt);
+    let first = shard_of(rt, alloc, &said, &mut steps)?;
+    let second = shard_of(rt, alloc, &more, &mut steps)?;
     Ok([first, second])
 }
 
