@@ -88,10 +88,9 @@ fn follows(
     func: Func,
     sources: u16,
     script: &[Step],
-) -> Result<(), Fail>
-    requires some { 1 ≤ sources }
-    requires few { sources ≤ 16 }
-{
+) -> Result<(), Fail> {
+    assert!(rt; 1 <= sources);
+    assert!(rt; sources <= 16);
     let mut shard = empty_shard(alloc, func, sources)?;
     follow(rt, &mut shard, sources, script, &mut steps)
 }
