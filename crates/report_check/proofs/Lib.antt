@@ -6,3 +6,5 @@ mod Judging
 mod Parting
 mod Ranges
 mod Reading
+mod Unique
+mod FormRead

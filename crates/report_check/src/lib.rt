@@ -20,6 +20,7 @@ mod inserting;
 mod journal;
 mod judge;
 mod key_lists;
+pub mod laws;
 mod ledger;
 mod moves;
 mod numbers;
