@@ -52,3 +52,19 @@ pub fn count_is_emitted_at_its_last_tuple()
         (tuple 1 (pos 1) a ∷ tuple 5 (pos 2) a ∷ water 1 ∷ water 4 ∷ water 5 ∷ end ∷ [])
         ≡ [] ∷ [] ∷ [] ∷ [] ∷ (New (row 0 0 2 2 (pos 3) a) ∷ []) ∷ [] ∷ [] }
 {}
+
+/// A count is updated where it selects other tuples, though these have the times or the values of
+/// those that it selected.
+#[tactic(auto, unfolding(stream_base::specs::Model::Opened::all_opened))]
+pub fn counts_of_equal_times_and_values_are_updated()
+    ensures times { changes_in (with_lateness 20 (window (Events 2) First ∷ []))
+        (tuple 5 (pos 1) a ∷ tuple 7 (pos 2) a ∷ tuple 7 (pos 3) a ∷ tuple 7 (pos 2) a ∷ water 9
+        ∷ tuple 6 (pos 3) a ∷ [])
+        ≡ [] ∷ [] ∷ [] ∷ [] ∷ (New (row 0 0 2 2 (pos 1) a) ∷ New (row 0 2 4 2 (pos 3) a) ∷ [])
+        ∷ (Again (row 0 0 2 2 (pos 1) a) (former 2 (pos 1))
+        ∷ Again (row 0 2 4 2 (pos 2) a) (former 2 (pos 3)) ∷ []) ∷ [] }
+    ensures values { changes_in (with_lateness 20 (window (Events 2) Sum ∷ []))
+        (tuple 5 (pos 1) a ∷ tuple 7 (pos 1) a ∷ water 9 ∷ tuple 6 (pos 1) a ∷ [])
+        ≡ [] ∷ [] ∷ (New (row 0 0 2 2 (pos 2) a) ∷ [])
+        ∷ (Again (row 0 0 2 2 (pos 2) a) (former 2 (pos 2)) ∷ []) ∷ [] }
+{}

@@ -1,7 +1,7 @@
 //! The nine functions, and the order in which they fold.
-ghost use Rattle.std.specs.Prelude.{◌≡◌, [], ◌∷◌, pos, negsuc};
+ghost use Rattle.std.specs.Prelude.{◌≡◌, [], ◌∷◌, Some, None, pos, negsuc};
 ghost use Rattle.stream_base.specs.Examples.{with_lateness, window, tuple, water, end, a, alice, six_values, extremes, row, mean_row, mean_former, changes_in};
-ghost use Rattle.stream_base.specs.Model.Functions.{counting, summing, averaging, shown_of};
+ghost use Rattle.stream_base.specs.Model.Functions.{counting, summing, averaging, least, greatest, earliest, latest, rising, tracing, joined_runs, shown_of};
 ghost use Rattle.stream_base.specs.declared.change.Change.TheVariants.{New, Again};
 ghost use Rattle.stream_base.specs.declared.func.Func.TheVariants.{Count, Sum, Min, Max, Mean, First, Last, Rises, Trace};
 ghost use Rattle.stream_base.specs.declared.kind.Kind.TheVariants.{Tumbling, Session};
@@ -85,4 +85,28 @@ pub fn sums_and_counts_go_round()
         ≡ (negsuc 170141183460469231731687303715884105727, 1) }
     ensures great_count { counting.combine 9223372036854775807 1 ≡ 9223372036854775808 }
     ensures count { counting.combine 18446744073709551615 2 ≡ 1 }
+{}
+
+/// Two results in event order become one, for each function.
+pub fn results_are_combined()
+    ensures count { counting.combine 2 3 ≡ 5 }
+    ensures sum { summing.combine (pos 2) (negsuc 4) ≡ negsuc 2 }
+    ensures min { least.combine (Some (pos 2)) (Some (negsuc 4)) ≡ Some (negsuc 4) }
+    ensures max { greatest.combine (Some (pos 2)) (Some (negsuc 4)) ≡ Some (pos 2) }
+    ensures mean { averaging.combine (pos 2, 3) (negsuc 4, 5) ≡ (negsuc 2, 8) }
+    ensures first { earliest.combine (Some (pos 2)) (Some (pos 3)) ≡ Some (pos 2) }
+    ensures last { latest.combine (Some (pos 2)) (Some (pos 3)) ≡ Some (pos 3) }
+    ensures rise { joined_runs (pos 1, pos 2, 3) (pos 4, pos 0, 1) ≡ (pos 1, pos 0, 5) }
+    ensures no_rise { joined_runs (pos 1, pos 4, 3) (pos 4, pos 5, 1) ≡ (pos 1, pos 5, 4) }
+    ensures trace { tracing.combine (3, 4) (5, 6) ≡ (15, 26) }
+{}
+
+/// A result beside that of no values stays as it is, on either side.
+pub fn results_of_no_values()
+    ensures min { least.combine None (Some (pos 2)) ≡ Some (pos 2) }
+    ensures max { greatest.combine (Some (negsuc 1)) None ≡ Some (negsuc 1) }
+    ensures first { earliest.combine None (Some (pos 3)) ≡ Some (pos 3) }
+    ensures last { latest.combine (Some (pos 2)) None ≡ Some (pos 2) }
+    ensures rises { rising.combine (Some (pos 1, pos 2, 3)) None ≡ Some (pos 1, pos 2, 3) }
+    ensures trace { tracing.combine (1, 0) (5, 6) ≡ (5, 6) }
 {}

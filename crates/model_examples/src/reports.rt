@@ -1,8 +1,9 @@
 //! The text of reports, and the journals that are read back.
 ghost use Rattle.std.specs.Prelude.{◌≡◌, ◌++◌, [], ◌∷◌, codes, pos, negsuc, replicate};
-ghost use Rattle.stream_base.specs.Examples.{with_lateness, window, tuple, mark, water, idle, end, from, a, two_shards};
+ghost use Rattle.stream_base.specs.Examples.{with_lateness, window, tuple, mark, water, idle, end, from, a, row, mean_row, two_shards};
 ghost use Rattle.stream_base.specs.Model.Journals.{journals_of};
-ghost use Rattle.stream_base.specs.Model.Text.{report_1, report_2, report_of};
+ghost use Rattle.stream_base.specs.Model.Text.{report_1, report_2, change_lines, report_of};
+ghost use Rattle.stream_base.specs.declared.change.Change.TheVariants.{New};
 ghost use Rattle.stream_base.specs.declared.func.Func.TheVariants.{Count, Sum, Mean};
 ghost use Rattle.stream_base.specs.declared.kind.Kind.TheVariants.{Session, Marks};
 ghost use Rattle.stream_base.specs.declared.what.What.TheVariants.{End};
@@ -23,6 +24,21 @@ pub fn journals_of_a_report()
         (codes "shard 0\nj 0 t 0 1 a\nj 0 w 5\n+ 0 0 5 1 1 a\nj 0 t 3 2 a\n- 0 0 5 a\nj 0 w 8\n"
         ++ codes "+ 0 0 8 2 3 a\nj 0 e\nend\n")
         ≡ (tuple 0 (pos 1) a ∷ water 5 ∷ tuple 3 (pos 2) a ∷ water 8 ∷ end ∷ []) ∷ [] }
+{}
+
+/// A value that is shown has its sign, and the final time alone is told as a word.
+#[tactic(auto, unfolding(stream_base::specs::Model::Opened::all_opened))]
+pub fn signs_and_late_ends()
+    ensures sign { change_lines report_1 (New (row 0 0 10 1 (negsuc 4) a) ∷ [])
+        ≡ codes "+ 0 0 10 1 -5 a\n" }
+    ensures sign_of_a_mean { change_lines report_1 (New (mean_row 0 0 10 2 (negsuc 4) a) ∷ [])
+        ≡ codes "+ 0 0 10 2 -5/2 a\n" }
+    ensures late_end { change_lines report_1
+        (New (row 0 1000000000000000 2000000000000000 1 (pos 1) a) ∷ [])
+        ≡ codes "+ 0 1000000000000000 2000000000000000 1 1 a\n" }
+    ensures final_time { change_lines report_1
+        (New (row 0 1000000000000000 4611686018427387904 1 (pos 1) a) ∷ [])
+        ≡ codes "+ 0 1000000000000000 end 1 1 a\n" }
 {}
 
 /// Lines that are no journal line by the letter are passed over, and a last line needs no line
@@ -94,6 +110,26 @@ pub fn keys_at_their_limits()
         ≡ (mark 1 (replicate 64 120) ∷ []) ∷ [] }
     ensures none { journals_of (codes "shard 0\nj 0 m 1 \nj 0 m 2\nj 0 m 3 \tx\nj 0 m 4 x\n")
         ≡ (mark 4 (codes "x") ∷ []) ∷ [] }
+{}
+
+/// A tuple is read back with a key of 1 to 64 bytes, of which none is a control character or 0x7F,
+/// and with a time up to the limit; and so is a mark.
+#[tactic(auto, unfolding(stream_base::specs::Model::Opened::all_opened))]
+pub fn tuples_at_their_limits()
+    ensures long { journals_of
+        (codes "shard 0\nj 0 t 1 1 " ++ replicate 64 120 ++ codes "\nj 0 t 2 1 x"
+        ++ replicate 64 120)
+        ≡ (tuple 1 (pos 1) (replicate 64 120) ∷ []) ∷ [] }
+    ensures none { journals_of
+        (codes "shard 0\nj 0 t 1 1 \nj 0 t 2 1\nj 0 t 3 1 \tx\nj 0 t 4 1 x\n")
+        ≡ (tuple 4 (pos 1) (codes "x") ∷ []) ∷ [] }
+    ensures delete { journals_of (codes "shard 0\nj 0 t 1 1 x" ++ 127 ∷ codes "\nj 0 m 2 x"
+        ++ 127 ∷ codes "\nj 0 t 3 1 x" ++ 128 ∷ [])
+        ≡ (tuple 3 (pos 1) (codes "x" ++ 128 ∷ []) ∷ []) ∷ [] }
+    ensures time { journals_of
+        (codes "shard 0\nj 0 t 1000000000000000 1 a\nj 0 t 1000000000000001 1 a\n"
+        ++ codes "j 0 m 1000000000000000 a\nj 0 m 1000000000000001 a\n")
+        ≡ (tuple 1000000000000000 (pos 1) a ∷ mark 1000000000000000 a ∷ []) ∷ [] }
 {}
 
 /// The words of an entry's line are read by the letter, and so is the header's.

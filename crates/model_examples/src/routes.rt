@@ -31,7 +31,8 @@ pub fn lawful_journals()
 
 /// Journals aren't lawful where one entry stands for two that are alike, where an entry is of no
 /// source or was never told, where a watermark is missing in the second shard, where two entries of
-/// a source have changed places, or where there are too few journals.
+/// a source have changed places, where the last of two sources is left out, or where there are too
+/// few journals or too many.
 pub fn unlawful_journals()
     ensures repeated { ¬ IsLawful 1 ((water 5 ∷ water 5 ∷ []) ∷ []) ((water 5 ∷ []) ∷ []) }
     ensures of_no_source { ¬ IsLawful 1 ((water 5 ∷ []) ∷ [])
@@ -39,5 +40,8 @@ pub fn unlawful_journals()
     ensures never_told { ¬ IsLawful 1 ([] ∷ []) ((water 5 ∷ []) ∷ []) }
     ensures missing { ¬ IsLawful 2 ((water 5 ∷ []) ∷ []) ((water 5 ∷ []) ∷ [] ∷ []) }
     ensures swapped { ¬ IsLawful 1 ((water 5 ∷ water 7 ∷ []) ∷ []) ((water 7 ∷ water 5 ∷ []) ∷ []) }
+    ensures last_source { ¬ IsLawful 1 ((water 5 ∷ []) ∷ (from 1 (Water 7) ∷ []) ∷ [])
+        ((water 5 ∷ []) ∷ []) }
     ensures too_few { ¬ IsLawful 2 ([] ∷ []) ([] ∷ []) }
+    ensures too_many { ¬ IsLawful 1 ([] ∷ []) ([] ∷ [] ∷ []) }
 {}

@@ -30,3 +30,13 @@ pub fn final_rows_of_two_sources()
         ++ codes "window 4 1 2\n+ 4 0 2 2 8 a\nend\n" }
     ensures no_rows { summary_of 0 2 [] ≡ codes "made 0\nwindow 0 0 0\nwindow 1 0 0\nend\n" }
 {}
+
+/// A summary tells how many tuples were made, however many rows there are, and has a line for each
+/// window, whether the window has rows or not.
+#[tactic(auto, unfolding(stream_base::specs::Model::Opened::all_opened))]
+pub fn summaries_of_few_rows()
+    ensures none { summary_of 3 2 [] ≡ codes "made 3\nwindow 0 0 0\nwindow 1 0 0\nend\n" }
+    ensures no_window { summary_of 3 0 [] ≡ codes "made 3\nend\n" }
+    ensures one { summary_of 3 3 (row 1 0 10 2 (pos 5) a ∷ [])
+        ≡ codes "made 3\nwindow 0 0 0\nwindow 1 1 2\n+ 1 0 10 2 5 a\nwindow 2 0 0\nend\n" }
+{}

@@ -37,10 +37,13 @@ pub fn lagging_source_holds_the_windows_back()
         ≡ [] ∷ [] ∷ [] ∷ (New (row 0 0 10 1 (pos 1) a) ∷ []) ∷ [] ∷ [] ∷ [] ∷ [] }
 {}
 
-/// A watermark below an earlier one of its source lowers nothing, and nor does one behind its end.
+/// A watermark below an earlier one of its source lowers nothing, though another source held the
+/// journal's back until then; nor does one behind its end.
 #[tactic(auto, unfolding(stream_base::specs::Model::Opened::all_opened))]
 pub fn watermark_of_a_source_never_falls()
     ensures falls { waters_in 1 (water 10 ∷ water 3 ∷ water 11 ∷ []) ≡ 10 ∷ 10 ∷ 11 ∷ [] }
+    ensures held_back { waters_in 2 (from 0 (Water 10) ∷ from 0 (Water 3) ∷ from 1 (Water 20) ∷ [])
+        ≡ 0 ∷ 0 ∷ 10 ∷ [] }
     ensures behind_end { waters_in 1 (end ∷ water 3 ∷ [])
         ≡ 4611686018427387904 ∷ 4611686018427387904 ∷ [] }
 {}

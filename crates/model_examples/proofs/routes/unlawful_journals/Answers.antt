@@ -1,6 +1,7 @@
 use Rattle.std.proofs.Common.{◌≡◌, ℕ, ◌<◌, List, [], ◌∷◌, length, ap, arith}
 use Rattle.stream_base.specs.declared.entry.Entry.{Entry}
-use Rattle.stream_base.specs.Examples.{water}
+use Rattle.stream_base.specs.declared.what.What.TheVariants.{Water}
+use Rattle.stream_base.specs.Examples.{from, water}
 use Rattle.stream_base.specs.Model.What.{water_time}
 use Rattle.model_examples.proofs.routes.unlawful_journals.Goals as goal
 
@@ -33,8 +34,17 @@ returns-clause-missing c = λ lawful. none_or_one [] (water 5) (λ i. []) (lawfu
 pub returns-clause-swapped : goal.returns-clause-swapped
 returns-clause-swapped c = λ lawful. swapped (lawful.held 0 0 (omega arith) (omega arith))
 
+pub returns-clause-last_source : goal.returns-clause-last_source
+returns-clause-last_source c = λ lawful. none_or_one [] (from 1 (Water 7)) (λ i. []) (lawful.held 0 1 (omega arith) (omega arith))
+
 abbrev one_journal : List (List Entry)
 one_journal = [] ∷ []
 
 pub returns-clause-too_few : goal.returns-clause-too_few
 returns-clause-too_few c = λ lawful. let few : length one_journal ≡ 2 = lawful.count in absurd (omega arith)
+
+abbrev two_journals : List (List Entry)
+two_journals = [] ∷ [] ∷ []
+
+pub returns-clause-too_many : goal.returns-clause-too_many
+returns-clause-too_many c = λ lawful. let many : length two_journals ≡ 1 = lawful.count in absurd (omega arith)
