@@ -6,7 +6,7 @@ use Rattle.stream_base.specs.declared.entry.Entry.{Entry}
 use Rattle.stream_base.specs.Limits.{Definitions}
 use Rattle.stream_base.specs.Model.Journals.{journals_of, lines_of, with_byte}
 use Rattle.stream_base.specs.Model.Routes.{IsLawful}
-use Rattle.stream_base.specs.Model.Text.{Form, changes_under, report_1, report_2, report_of, text_of}
+use Rattle.stream_base.specs.Model.Text.{changes_under, report_1, report_2, report_of, text_of}
 use Rattle.report_check.specs.declared.finding.Finding.TheVariants.{Lawful}
 use Rattle.report_check.specs.Findings.{IsFinding, form_in, report_in}
 
