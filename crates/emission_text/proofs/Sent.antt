@@ -6,23 +6,14 @@ use Rattle.std.proofs.lemmas.Bool.{false≢true}
 use Rattle.std.proofs.lemmas.Grind.{common_steps}
 use Rattle.std.proofs.lemmas.List.{at_drop_more, take-append-drop}
 use Rattle.std.proofs.Math.Seq.{take-append_seam}
-use Rattle.outside.specs.Outside.{Rose, with_back}
+use Rattle.outside.specs.Outside.{Rose}
 use Rattle.emission_text.specs.Sending.{Appends, AppendsPrefix, Fails, Puts, Writes}
 use Rattle.emission_text.specs.declared.sink_fault.SinkFault.{SinkFault}
 
--- what went out in two parts went out
-with_back-twice : (front more : List ℕ) (told : Option (List ℕ)) → with_back more (with_back front told) ≡ with_back (front ++ more) told
-with_back-twice front more None = refl
-with_back-twice front more (Some written) = ap (λ bytes. Some bytes) (append_assoc written front more)
-
-with_back-nothing : (told : Option (List ℕ)) → told ≡ with_back [] told
-with_back-nothing None = refl
-with_back-nothing (Some written) = ap (λ bytes. Some bytes) (sym (append-nil written))
-
-module _ {K : Type 0} {written : K → Option (List ℕ)} {faults : K → ℕ} where
+module _ {K : Type 0} {written : K → List ℕ} {faults : K → ℕ} where
   -- all of a text is left
   pub appends_nothing : (text : List ℕ) (sink : K) → AppendsPrefix written faults text text sink sink
-  appends_nothing text sink = record { prefix = []; splits = refl; appended = with_back-nothing (written sink); quiet = refl }
+  appends_nothing text sink = record { prefix = []; splits = refl; appended = sym (append-nil (written sink)); quiet = refl }
 
   -- putting no text leaves what is pending
   pub puts_nothing : (pending : List ℕ) (sink : K) → AppendsPrefix written faults (pending ++ []) pending sink sink
@@ -36,14 +27,14 @@ module _ {K : Type 0} {written : K → Option (List ℕ)} {faults : K → ℕ} w
   pub appends_whole : {text left : List ℕ} {old new : K} → left ≡ [] → AppendsPrefix written faults text left old new → Appends written faults text old new
   appends_whole {text = text} {old = old} empty some =
       let whole : some.prefix ≡ text = sym (some.splits ∙ ap (λ left. some.prefix ++ left) empty ∙ append-nil some.prefix) in
-      record { appended = some.appended ∙ ap (λ bytes. with_back bytes (written old)) whole; quiet = some.quiet }
+      record { appended = some.appended ∙ ap (λ bytes. written old ++ bytes) whole; quiet = some.quiet }
 
   -- a prefix of the text went out, and then a prefix of what was left
   pub appends_then : {text rest left : List ℕ} {old mid new : K} → AppendsPrefix written faults text rest old mid → AppendsPrefix written faults rest left mid new → AppendsPrefix written faults text left old new
   appends_then {left = left} {old = old} first second = record {
     prefix = first.prefix ++ second.prefix;
     splits = first.splits ∙ ap (λ bytes. first.prefix ++ bytes) second.splits ∙ sym (append_assoc first.prefix second.prefix left);
-    appended = second.appended ∙ ap (λ told. with_back second.prefix told) first.appended ∙ with_back-twice first.prefix second.prefix (written old);
+    appended = second.appended ∙ ap (λ told. told ++ second.prefix) first.appended ∙ append_assoc (written old) first.prefix second.prefix;
     quiet = second.quiet ∙ first.quiet;
   }
 
@@ -57,11 +48,11 @@ module _ {K : Type 0} {written : K → Option (List ℕ)} {faults : K → ℕ} w
   }
 
   -- a write failed after a prefix of the text
-  fails_at : {text : List ℕ} {old new : K} (prefix left : List ℕ) → text ≡ prefix ++ left → written new ≡ with_back prefix (written old) → Rose (faults old) (faults new)
+  fails_at : {text : List ℕ} {old new : K} (prefix left : List ℕ) → text ≡ prefix ++ left → written new ≡ written old ++ prefix → Rose (faults old) (faults new)
       → Fails written faults text old new
   fails_at {text = text} {old = old} prefix left splits appended failed =
       let first : take (length prefix) text ≡ prefix = ap (λ bytes. take (length prefix) bytes) splits ∙ take-append_seam prefix left in
-      record { count = length prefix; appended = appended ∙ ap (λ bytes. with_back bytes (written old)) (sym first); failed = failed }
+      record { count = length prefix; appended = appended ∙ ap (λ bytes. written old ++ bytes) (sym first); failed = failed }
 
   -- the failure of a write that took nothing
   pub fails_at_once : {text rest : List ℕ} {old mid new : K} → AppendsPrefix written faults text rest old mid → written new ≡ written mid → Rose (faults mid) (faults new)
@@ -76,7 +67,7 @@ module _ {K : Type 0} {written : K → Option (List ℕ)} {faults : K → ℕ} w
       let left = drop failure.count rest in
       fails_at (first.prefix ++ taken) left
       (first.splits ∙ ap (λ bytes. first.prefix ++ bytes) (sym (take-append-drop failure.count rest)) ∙ sym (append_assoc first.prefix taken left))
-      (failure.appended ∙ ap (λ told. with_back taken told) first.appended ∙ with_back-twice first.prefix taken (written old))
+      (failure.appended ∙ ap (λ told. told ++ taken) first.appended ∙ append_assoc (written old) first.prefix taken)
       (subst (λ n. Rose n (faults new)) first.quiet failure.failed)
 
   -- before more text
@@ -140,7 +131,7 @@ module _ {K : Type 0} {written : K → Option (List ℕ)} {faults : K → ℕ} w
 
   -- a write took the first bytes of what was left
   pub appends_taken : {text : List ℕ} {old mid new : K} (rest : List ℕ) (n : ℕ) → n ≤ length rest
-      → AppendsPrefix written faults text rest old mid → written new ≡ with_back (take n rest) (written mid) → faults new ≡ faults mid
+      → AppendsPrefix written faults text rest old mid → written new ≡ written mid ++ take n rest → faults new ≡ faults mid
       → AppendsPrefix written faults text (take (length rest - n) (drop n rest)) old new
   appends_taken {mid = mid} {new = new} rest n within first appended quiet =
       let left : take (length rest - n) (drop n rest) ≡ drop n rest = grind (arith, common_steps) in

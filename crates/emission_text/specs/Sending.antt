@@ -1,26 +1,26 @@
 -- How a text goes out to a sink.
--- `written` says which bytes it took, where it tells them, and `faults` how many writes failed.
-use Rattle.std.specs.Prelude.{◌≡◌, ◌++◌, ℕ, List, Option, take, Result, Ok, Err}
-use Rattle.outside.specs.Outside.{Rose, with_back}
+-- `taken` says which bytes it took so far, and `faults` how many writes failed.
+use Rattle.std.specs.Prelude.{◌≡◌, ◌++◌, ℕ, List, take, Result, Ok, Err}
+use Rattle.outside.specs.Outside.{Rose}
 use Rattle.emission_text.specs.declared.sink_fault.SinkFault.{SinkFault}
 
-module _ {K : Type 0} (written : K → Option (List ℕ)) (faults : K → ℕ) where
+module _ {K : Type 0} (taken : K → List ℕ) (faults : K → ℕ) where
   -- the whole text went out, behind what was written before, and no write failed
   pub record Appends (text : List ℕ) (old new : K) : Type 0 where
-    pub appended : written new ≡ with_back text (written old)
+    pub appended : taken new ≡ taken old ++ text
     pub quiet : faults new ≡ faults old
 
   -- a prefix of the text went out, and no write failed; `left` is what is left of the text
   pub record AppendsPrefix (text left : List ℕ) (old new : K) : Type 0 where
     pub prefix : List ℕ
     pub splits : text ≡ prefix ++ left
-    pub appended : written new ≡ with_back prefix (written old)
+    pub appended : taken new ≡ taken old ++ prefix
     pub quiet : faults new ≡ faults old
 
   -- a write failed, and some number of the text's first bytes went out before it
   pub record Fails (text : List ℕ) (old new : K) : Type 0 where
     pub count : ℕ
-    pub appended : written new ≡ with_back (take count text) (written old)
+    pub appended : taken new ≡ taken old ++ take count text
     pub failed : Rose (faults old) (faults new)
 
   -- the text is written whole; or a write fails

@@ -21,7 +21,7 @@ pub fn put_changes<K: Sink>(
     out: &mut Pending,
     sink: &mut K,
 ) -> Result<(), SinkFault>
-    ensures { Puts K.written K.faults (change_lines (form_of form) changes.now)
+    ensures { Puts K.taken K.faults (change_lines (form_of form) changes.now)
         out.old out.new sink.old sink.new result }
 {
     for change in changes {
@@ -37,7 +37,7 @@ pub fn put_change<K: Sink>(
     out: &mut Pending,
     sink: &mut K,
 ) -> Result<(), SinkFault>
-    ensures { Puts K.written K.faults ((form_of form).line change.now)
+    ensures { Puts K.taken K.faults ((form_of form).line change.now)
         out.old out.new sink.old sink.new result }
 {
     match (form, change) {
@@ -52,7 +52,7 @@ pub fn put_change<K: Sink>(
 
 // Puts the line of a retraction that leaves out what stood.
 fn put_gone<K: Sink>(row: &Row, out: &mut Pending, sink: &mut K) -> Result<(), SinkFault>
-    ensures { Puts K.written K.faults (change_line (Gone row.now))
+    ensures { Puts K.taken K.faults (change_line (Gone row.now))
         out.old out.new sink.old sink.new result }
 {
     let mut number = Buffer::new();
@@ -73,7 +73,7 @@ fn put_updated<K: Sink>(
     out: &mut Pending,
     sink: &mut K,
 ) -> Result<(), SinkFault>
-    ensures { Puts K.written K.faults (line_of (codes "~" ∷ updated_fields row.now former.now))
+    ensures { Puts K.taken K.faults (line_of (codes "~" ∷ updated_fields row.now former.now))
         out.old out.new sink.old sink.new result }
 {
     put_row_front(b"~", row, out, sink)?;
@@ -86,7 +86,7 @@ fn put_value_and_former<K: Sink>(
     out: &mut Pending,
     sink: &mut K,
 ) -> Result<(), SinkFault>
-    ensures { Puts K.written K.faults (shown_text (row.now).shown
+    ensures { Puts K.taken K.faults (shown_text (row.now).shown
         ++ former_end former.now (row.now).key)
         out.old out.new sink.old sink.new result }
 {
@@ -101,7 +101,7 @@ fn put_former<K: Sink>(
     out: &mut Pending,
     sink: &mut K,
 ) -> Result<(), SinkFault>
-    ensures { Puts K.written K.faults (former_end former.now key.now)
+    ensures { Puts K.taken K.faults (former_end former.now key.now)
         out.old out.new sink.old sink.new result }
 {
     put_spaced(former.number, out, sink)?;
@@ -110,7 +110,7 @@ fn put_former<K: Sink>(
 
 // Puts a number between two spaces.
 fn put_spaced<K: Sink>(number: u64, out: &mut Pending, sink: &mut K) -> Result<(), SinkFault>
-    ensures { Puts K.written K.faults (32 ∷ (decimal number ++ 32 ∷ []))
+    ensures { Puts K.taken K.faults (32 ∷ (decimal number ++ 32 ∷ []))
         out.old out.new sink.old sink.new result }
 {
     let mut digits = Buffer::new();
@@ -119,7 +119,7 @@ fn put_spaced<K: Sink>(number: u64, out: &mut Pending, sink: &mut K) -> Result<(
 
 // Puts a value as shown.
 fn put_value<K: Sink>(shown: &Shown, out: &mut Pending, sink: &mut K) -> Result<(), SinkFault>
-    ensures { Puts K.written K.faults (shown_text shown.now)
+    ensures { Puts K.taken K.faults (shown_text shown.now)
         out.old out.new sink.old sink.new result }
 {
     let mut value = Buffer::new();
@@ -141,7 +141,7 @@ pub fn put_row<K: Sink>(
     out: &mut Pending,
     sink: &mut K,
 ) -> Result<(), SinkFault>
-    ensures { Puts K.written K.faults (line_of (sign.now ∷ row_fields row.now))
+    ensures { Puts K.taken K.faults (line_of (sign.now ∷ row_fields row.now))
         out.old out.new sink.old sink.new result }
 {
     put_row_front(sign, row, out, sink)?;
@@ -155,7 +155,7 @@ fn put_row_front<K: Sink>(
     out: &mut Pending,
     sink: &mut K,
 ) -> Result<(), SinkFault>
-    ensures { Puts K.written K.faults (row_front sign.now row.now)
+    ensures { Puts K.taken K.faults (row_front sign.now row.now)
         out.old out.new sink.old sink.new result }
 {
     let mut window = Buffer::new();
@@ -179,7 +179,7 @@ fn put_shown<K: Sink>(
     out: &mut Pending,
     sink: &mut K,
 ) -> Result<(), SinkFault>
-    ensures { Puts K.written K.faults (line_of (shown_text shown.now ∷ key.now ∷ []))
+    ensures { Puts K.taken K.faults (line_of (shown_text shown.now ∷ key.now ∷ []))
         out.old out.new sink.old sink.new result }
 {
     put_value(shown, out, sink)?;
@@ -188,7 +188,7 @@ fn put_shown<K: Sink>(
 
 // Puts the key, which ends its line.
 fn put_key<K: Sink>(key: &KeyText, out: &mut Pending, sink: &mut K) -> Result<(), SinkFault>
-    ensures { Puts K.written K.faults (32 ∷ (key.now ++ 10 ∷ []))
+    ensures { Puts K.taken K.faults (32 ∷ (key.now ++ 10 ∷ []))
         out.old out.new sink.old sink.new result }
 {
     put_pieces(&[b" ", key.bytes(), b"\n"], out, sink)

@@ -11,7 +11,7 @@ use stream_base::{Entry, What};
 
 /// Puts the journal line of an entry.
 pub fn put_entry<K: Sink>(entry: &Entry, out: &mut Pending, sink: &mut K) -> Result<(), SinkFault>
-    ensures { Puts K.written K.faults (entry_line entry.now)
+    ensures { Puts K.taken K.faults (entry_line entry.now)
         out.old out.new sink.old sink.new result }
 {
     let mut source = Buffer::new();

@@ -18,7 +18,7 @@ use window_defs::DefsFault;
 /// Writes the line of a fault. `Write` is answered where a write of the sink failed, and then a
 /// prefix of the line went out.
 pub fn write_fault<K: Sink>(fault: &Fault, sink: &mut K) -> Result<(), SinkFault>
-    ensures { Writes K.written K.faults (fault_line fault.now) sink.old sink.new result }
+    ensures { Writes K.taken K.faults (fault_line fault.now) sink.old sink.new result }
 {
     let mut out = Pending::new();
     put_fault(fault, &mut out, sink)?;
@@ -26,7 +26,7 @@ pub fn write_fault<K: Sink>(fault: &Fault, sink: &mut K) -> Result<(), SinkFault
 }
 
 fn put_fault<K: Sink>(fault: &Fault, out: &mut Pending, sink: &mut K) -> Result<(), SinkFault>
-    ensures { Puts K.written K.faults (fault_line fault.now)
+    ensures { Puts K.taken K.faults (fault_line fault.now)
         out.old out.new sink.old sink.new result }
 {
     match fault {
@@ -53,7 +53,7 @@ fn put_defs_fault<K: Sink>(
     out: &mut Pending,
     sink: &mut K,
 ) -> Result<(), SinkFault>
-    ensures { Puts K.written K.faults (line_of (codes "fault" ∷ defs_words fault.now))
+    ensures { Puts K.taken K.faults (line_of (codes "fault" ∷ defs_words fault.now))
         out.old out.new sink.old sink.new result }
 {
     match fault {
@@ -73,7 +73,7 @@ fn put_record_fault<K: Sink>(
     out: &mut Pending,
     sink: &mut K,
 ) -> Result<(), SinkFault>
-    ensures { Puts K.written K.faults (fault_line (Fault.Row source number why))
+    ensures { Puts K.taken K.faults (fault_line (Fault.Row source number why))
         out.old out.new sink.old sink.new result }
 {
     let mut first = Buffer::new();
@@ -105,7 +105,7 @@ fn put_placed<N: Integer, K: Sink>(
     out: &mut Pending,
     sink: &mut K,
 ) -> Result<(), SinkFault>
-    ensures { Puts K.written K.faults
+    ensures { Puts K.taken K.faults
         (front.now ++ (option_map_or N.text place word.now ++ 10 ∷ []))
         out.old out.new sink.old sink.new result }
 {

@@ -12,7 +12,7 @@ use report_check::Finding;
 /// Writes the line of a finding: `lawful`, or `unlawful` and what is wrong where. `Write` is
 /// answered where a write of the sink failed, and then a prefix of the line went out.
 pub fn write_finding<K: Sink>(finding: &Finding, sink: &mut K) -> Result<(), SinkFault>
-    ensures { Writes K.written K.faults (finding_line finding.now) sink.old sink.new result }
+    ensures { Writes K.taken K.faults (finding_line finding.now) sink.old sink.new result }
 {
     let mut out = Pending::new();
     put_finding(finding, &mut out, sink)?;
@@ -20,7 +20,7 @@ pub fn write_finding<K: Sink>(finding: &Finding, sink: &mut K) -> Result<(), Sin
 }
 
 fn put_finding<K: Sink>(finding: &Finding, out: &mut Pending, sink: &mut K) -> Result<(), SinkFault>
-    ensures { Puts K.written K.faults (finding_line finding.now)
+    ensures { Puts K.taken K.faults (finding_line finding.now)
         out.old out.new sink.old sink.new result }
 {
     match finding {

@@ -42,7 +42,7 @@ impl Pending {
     /// Puts bytes behind those that are pending. What was pending is written first, where there is
     /// no room for more.
     pub fn add<K: Sink>(&mut self, bytes: &[u8], sink: &mut K) -> Result<(), SinkFault>
-        ensures { Puts K.written K.faults bytes.now self.old self.new sink.old sink.new result }
+        ensures { Puts K.taken K.faults bytes.now self.old self.new sink.old sink.new result }
     {
         if bytes.len() <= ROOM - self.len {
             self.keep(bytes);
@@ -55,7 +55,7 @@ impl Pending {
     /// Writes all that is pending.
     pub fn flush<K: Sink>(&mut self, sink: &mut K) -> Result<(), SinkFault>
         ensures emptied { OnOk result (self.new ≡ []) }
-        ensures writes { Writes K.written K.faults self.old sink.old sink.new result }
+        ensures writes { Writes K.taken K.faults self.old sink.old sink.new result }
     {
         write_all(&self.cells[..self.len], sink)?;
         self.len = 0;
@@ -65,7 +65,7 @@ impl Pending {
     // Bytes that come where nothing is pending: those that have no room are written at once.
     fn keep_or_write<K: Sink>(&mut self, bytes: &[u8], sink: &mut K) -> Result<(), SinkFault>
         requires { self.old ≡ [] }
-        ensures { Puts K.written K.faults bytes.now [] self.new sink.old sink.new result }
+        ensures { Puts K.taken K.faults bytes.now [] self.new sink.old sink.new result }
     {
         if bytes.len() > ROOM {
             return write_all(bytes, sink);

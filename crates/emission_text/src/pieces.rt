@@ -14,7 +14,7 @@ pub fn put_pieces<K: Sink>(
     out: &mut Pending,
     sink: &mut K,
 ) -> Result<(), SinkFault>
-    ensures { Puts K.written K.faults (flat_map (λ piece. piece.now) pieces.now)
+    ensures { Puts K.taken K.faults (flat_map (λ piece. piece.now) pieces.now)
         out.old out.new sink.old sink.new result }
 {
     for piece in pieces {
@@ -30,7 +30,7 @@ pub fn put_numbered<N: Integer, K: Sink>(
     out: &mut Pending,
     sink: &mut K,
 ) -> Result<(), SinkFault>
-    ensures { Puts K.written K.faults (front.now ++ (N.text number ++ 10 ∷ []))
+    ensures { Puts K.taken K.faults (front.now ++ (N.text number ++ 10 ∷ []))
         out.old out.new sink.old sink.new result }
 {
     let mut digits = Buffer::new();

@@ -18,7 +18,7 @@ use shard_core::Shard;
 /// it its changes; and at the end a last line. Retractions and updates leave out what stood before.
 /// `Write` is answered where a write of the sink failed, and then a prefix of the report went out.
 pub fn write_report<K: Sink>(shards: &[Shard], sink: &mut K) -> Result<(), SinkFault>
-    ensures { Writes K.written K.faults (report_text report_1 shards.now) sink.old sink.new result }
+    ensures { Writes K.taken K.faults (report_text report_1 shards.now) sink.old sink.new result }
 {
     write_form(ReportForm::One, shards, sink)
 }
@@ -26,7 +26,7 @@ pub fn write_report<K: Sink>(shards: &[Shard], sink: &mut K) -> Result<(), SinkF
 /// Writes the report of shards in its second form: a line that says so, and then the same text, in
 /// which retractions and updates tell what stood before.
 pub fn write_report2<K: Sink>(shards: &[Shard], sink: &mut K) -> Result<(), SinkFault>
-    ensures { Writes K.written K.faults (report_text report_2 shards.now) sink.old sink.new result }
+    ensures { Writes K.taken K.faults (report_text report_2 shards.now) sink.old sink.new result }
 {
     write_form(ReportForm::Two, shards, sink)
 }
@@ -37,7 +37,7 @@ pub fn write_form<K: Sink>(
     shards: &[Shard],
     sink: &mut K,
 ) -> Result<(), SinkFault>
-    ensures { Writes K.written K.faults (report_text (form_of form) shards.now)
+    ensures { Writes K.taken K.faults (report_text (form_of form) shards.now)
         sink.old sink.new result }
 {
     let mut out = Pending::new();
@@ -60,7 +60,7 @@ fn put_report<K: Sink>(
     out: &mut Pending,
     sink: &mut K,
 ) -> Result<(), SinkFault>
-    ensures { Puts K.written K.faults (report_text (form_of form) shards.now)
+    ensures { Puts K.taken K.faults (report_text (form_of form) shards.now)
         out.old out.new sink.old sink.new result }
 {
     put_front(form, out, sink)?;
@@ -69,7 +69,7 @@ fn put_report<K: Sink>(
 
 // Puts the line that tells the form, where it has one.
 fn put_front<K: Sink>(form: ReportForm, out: &mut Pending, sink: &mut K) -> Result<(), SinkFault>
-    ensures { Puts K.written K.faults (form_of form).front
+    ensures { Puts K.taken K.faults (form_of form).front
         out.old out.new sink.old sink.new result }
 {
     match form {
@@ -84,7 +84,7 @@ fn put_all<K: Sink>(
     out: &mut Pending,
     sink: &mut K,
 ) -> Result<(), SinkFault>
-    ensures { Puts K.written K.faults (shards_text (form_of form) shards.now)
+    ensures { Puts K.taken K.faults (shards_text (form_of form) shards.now)
         out.old out.new sink.old sink.new result }
 {
     put_shards(form, shards, out, sink)?;
@@ -97,7 +97,7 @@ fn put_shards<K: Sink>(
     out: &mut Pending,
     sink: &mut K,
 ) -> Result<(), SinkFault>
-    ensures { Puts K.written K.faults (lines_from (form_of form) 0 shards.now)
+    ensures { Puts K.taken K.faults (lines_from (form_of form) 0 shards.now)
         out.old out.new sink.old sink.new result }
 {
     for (k, shard) in shards.iter().enumerate() {
@@ -114,7 +114,7 @@ fn put_shard<K: Sink>(
     out: &mut Pending,
     sink: &mut K,
 ) -> Result<(), SinkFault>
-    ensures { Puts K.written K.faults (header_line k ++ lines_of (form_of form) shard.now)
+    ensures { Puts K.taken K.faults (header_line k ++ lines_of (form_of form) shard.now)
         out.old out.new sink.old sink.new result }
 {
     put_numbered(b"shard ", k, out, sink)?;
@@ -127,7 +127,7 @@ fn put_journal<K: Sink>(
     out: &mut Pending,
     sink: &mut K,
 ) -> Result<(), SinkFault>
-    ensures { Puts K.written K.faults (lines_of (form_of form) shard.now)
+    ensures { Puts K.taken K.faults (lines_of (form_of form) shard.now)
         out.old out.new sink.old sink.new result }
 {
     for position in 0..shard.journal_len() {
@@ -145,7 +145,7 @@ fn put_position<K: Sink>(
     sink: &mut K,
 ) -> Result<(), SinkFault>
     requires { position < length shard.now.journal }
-    ensures { Puts K.written K.faults (lines_at (form_of form) shard.now position)
+    ensures { Puts K.taken K.faults (lines_at (form_of form) shard.now position)
         out.old out.new sink.old sink.new result }
 {
     put_entry(shard.entry_at(position), out, sink)?;

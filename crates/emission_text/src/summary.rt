@@ -22,7 +22,7 @@ pub fn write_summary<K: Sink>(
     rows: &[Row],
     sink: &mut K,
 ) -> Result<(), SinkFault>
-    ensures { Writes K.written K.faults (summary_of tuples windows rows.now)
+    ensures { Writes K.taken K.faults (summary_of tuples windows rows.now)
         sink.old sink.new result }
 {
     let mut out = Pending::new();
@@ -37,7 +37,7 @@ fn put_summary<K: Sink>(
     out: &mut Pending,
     sink: &mut K,
 ) -> Result<(), SinkFault>
-    ensures { Puts K.written K.faults (summary_of tuples windows rows.now)
+    ensures { Puts K.taken K.faults (summary_of tuples windows rows.now)
         out.old out.new sink.old sink.new result }
 {
     put_numbered(b"made ", tuples, out, sink)?;
@@ -51,7 +51,7 @@ fn put_behind<K: Sink>(
     out: &mut Pending,
     sink: &mut K,
 ) -> Result<(), SinkFault>
-    ensures { Puts K.written K.faults (lines_behind windows rows.now)
+    ensures { Puts K.taken K.faults (lines_behind windows rows.now)
         out.old out.new sink.old sink.new result }
 {
     put_windows(windows, rows, out, sink)?;
@@ -64,7 +64,7 @@ fn put_windows<K: Sink>(
     out: &mut Pending,
     sink: &mut K,
 ) -> Result<(), SinkFault>
-    ensures { Puts K.written K.faults (windows_lines windows rows.now)
+    ensures { Puts K.taken K.faults (windows_lines windows rows.now)
         out.old out.new sink.old sink.new result }
 {
     for window in 0..windows {
@@ -80,7 +80,7 @@ fn put_window<K: Sink>(
     out: &mut Pending,
     sink: &mut K,
 ) -> Result<(), SinkFault>
-    ensures { Puts K.written K.faults (window_lines rows.now window)
+    ensures { Puts K.taken K.faults (window_lines rows.now window)
         out.old out.new sink.old sink.new result }
 {
     let tally = Tally::of_window(window, rows);
@@ -96,7 +96,7 @@ fn put_counts<K: Sink>(
     out: &mut Pending,
     sink: &mut K,
 ) -> Result<(), SinkFault>
-    ensures { Puts K.written K.faults (tally_line window rows numbers)
+    ensures { Puts K.taken K.faults (tally_line window rows numbers)
         out.old out.new sink.old sink.new result }
 {
     let mut first = Buffer::new();
@@ -111,7 +111,7 @@ fn put_counts<K: Sink>(
 
 // Puts the line of the last row, where there is one.
 fn put_last<K: Sink>(last: &Option<Row>, out: &mut Pending, sink: &mut K) -> Result<(), SinkFault>
-    ensures { Puts K.written K.faults (last_line last.now)
+    ensures { Puts K.taken K.faults (last_line last.now)
         out.old out.new sink.old sink.new result }
 {
     match last {

@@ -6,7 +6,7 @@ use outside::Sink;
 
 /// Writes all of these bytes, in as many writes as the sink needs.
 pub fn write_all<K: Sink>(bytes: &[u8], sink: &mut K) -> Result<(), SinkFault>
-    ensures { Writes K.written K.faults bytes.now sink.old sink.new result }
+    ensures { Writes K.taken K.faults bytes.now sink.old sink.new result }
 {
     let mut rest = bytes;
     'pieces: while !rest.is_empty() {

@@ -5,7 +5,7 @@ use Rattle.std.specs.declared.alloc.Global.{Global}
 use Rattle.stream_base.specs.declared.entry.Entry.{Entry}
 use Rattle.stream_base.specs.Model.Routes.{routed}
 use Rattle.shard_core.specs.Shard.{Sharded}
-use Rattle.source_feed.specs.FeedState.{FeedState}
+use Rattle.source_feed.specs.FeedView.{FeedView}
 use Rattle.source_feed.specs.Stream.{Stream}
 use Rattle.source_feed.specs.declared.feed_fault.FeedFault.{FeedFault}
 use Rattle.source_feed.specs.declared.feed_fault.FeedFault.TheVariants.{Read, NoMemory}
@@ -24,14 +24,10 @@ use Rattle.fan_in.specs.declared.outcome.Outcome.{Outcome}
 use Rattle.fan_in.specs.declared.outcome.Outcome.TheVariants.{Done, Fault, Full}
 use Rattle.fan_in.proofs.Lists.{some_of}
 
-pub bears_memory : (o : Option Stream) → IfSome o (λ stream. Bears stream (Fault NoMemory))
-bears_memory None = tt
-bears_memory (Some stream) = tt
-
 -- a feed is handed back as before where no shard can be handed out
-pub back_without : (start back : FeedState FeedFault) (o : Outcome) (old new : ℕ) → IsBack start back o old new → IsBack start back (without_shards o) old new
-back_without start back Done old new b = record { of_source = b.of_source; shows = inr refl; told = bears_memory start.rest; read = λ e. absurd (let f : NoMemory ≡ Read = cc in cc); quiet = λ _. b.quiet (λ e. cc) }
-back_without start back (Full shard) old new b = record { of_source = b.of_source; shows = inr refl; told = bears_memory start.rest; read = λ e. absurd (let f : NoMemory ≡ Read = cc in cc); quiet = λ _. b.quiet (λ e. cc) }
+pub back_without : (start back : FeedView) (o : Outcome) (old new : ℕ) → IsBack start back o old new → IsBack start back (without_shards o) old new
+back_without start back Done old new b = record { of_source = b.of_source; shows = inr refl; origin = b.origin; seen = b.seen; bears = tt; read = λ e. absurd (let f : NoMemory ≡ Read = cc in cc); quiet = λ _. b.quiet (λ e. cc) }
+back_without start back (Full shard) old new b = record { of_source = b.of_source; shows = inr refl; origin = b.origin; seen = b.seen; bears = tt; read = λ e. absurd (let f : NoMemory ≡ Read = cc in cc); quiet = λ _. b.quiet (λ e. cc) }
 back_without start back (Fault fault) old new b = b
 
 pub fault_without : (o : Outcome) → IsFault (without_shards o)
@@ -45,14 +41,14 @@ named_without shards (Full shard) = tt
 named_without shards (Fault fault) = tt
 
 -- the outcome stays where shards are handed out
-pub back_of : {X : Type 0} (state : X → FeedState FeedFault) (faults : X → ℕ) (a x y : X) (o p : Outcome) → y ≡ x → (p ≡ without_shards o) ⊎ (p ≡ o) → IsBack (state a) (state x) o (faults a) (faults x) → IsBack (state a) (state y) p (faults a) (faults y)
+pub back_of : {X : Type 0} (state : X → FeedView) (faults : X → ℕ) (a x y : X) (o p : Outcome) → y ≡ x → (p ≡ without_shards o) ⊎ (p ≡ o) → IsBack (state a) (state x) o (faults a) (faults x) → IsBack (state a) (state y) p (faults a) (faults y)
 back_of state faults a x y o p e choice b =
     subst (λ z. IsBack (state a) (state z) p (faults a) (faults z)) (sym e)
     (⊎_elim (λ w. subst (λ q. IsBack (state a) (state x) q (faults a) (faults x)) (sym w) (back_without (state a) (state x) o (faults a) (faults x) b)) (λ w. subst (λ q. IsBack (state a) (state x) q (faults a) (faults x)) (sym w) b) choice)
 
 module _ {g : Ghosts BookedState Entry FixedPart} where
   -- a feed that wasn't read is ready to be read at the desks of its seats
-  pub ready : (start : FeedState FeedFault) (i : ℕ) (desks : List (Turnstile BookedState Entry FixedPart)) (f : FixedPart) (row : List (Pass BookedState Entry FixedPart g)) → IsFresh i start → AreSeats (Some f) i desks row → All (λ p. made p ≡ []) row → i < f.sources
+  pub ready : (start : FeedView) (i : ℕ) (desks : List (Turnstile BookedState Entry FixedPart)) (f : FixedPart) (row : List (Pass BookedState Entry FixedPart g)) → IsFresh i start → AreSeats (Some f) i desks row → All (λ p. made p ≡ []) row → i < f.sources
       → length desks ≤ 16 → IsReadyAt desks start Done row
   ready start i desks f row fresh seats blank l few = record {
     stand = record {
@@ -63,7 +59,7 @@ module _ {g : Ghosts BookedState Entry FixedPart} where
     ready = record {
       running = fresh.running;
       unanswered = fresh.unanswered;
-      whole = fresh.whole;
+      unread = fresh.blank;
       done = refl;
       known = λ k p lk.
           let ld : k < length desks = let m = seats.many in omega arith in
@@ -91,18 +87,17 @@ module _ {g : Ghosts BookedState Entry FixedPart} where
     own = own;
   }
 
-  part : (shards k i : ℕ) (stream : Stream) (o : Outcome) (f : Option FixedPart) (shard : Sharded) (p : Pass BookedState Entry FixedPart g) → IsClosed f shard → IsSettled shard i p → HasMade (routed shards k stream.entries) k o p
-      → HoldsPart shards k i stream o shard.journal
-  part shards k i stream o f shard p closed settled has = record {
+  part : (shards k i : ℕ) (entries : List Entry) (o : Outcome) (f : Option FixedPart) (shard : Sharded) (p : Pass BookedState Entry FixedPart g) → IsClosed f shard → IsSettled shard i p → HasMade (routed shards k entries) k o p
+      → HoldsPart shards k i entries o shard.journal
+  part shards k i entries o f shard p closed settled has = record {
     prefix = (has.begins.0, has.begins.1 ∙ ap (λ l. l ++ has.begins.0) (sym settled.journal));
     whole = λ e. settled.journal ∙ has.whole e;
     full = λ e. let a = has.full e in let b = settled.seen_of in let c = closed.short in omega arith;
-    lacks = λ e. subst (λ (l : List Entry). length l < length (routed shards k stream.entries)) (sym settled.journal) (has.lacks e);
+    lacks = λ e. subst (λ (l : List Entry). length l < length (routed shards k entries)) (sym settled.journal) (has.lacks e);
   }
 
-  -- of the entries that a feed told, a shard holds its part
-  pub parts_of : (rest : Option Stream) (shards k i : ℕ) (o : Outcome) (f : Option FixedPart) (shard : Sharded) (row : List (Pass BookedState Entry FixedPart g)) → IsClosed f shard → k < length row
-      → ((p : Pass BookedState Entry FixedPart g) → IsSettled shard i (get_or row k p)) → IfSome rest (λ stream. HaveMade shards stream.entries o row) → IfSome rest (λ stream. HoldsPart shards k i stream o shard.journal)
-  parts_of None shards k i o f shard row closed l settled h = tt
-  parts_of (Some stream) shards k i o f shard row closed l settled h =
-      let p = some_of row k l in part shards k i stream o f shard (get_or row k p) closed (settled p) (h k p l)
+  -- of the entries that a feed gave, a shard holds its part
+  pub parts_of : (entries : List Entry) (shards k i : ℕ) (o : Outcome) (f : Option FixedPart) (shard : Sharded) (row : List (Pass BookedState Entry FixedPart g)) → IsClosed f shard → k < length row
+      → ((p : Pass BookedState Entry FixedPart g) → IsSettled shard i (get_or row k p)) → HaveMade shards entries o row → HoldsPart shards k i entries o shard.journal
+  parts_of entries shards k i o f shard row closed l settled h =
+      let p = some_of row k l in part shards k i entries o f shard (get_or row k p) closed (settled p) (h k p l)

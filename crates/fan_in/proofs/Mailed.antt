@@ -4,7 +4,7 @@ use Rattle.std.specs.Prelude.{All, Vec}
 use Rattle.std.specs.declared.alloc.Global.{Global}
 use Rattle.stream_base.specs.Limits.{Definitions}
 use Rattle.stream_base.specs.declared.entry.Entry.{Entry}
-use Rattle.source_feed.specs.FeedState.{FeedState}
+use Rattle.source_feed.specs.FeedView.{FeedView}
 use Rattle.source_feed.specs.declared.feed_fault.FeedFault.{FeedFault}
 use Rattle.mail_lane.specs.Lane.{Lane, SenderState}
 use Rattle.fan_in.specs.declared.outcome.Outcome.{Outcome}
@@ -18,7 +18,7 @@ use Rattle.fan_in.proofs.Lists.{some_of}
 use Rattle.fan_in.proofs.Outcomes.{back_follows}
 
 -- a feed that wasn't read is ready to be read and sent
-pub ready : (start : FeedState FeedFault) (i : ℕ) (lanes : List Lane) (row : List (SenderState Entry)) → length lanes ≤ 16 → IsFresh i start → AreBoxesOf i lanes row → All (λ s. s.sent ≡ []) row → IsReadyToSend lanes start Done row
+pub ready : (start : FeedView) (i : ℕ) (lanes : List Lane) (row : List (SenderState Entry)) → length lanes ≤ 16 → IsFresh i start → AreBoxesOf i lanes row → All (λ s. s.sent ≡ []) row → IsReadyToSend lanes start Done row
 ready start i lanes row few fresh boxes blank = record {
   lanes_are = record {
     few = few;
@@ -27,7 +27,7 @@ ready start i lanes row few fresh boxes blank = record {
   };
   running = fresh.running;
   unanswered = fresh.unanswered;
-  whole = fresh.whole;
+  unread = fresh.blank;
   done = refl;
   blank = blank;
 }
@@ -58,7 +58,7 @@ sent_rows d sources lanes owners rows rows' post many same from = record {
     before i l = some_of rows i (let m = post.many in omega arith)
 
 -- a feed is handed back as it was when it had been read, with an outcome that follows its own
-pub back_at : {X : Type 0} (state : X → FeedState FeedFault) (faults : X → ℕ) (n : ℕ) (a x y : X) (own o : Outcome) → y ≡ x → IsOwnOutcome own → Follows n own o → IsBack (state a) (state x) own (faults a) (faults x)
+pub back_at : {X : Type 0} (state : X → FeedView) (faults : X → ℕ) (n : ℕ) (a x y : X) (own o : Outcome) → y ≡ x → IsOwnOutcome own → Follows n own o → IsBack (state a) (state x) own (faults a) (faults x)
     → IsBack (state a) (state y) o (faults a) (faults y)
 back_at state faults n a x y own o e w f b =
     subst (λ z. IsBack (state a) (state z) o (faults a) (faults z)) (sym e) (back_follows n (state a) (state x) own o (faults a) (faults x) w f b)

@@ -4,7 +4,7 @@ use Rattle.std.specs.Prelude.{IfSome}
 use Rattle.stream_base.specs.declared.entry.Entry.{Entry}
 use Rattle.stream_base.specs.declared.limits.TheConstants.{JOURNAL_MAX}
 use Rattle.stream_base.specs.Model.Routes.{entries_from}
-use Rattle.source_feed.specs.FeedState.{FeedState}
+use Rattle.source_feed.specs.FeedView.{FeedView}
 use Rattle.source_feed.specs.Stream.{Stream}
 use Rattle.source_feed.specs.declared.feed_fault.FeedFault.{FeedFault}
 use Rattle.source_feed.specs.declared.feed_fault.FeedFault.TheVariants.{Read, NoMemory}
@@ -15,7 +15,7 @@ use Rattle.fan_in.specs.Gathering.{Bears, HoldsPart, IsBack, NamesOneOf}
 use Rattle.fan_in.specs.Reading.{IsAbout, IsHalfway}
 use Rattle.fan_in.specs.Sending.{HaveSentParts, IsOwnOutcome}
 use Rattle.fan_in.specs.Settling.{Follows, HoldsSent, worse}
-use Rattle.fan_in.proofs.Final.{bears_memory}
+use Rattle.fan_in.proofs.Final.{}
 use Rattle.fan_in.proofs.Midway.{named_of}
 
 pub follows_first : (own : Outcome) → IsOwnOutcome own → Follows 0 own own
@@ -60,19 +60,15 @@ held_now m i sent journal Done o note b h = half_held m i sent journal o note b 
 held_now m i sent journal (Full s) o note b h = half_held m i sent journal o note b h
 held_now m i sent journal (Fault f) o note b h = subst (λ (x : Outcome). HoldsSent m i sent (worse x note) journal) (sym b) (record { prefix = h.prefix; whole = λ e. absurd (cc); full = λ e. absurd (cc); lacks = λ e. absurd (cc) })
 
-told_full : (r : Option Stream) (s : ℕ) → IfSome r (λ stream. Bears stream Done) → IfSome r (λ stream. Bears stream (Full s))
-told_full None s t = tt
-told_full (Some stream) s t = t
-
-half_back : (n : ℕ) (start back : FeedState FeedFault) (o : Outcome) (old new : ℕ) → IsHalfway n o → IsBack start back Done old new → IsBack start back o old new
+half_back : (n : ℕ) (start back : FeedView) (o : Outcome) (old new : ℕ) → IsHalfway n o → IsBack start back Done old new → IsBack start back o old new
 half_back n start back Done old new h b = b
-half_back n start back (Full s) old new h b = record { of_source = b.of_source; shows = b.shows; told = told_full start.rest s b.told; read = λ e. absurd (cc); quiet = λ _. b.quiet (λ e. cc) }
+half_back n start back (Full s) old new h b = record { of_source = b.of_source; origin = b.origin; seen = b.seen; shows = b.shows; bears = b.bears; read = λ e. absurd (cc); quiet = λ _. b.quiet (λ e. cc) }
 half_back n start back (Fault f) old new h b =
     subst (λ (x : FeedFault). IsBack start back (Fault x) old new) (sym h)
-    (record { of_source = b.of_source; shows = inr refl; told = bears_memory start.rest; read = λ e. absurd (let q : NoMemory ≡ Read = cc in cc); quiet = λ _. b.quiet (λ e. cc) })
+    (record { of_source = b.of_source; origin = b.origin; seen = b.seen; shows = inr refl; bears = tt; read = λ e. absurd (let q : NoMemory ≡ Read = cc in cc); quiet = λ _. b.quiet (λ e. cc) })
 
 -- a feed that was handed back shows its outcome
-pub back_follows : (n : ℕ) (start back : FeedState FeedFault) (own o : Outcome) (old new : ℕ) → IsOwnOutcome own → Follows n own o → IsBack start back own old new → IsBack start back o old new
+pub back_follows : (n : ℕ) (start back : FeedView) (own o : Outcome) (old new : ℕ) → IsOwnOutcome own → Follows n own o → IsBack start back own old new → IsBack start back o old new
 back_follows n start back Done o old new w f b = half_back n start back o old new f b
 back_follows n start back (Full s) o old new w f b = absurd w
 back_follows n start back (Fault x) o old new w f b = subst (λ (y : Outcome). IsBack start back y old new) (sym f) b
@@ -95,10 +91,10 @@ few_from i (x ∷ xs) = by_source (eqb x.source i) refl (few_from i xs)
     by_source true u m = rw u (omega arith)
     by_source false u m = rw u (omega arith)
 
--- a shard holds its part of the entries that a feed told
-part : (n k i : ℕ) (stream : Stream) (own o : Outcome) (senders : List (SenderState Entry)) (journals : ℕ → List Entry) (d : SenderState Entry) → n ≡ length senders → k < n → IsOwnOutcome own → Follows n own o → HaveSentParts n stream.entries own senders
-    → ((j : ℕ) → j < n → length (journals j) ≤ JOURNAL_MAX) → ((j : ℕ) → j < n → HoldsSent j i (get_or senders j d).sent o (journals j)) → HoldsPart n k i stream o (journals k)
-part n k i stream own o senders journals d m l w f parts short held =
+-- a shard holds its part of the entries that a feed gave
+pub parts_of : (n k i : ℕ) (entries : List Entry) (own o : Outcome) (senders : List (SenderState Entry)) (journals : ℕ → List Entry) (d : SenderState Entry) → n ≡ length senders → k < n → IsOwnOutcome own → Follows n own o → HaveSentParts n entries own senders
+    → ((j : ℕ) → j < n → length (journals j) ≤ JOURNAL_MAX) → ((j : ℕ) → j < n → HoldsSent j i (get_or senders j d).sent o (journals j)) → HoldsPart n k i entries o (journals k)
+parts_of n k i entries own o senders journals d m l w f parts short held =
     let h = held k l in
     let b = parts.begins k d (omega arith) in
     record {
@@ -111,8 +107,3 @@ part n k i stream own o senders journals d m l w f parts short held =
       full = h.full;
       lacks = λ e. let x = h.lacks e in omega (arith, ap length b.1, length-append (get_or senders k d).sent b.0);
     }
-
-pub parts_of : (rest : Option Stream) (n k i : ℕ) (own o : Outcome) (senders : List (SenderState Entry)) (journals : ℕ → List Entry) (d : SenderState Entry) → n ≡ length senders → k < n → IsOwnOutcome own → Follows n own o → IfSome rest (λ stream. HaveSentParts n stream.entries own senders)
-    → ((j : ℕ) → j < n → length (journals j) ≤ JOURNAL_MAX) → ((j : ℕ) → j < n → HoldsSent j i (get_or senders j d).sent o (journals j)) → IfSome rest (λ stream. HoldsPart n k i stream o (journals k))
-parts_of None n k i own o senders journals d m l w f parts short held = tt
-parts_of (Some stream) n k i own o senders journals d m l w f parts short held = part n k i stream own o senders journals d m l w f parts short held

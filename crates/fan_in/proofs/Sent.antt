@@ -8,9 +8,9 @@ use Rattle.stream_base.specs.Model.Journals.{is_entry_within}
 use Rattle.stream_base.specs.Model.Routes.{goes_to, routed}
 use Rattle.stream_base.specs.Model.What.{is_end}
 use Rattle.source_feed.specs.FeedFault.{refusal_of}
-use Rattle.source_feed.specs.FeedState.{Closes, FeedState}
-use Rattle.source_feed.specs.Gives.{CountsReads, Gives}
-use Rattle.source_feed.specs.Stream.{Stream}
+use Rattle.source_feed.specs.FeedView.{FeedView, Steps}
+use Rattle.source_feed.specs.Gives.{CountsReads}
+use Rattle.source_feed.specs.Stream.{StaysTold}
 use Rattle.source_feed.specs.declared.feed_fault.FeedFault.{FeedFault}
 use Rattle.source_feed.specs.declared.feed_fault.FeedFault.TheVariants.{Read}
 use Rattle.mail_lane.specs.Lane.{Lane, SenderState}
@@ -20,7 +20,7 @@ use Rattle.fan_in.specs.declared.outcome.Outcome.TheVariants.{Done, Fault, Full}
 use Rattle.fan_in.specs.Gathering.{Bears, IsBack}
 use Rattle.fan_in.specs.Reading.{IsHalfway}
 use Rattle.fan_in.specs.Sending.{AreFrom, AreSameSenders, EndsLast, HasSent, HaveSent, HaveSentParts, IsOwnOutcome, IsReadyToSend, IsSentOut, SendOn, SendsMore, own_outcome}
-use Rattle.fan_in.proofs.Midway.{IsRest, all_front, bears_only, no_read, routed_more, shows, told_fault, told_first, told_last, told_more}
+use Rattle.fan_in.proofs.Midway.{all_front, bears_last, no_read, routed_more, seen_first, seen_more, shows}
 
 -- the first lanes took the entry, and the others were not asked yet
 pub record SentTo (shards : ℕ) (entry : Entry) (asked : ℕ) (old now : List (SenderState Entry)) : Type 0 where
@@ -58,16 +58,17 @@ ends_routed shards k (x ∷ xs) h = by_route (goes_to shards k x.what) refl (end
     by_route false e m = rw e m
 
 -- where a feed stands that has given some entries so far
-pub record IsSending (lanes : List Lane) (start now : FeedState FeedFault) (old new : ℕ) (outcome : Outcome) (first senders : List (SenderState Entry)) : Type 0 where
+pub record IsSending (lanes : List Lane) (start now : FeedView) (old new : ℕ) (outcome : Outcome) (first senders : List (SenderState Entry)) : Type 0 where
   pub given : List Entry
   pub lanes_are : SendOn lanes first
   pub same : AreSameSenders first senders
   pub source : now.source ≡ start.source
   pub unanswered : now.answered ≡ None
-  pub whole : Closes now
+  pub origin : now.origin ≡ start.origin
+  pub seen : StaysTold start.whole now.whole
+  pub gave : now.gave ≡ given
   pub quiet : new ≡ old
   pub halfway : IsHalfway (length lanes) outcome
-  pub told : IfSome start.rest (λ stream. IsRest stream given now.rest)
   pub from : AreFrom start.source given
   pub inner : now.ended ≡ false → AreInner given
   pub parts : HaveSent (length lanes) given outcome senders
@@ -75,7 +76,7 @@ pub record IsSending (lanes : List Lane) (start now : FeedState FeedFault) (old 
 same_refl : (senders : List (SenderState Entry)) → AreSameSenders senders senders
 same_refl senders = record { many = refl; same = λ k s l. record { lane = refl; number = refl } }
 
-pub begin : (lanes : List Lane) (start : FeedState FeedFault) (n : ℕ) (outcome : Outcome) (senders : List (SenderState Entry))
+pub begin : (lanes : List Lane) (start : FeedView) (n : ℕ) (outcome : Outcome) (senders : List (SenderState Entry))
     → IsReadyToSend lanes start outcome senders → IsSending lanes start start n n outcome senders senders
 begin lanes start n outcome senders r = record {
   given = [];
@@ -83,10 +84,11 @@ begin lanes start n outcome senders r = record {
   same = same_refl senders;
   source = refl;
   unanswered = r.unanswered;
-  whole = r.whole;
+  origin = refl;
+  seen = seen_first start.whole;
+  gave = r.unread;
   quiet = refl;
   halfway = subst (IsHalfway (length lanes)) (sym r.done) tt;
-  told = told_first start.rest;
   from = record { own = All-nil (λ e. e.source ≡ start.source); within = All-nil (λ e. is_entry_within e ≡ true); last = tt };
   inner = λ _. All-nil (λ e. is_end e.what ≡ false);
   parts = λ k s l. record {
@@ -97,7 +99,7 @@ begin lanes start n outcome senders r = record {
 }
 
 -- the senders of a feed that stands so are of their lanes
-pub still_on : (lanes : List Lane) (start now : FeedState FeedFault) (old new : ℕ) (outcome : Outcome) (first senders : List (SenderState Entry))
+pub still_on : (lanes : List Lane) (start now : FeedView) (old new : ℕ) (outcome : Outcome) (first senders : List (SenderState Entry))
     → IsSending lanes start now old new outcome first senders → SendOn lanes senders
 still_on lanes start now old new outcome first senders m = record {
   few = (m.lanes_are).few;
@@ -148,8 +150,8 @@ same_more a b c h k = record {
 }
 
 -- a further entry was given and sent
-pub more : (lanes : List Lane) (start now then' : FeedState FeedFault) (old n n' : ℕ) (o o' : Outcome) (first ps qs : List (SenderState Entry)) (entry : Entry)
-    → IsSending lanes start now old n o first ps → Gives refusal_of now (Ok (Some entry)) then' → CountsReads {T = Option Entry} now.answered n (Ok (Some entry)) n'
+pub more : (lanes : List Lane) (start now then' : FeedView) (old n n' : ℕ) (o o' : Outcome) (first ps qs : List (SenderState Entry)) (entry : Entry)
+    → IsSending lanes start now old n o first ps → Steps now (Ok (Some entry)) then' → CountsReads {T = Option Entry} now.answered n (Ok (Some entry)) n'
     → AreSameSenders ps qs → SendsMore (length lanes) entry o o' ps qs → IsSending lanes start then' old n' o' first qs
 more lanes start now then' old n n' o o' first ps qs entry m gives counts s t =
     let before : AreInner m.given = m.inner gives.outcome.running in
@@ -159,10 +161,11 @@ more lanes start now then' old n n' o o' first ps qs entry m gives counts s t =
       same = same_more first ps qs m.same s;
       source = gives.source ∙ m.source;
       unanswered = gives.outcome.still_unanswered;
-      whole = gives.whole_after;
+      origin = gives.origin ∙ m.origin;
+      seen = seen_more start.whole now.whole then'.whole m.seen gives.seen;
+      gave = gives.outcome.gave ∙ ap (λ (es : List Entry). es ++ entry ∷ []) m.gave;
       quiet = counts.quiet ∙ m.quiet;
       halfway = step_halfway (length lanes) entry o o' ps qs m.halfway t;
-      told = told_more start.rest m.given entry now.rest then'.rest m.told gives.outcome.given;
       from = record {
         own = All-push (λ e. e.source ≡ start.source) m.given entry (m.from).own (gives.outcome.own ∙ m.source);
         within = All-push (λ e. is_entry_within e ≡ true) m.given entry (m.from).within gives.outcome.within;
@@ -200,71 +203,56 @@ whole_parts shards entries (Full shard) ps n i h = record {
 }
 whole_parts shards entries (Fault fault) ps n i h = record { begins = λ k s l. (h k s l).begins; done = λ e. absurd (cc) }
 
-parts_all : (o : Option Stream) (shards : ℕ) (given : List Entry) (outcome : Outcome) (ps : List (SenderState Entry)) → shards ≡ length ps → IsHalfway shards outcome → IfSome o (λ stream. Bears stream outcome × (stream.entries ≡ given))
-    → HaveSent shards given outcome ps → IfSome o (λ stream. HaveSentParts shards stream.entries (own_outcome outcome) ps)
-parts_all None shards given outcome ps n i t h = tt
-parts_all (Some stream) shards given outcome ps n i t h = subst (λ (w : List Entry). HaveSentParts shards w (own_outcome outcome) ps) (sym t.1) (whole_parts shards given outcome ps n i h)
-
-back_own : (start back : FeedState FeedFault) (o : Outcome) (old new : ℕ) → IsBack start back o old new → IsBack start back (own_outcome o) old new
+back_own : (start back : FeedView) (o : Outcome) (old new : ℕ) → IsBack start back o old new → IsBack start back (own_outcome o) old new
 back_own start back Done old new b = b
-back_own start back (Full shard) old new b = record { of_source = b.of_source; shows = b.shows; told = told start.rest b.told; read = λ e. absurd (cc); quiet = λ _. b.quiet (λ e. cc) }
-  where
-    told : (r : Option Stream) → IfSome r (λ stream. Bears stream (Full shard)) → IfSome r (λ stream. Bears stream Done)
-    told None t = tt
-    told (Some stream) t = t
+back_own start back (Full shard) old new b = record { of_source = b.of_source; origin = b.origin; seen = b.seen; shows = b.shows; bears = b.bears; read = λ e. absurd (cc); quiet = λ _. b.quiet (λ e. cc) }
 back_own start back (Fault fault) old new b = b
 
 -- the feed gave nothing more
-pub last : (lanes : List Lane) (start now then' : FeedState FeedFault) (old n n' : ℕ) (o : Outcome) (first ps : List (SenderState Entry))
-    → IsSending lanes start now old n o first ps → Gives refusal_of now (Ok None) then' → CountsReads {T = Option Entry} now.answered n (Ok None) n'
+pub last : (lanes : List Lane) (start now then' : FeedView) (old n n' : ℕ) (o : Outcome) (first ps : List (SenderState Entry))
+    → IsSending lanes start now old n o first ps → Steps now (Ok None) then' → CountsReads {T = Option Entry} now.answered n (Ok None) n'
     → IsSentOut (length lanes) start then' old n' (own_outcome o) first ps
 last lanes start now then' old n n' o first ps m gives counts =
     let shards = length lanes in
-    let t = told_last shards start.rest m.given now.source now.ended now.rest o m.told m.whole gives.outcome.ended m.halfway in
     let many : shards ≡ length ps = let a = (m.same).many in let b = (m.lanes_are).many in omega arith in
     record {
       same = m.same;
       back_is = back_own start then' o old n' (record {
         of_source = gives.source ∙ m.source;
         shows = shows shards o then' m.halfway gives.outcome.still_ended gives.outcome.still_unanswered;
-        told = bears_only start.rest o (λ stream. stream.entries ≡ m.given) t;
+        origin = gives.origin ∙ m.origin;
+        seen = seen_more start.whole now.whole then'.whole m.seen gives.seen;
+        bears = bears_last shards o then' m.halfway gives.outcome.all;
         read = λ e. absurd (no_read shards o m.halfway e);
         quiet = λ _. counts.quiet ∙ m.quiet;
       });
       own = own_is o;
       from = all_from shards start.source m.given o ps m.from m.parts;
-      parts = parts_all start.rest shards m.given o ps many m.halfway t m.parts;
+      parts = subst (λ (w : List Entry). HaveSentParts shards w (own_outcome o) ps) (sym (gives.outcome.gave ∙ m.gave)) (whole_parts shards m.given o ps many m.halfway m.parts);
     }
 
-parts_fault : (o : Option Stream) (shards : ℕ) (given : List Entry) (outcome : Outcome) (fault : FeedFault) (ps : List (SenderState Entry))
-    → IfSome o (λ stream. Bears stream (Fault fault) × ((rest : List Entry) × (stream.entries ≡ given ++ rest)))
-    → HaveSent shards given outcome ps → IfSome o (λ stream. HaveSentParts shards stream.entries (Fault fault) ps)
-parts_fault None shards given outcome fault ps t h = tt
-parts_fault (Some stream) shards given outcome fault ps t h = record {
-  begins = λ k s l.
-      let b = (h k s l).begins in
-      (b.0 ++ routed shards k t.1.0, ap (routed shards k) t.1.1 ∙ routed_more shards k given t.1.0 ∙ ap (λ (w : List Entry). w ++ routed shards k t.1.0) b.1 ∙ append_assoc (get_or ps k s).sent b.0 (routed shards k t.1.0));
-  done = λ e. absurd (cc);
-}
+parts_fault : (shards : ℕ) (given : List Entry) (outcome : Outcome) (fault : FeedFault) (ps : List (SenderState Entry)) → HaveSent shards given outcome ps → HaveSentParts shards given (Fault fault) ps
+parts_fault shards given outcome fault ps h = record { begins = λ k s l. (h k s l).begins; done = λ e. absurd (cc) }
 
 -- the feed answered a fault
-pub fault_of : (lanes : List Lane) (start now then' : FeedState FeedFault) (old n n' : ℕ) (o : Outcome) (first ps : List (SenderState Entry)) (fault : FeedFault)
-    → IsSending lanes start now old n o first ps → Gives refusal_of now (Err fault) then' → CountsReads {T = Option Entry} now.answered n (Err fault) n'
+pub fault_of : (lanes : List Lane) (start now then' : FeedView) (old n n' : ℕ) (o : Outcome) (first ps : List (SenderState Entry)) (fault : FeedFault)
+    → IsSending lanes start now old n o first ps → Steps now (Err fault) then' → CountsReads {T = Option Entry} now.answered n (Err fault) n'
     → IsSentOut (length lanes) start then' old n' (Fault fault) first ps
 fault_of lanes start now then' old n n' o first ps fault m gives counts =
-    let t = told_fault start.rest m.given now.rest then'.rest fault m.told gives.outcome.refused in
     record {
       same = m.same;
       back_is = record {
         of_source = gives.source ∙ m.source;
         shows = inl gives.outcome.answered;
-        told = bears_only start.rest (Fault fault) (λ stream. (rest : List Entry) × (stream.entries ≡ m.given ++ rest)) t;
+        origin = gives.origin ∙ m.origin;
+        seen = seen_more start.whole now.whole then'.whole m.seen gives.seen;
+        bears = gives.outcome.refused;
         read = λ e. rose (counts.read (let f : fault ≡ Read = cc in ap Err f));
         quiet = λ ne. counts.quiet_fault (λ f. ne (ap Fault f)) ∙ m.quiet;
       };
       own = tt;
       from = all_from (length lanes) start.source m.given o ps m.from m.parts;
-      parts = parts_fault start.rest (length lanes) m.given o fault ps t m.parts;
+      parts = subst (λ (w : List Entry). HaveSentParts (length lanes) w (Fault fault) ps) (sym (gives.outcome.gave ∙ m.gave)) (parts_fault (length lanes) m.given o fault ps m.parts);
     }
   where
     rose : (now.answered ≡ Some Read) ⊎ Rose n n' → Rose old n'

@@ -6,7 +6,7 @@ use Rattle.std.proofs.lemmas.Bool.{cases_lt}
 use Rattle.std.proofs.lemmas.List.{get_or-drop, length-drop}
 use Rattle.stream_base.specs.Limits.{Definitions}
 use Rattle.stream_base.specs.declared.entry.Entry.{Entry}
-use Rattle.source_feed.specs.FeedState.{FeedState}
+use Rattle.source_feed.specs.FeedView.{FeedView}
 use Rattle.source_feed.specs.declared.feed_fault.FeedFault.{FeedFault}
 use Rattle.mail_lane.specs.Lane.{Lane, SenderState}
 use Rattle.fan_in.specs.declared.mail_job.MailJob.{MailJob}
@@ -26,7 +26,7 @@ pub each_after : {F : Type 0} (feeds : List F) (rows : List (Vec (SenderState En
     → (i : ℕ) (f : F) (row : Vec (SenderState Entry) Global) (t : Task F) → i < length feeds → get_or tasks i t ≡ Reading (record { feed = get_or feeds i f; outcome = Done; outboxes = get_or rows i row })
 each_after feeds rows old tasks many front each i f row t l = front i t (omega arith) ∙ each i f row t l
 
-module _ {F : Type 0} (state : F → FeedState FeedFault) (faults : F → ℕ) (d : Definitions) (sources : ℕ) (lanes : List Lane) where
+module _ {F : Type 0} (state : F → FeedView) (faults : F → ℕ) (d : Definitions) (sources : ℕ) (lanes : List Lane) where
   reading_job : MailJob F → Task F
   reading_job job = Reading job
 

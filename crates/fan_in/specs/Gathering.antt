@@ -1,5 +1,5 @@
 -- What comes of gathering the feeds of several sources into the journals of several shards.
-use Rattle.std.specs.Prelude.{◌≡◌, ◌≢◌, ◌<◌, ◌⊎◌, ℕ, true, false, List, [], length, None, Some, IfSome, MatchOption, ⊤, slice_index_or}
+use Rattle.std.specs.Prelude.{◌≡◌, ◌≢◌, ◌<◌, ◌⊎◌, ℕ, true, false, List, [], length, None, Some, IfSome, ⊤, slice_index_or}
 use Rattle.stream_base.specs.Limits.{Definitions}
 use Rattle.outside.specs.Outside.{Rose}
 use Rattle.stream_base.specs.declared.entry.Entry.{Entry}
@@ -7,8 +7,8 @@ use Rattle.stream_base.specs.declared.limits.TheConstants.{JOURNAL_MAX}
 use Rattle.stream_base.specs.Model.Routes.{entries_from, routed}
 use Rattle.shard_core.specs.Shard.{IsJournal, Sharded}
 use Rattle.source_feed.specs.FeedFault.{refusal_of}
-use Rattle.source_feed.specs.FeedState.{Closes, FeedState}
-use Rattle.source_feed.specs.Stream.{Stream}
+use Rattle.source_feed.specs.FeedView.{FeedView, given_then}
+use Rattle.source_feed.specs.Stream.{StaysTold}
 use Rattle.source_feed.specs.declared.feed_fault.FeedFault.{FeedFault}
 use Rattle.source_feed.specs.declared.feed_fault.FeedFault.TheVariants.{Read, NoMemory}
 use Rattle.turnstile.specs.History.{BeginsWith}
@@ -16,15 +16,15 @@ use Rattle.fan_in.specs.declared.gathered.FeedEnd.{FeedEnd}
 use Rattle.fan_in.specs.declared.outcome.Outcome.{Outcome}
 use Rattle.fan_in.specs.declared.outcome.Outcome.TheVariants.{Done, Fault, Full}
 
--- a feed that was not read yet: of this source, with no end given and no fault answered, and with a stream that closes rightly where it tells one
-pub record IsFresh (source : ℕ) (feed : FeedState FeedFault) : Type 0 where
+-- a feed that was not read yet: of this source, with no entry and no end given, and no fault answered
+pub record IsFresh (source : ℕ) (feed : FeedView) : Type 0 where
   pub of_source : feed.source ≡ source
   pub running : feed.ended ≡ false
   pub unanswered : feed.answered ≡ None
-  pub whole : Closes feed
+  pub blank : feed.gave ≡ []
 
 -- a feed that was handed back shows its outcome: it has given its end; or it has answered that fault, unless memory ran out
-abbrev pub Shows : FeedState FeedFault → Outcome → Type 0
+abbrev pub Shows : FeedView → Outcome → Type 0
 Shows back Done = (back.ended ≡ true) × (back.answered ≡ None)
 Shows back (Full shard) = (back.ended ≡ true) × (back.answered ≡ None)
 Shows back (Fault fault) = (back.answered ≡ Some fault) ⊎ (fault ≡ NoMemory)
@@ -41,26 +41,28 @@ NamesOneOf shards Done = ⊤
 NamesOneOf shards (Full shard) = shard < shards
 NamesOneOf shards (Fault fault) = ⊤
 
--- the stream that a feed told bears its outcome out: no refusal comes, or the one that the fault shows, if it shows one
-abbrev pub Bears : Stream → Outcome → Type 0
-Bears stream Done = stream.refusal ≡ None
-Bears stream (Full shard) = stream.refusal ≡ None
-Bears stream (Fault fault) = MatchOption (refusal_of fault) ⊤ (λ refusal. stream.refusal ≡ Some refusal)
+-- a feed that was handed back bears its outcome out: what it gave is the stream of its source, with no refusal, or with the one that the fault shows, if it shows one
+abbrev pub Bears : FeedView → Outcome → Type 0
+Bears back Done = back.whole ≡ Some (given_then back.gave None)
+Bears back (Full shard) = back.whole ≡ Some (given_then back.gave None)
+Bears back (Fault fault) = IfSome (refusal_of fault) (λ refusal. back.whole ≡ Some (given_then back.gave (Some refusal)))
 
 -- how a feed was handed in and back, with its outcome and its counts of failed reads
-pub record IsBack (start back : FeedState FeedFault) (outcome : Outcome) (old new : ℕ) : Type 0 where
+pub record IsBack (start back : FeedView) (outcome : Outcome) (old new : ℕ) : Type 0 where
   pub of_source : back.source ≡ start.source
   pub shows : Shows back outcome
-  pub told : IfSome start.rest (λ stream. Bears stream outcome)
+  pub origin : back.origin ≡ start.origin
+  pub seen : StaysTold start.whole back.whole
+  pub bears : Bears back outcome
   pub read : outcome ≡ Fault Read → Rose old new
   pub quiet : outcome ≢ Fault Read → new ≡ old
 
--- of the entries of a source that are routed to a shard, its journal holds the first ones, in order: all of them where the outcome is `Done`, and not all where this shard was full for them, which it then is
-pub record HoldsPart (shards k : ℕ) (source : ℕ) (stream : Stream) (outcome : Outcome) (journal : List Entry) : Type 0 where
-  pub prefix : BeginsWith (routed shards k stream.entries) (entries_from source journal)
-  pub whole : outcome ≡ Done → entries_from source journal ≡ routed shards k stream.entries
+-- of these entries of a source that are routed to a shard, its journal holds the first ones, in order: all of them where the outcome is `Done`, and not all where this shard was full for them, which it then is
+pub record HoldsPart (shards k : ℕ) (source : ℕ) (entries : List Entry) (outcome : Outcome) (journal : List Entry) : Type 0 where
+  pub prefix : BeginsWith (routed shards k entries) (entries_from source journal)
+  pub whole : outcome ≡ Done → entries_from source journal ≡ routed shards k entries
   pub full : outcome ≡ Full k → length journal ≡ JOURNAL_MAX
-  pub lacks : outcome ≡ Full k → length (entries_from source journal) < length (routed shards k stream.entries)
+  pub lacks : outcome ≡ Full k → length (entries_from source journal) < length (routed shards k entries)
 
 -- a shard that was gathered: it has the definitions and the number of sources, and a journal of that many sources
 pub record IsGathered (d : Definitions) (sources : ℕ) (shard : Sharded) : Type 0 where
@@ -74,7 +76,7 @@ pub record AreSameFeeds {F : Type 0} (old new : List (FeedEnd F)) : Type 0 where
   pub feeds : (i : ℕ) (e : FeedEnd F) → i < length old → (slice_index_or new i e).feed ≡ (slice_index_or old i e).feed
 
 -- `state` and `faults` are those of the feeds
-module _ {F : Type 0} (state : F → FeedState FeedFault) where
+module _ {F : Type 0} (state : F → FeedView) where
   -- feeds that weren't read yet, one for each source, in the order of the sources
   pub record AreFreshFeeds (sources : ℕ) (feeds : List F) : Type 0 where
     pub one_each : length feeds ≡ sources
@@ -90,5 +92,5 @@ module _ {F : Type 0} (state : F → FeedState FeedFault) where
       pub many_shards : (handed ≡ []) ⊎ (length handed ≡ shards)
       pub none : handed ≡ [] → (i : ℕ) (e : FeedEnd F) → i < sources → IsFault (slice_index_or ends i e).outcome
       pub alike : (k : ℕ) (s : Sharded) → k < length handed → IsGathered d sources (slice_index_or handed k s)
-      pub parts : (k i : ℕ) (s : Sharded) (f : F) (e : FeedEnd F) → k < length handed → i < sources
-          → IfSome (state (slice_index_or feeds i f)).rest (λ stream. HoldsPart shards k i stream (slice_index_or ends i e).outcome (slice_index_or handed k s).journal)
+      pub parts : (k i : ℕ) (s : Sharded) (e : FeedEnd F) → k < length handed → i < sources
+          → (let end = slice_index_or ends i e in HoldsPart shards k i (state end.feed).gave end.outcome (slice_index_or handed k s).journal)

@@ -4,7 +4,7 @@ use Rattle.std.specs.declared.alloc.Global.{Global}
 use Rattle.stream_base.specs.declared.entry.Entry.{Entry}
 use Rattle.stream_base.specs.declared.limits.TheConstants.{JOURNAL_MAX}
 use Rattle.stream_base.specs.Model.Routes.{routed}
-use Rattle.source_feed.specs.FeedState.{Closes, FeedState}
+use Rattle.source_feed.specs.FeedView.{FeedView}
 use Rattle.source_feed.specs.declared.feed_fault.FeedFault.{FeedFault}
 use Rattle.source_feed.specs.declared.feed_fault.FeedFault.TheVariants.{NoMemory}
 use Rattle.turnstile.specs.declared.keeps.Keeps.{Ghosts}
@@ -62,21 +62,21 @@ module _ {g : Ghosts BookedState Entry FixedPart} where
   TakesMore shards entry (Fault fault) outcome old new = (outcome ≡ Fault fault) × (new ≡ old)
 
   -- a feed that wasn't read yet, and passes that made nothing yet, of desks that know its source
-  pub record IsReady (start : FeedState FeedFault) (outcome : Outcome) (passes : List (Pass BookedState Entry FixedPart g)) : Type 0 where
+  pub record IsReady (start : FeedView) (outcome : Outcome) (passes : List (Pass BookedState Entry FixedPart g)) : Type 0 where
     pub running : start.ended ≡ false
     pub unanswered : start.answered ≡ None
-    pub whole : Closes start
+    pub unread : start.gave ≡ []
     pub done : outcome ≡ Done
     pub known : All (λ p. IfSome (fixed p) (λ f. start.source < f.sources)) passes
     pub blank : All (λ p. made p ≡ []) passes
 
   -- the same feed and passes, which stand at these desks
-  pub record IsReadyAt (desks : List (Turnstile BookedState Entry FixedPart)) (start : FeedState FeedFault) (outcome : Outcome) (passes : List (Pass BookedState Entry FixedPart g)) : Type 0 where
+  pub record IsReadyAt (desks : List (Turnstile BookedState Entry FixedPart)) (start : FeedView) (outcome : Outcome) (passes : List (Pass BookedState Entry FixedPart g)) : Type 0 where
     pub stand : StandAt desks passes
     pub ready : IsReady start outcome passes
 
   -- at least one feed, and for each a row of passes with which it may be read at these desks; `state` is that of a feed
-  pub record AreReadyAt {F : Type 0} (state : F → FeedState FeedFault) (desks : List (Turnstile BookedState Entry FixedPart)) (feeds : List F) (rows : List (Vec (Pass BookedState Entry FixedPart g) Global)) : Type 0 where
+  pub record AreReadyAt {F : Type 0} (state : F → FeedView) (desks : List (Turnstile BookedState Entry FixedPart)) (feeds : List F) (rows : List (Vec (Pass BookedState Entry FixedPart g) Global)) : Type 0 where
     pub some : 1 ≤ length feeds
     pub one_each : length rows ≡ length feeds
     pub ready : (i : ℕ) (f : F) (row : Vec (Pass BookedState Entry FixedPart g) Global) → i < length feeds
@@ -92,13 +92,13 @@ module _ {g : Ghosts BookedState Entry FixedPart} where
       → HasMade (routed shards k entries) k outcome (slice_index_or passes k p)
 
   -- a feed was read to its end or to a fault
-  pub record IsRead (shards : ℕ) (start back : FeedState FeedFault) (old new : ℕ) (outcome : Outcome) (passes : List (Pass BookedState Entry FixedPart g)) : Type 0 where
+  pub record IsRead (shards : ℕ) (start back : FeedView) (old new : ℕ) (outcome : Outcome) (passes : List (Pass BookedState Entry FixedPart g)) : Type 0 where
     pub back_is : IsBack start back outcome old new
     pub named : NamesOneOf shards outcome
     pub own : MadeOwn start.source passes
-    pub parts : IfSome start.rest (λ stream. HaveMade shards stream.entries outcome passes)
+    pub parts : HaveMade shards back.gave outcome passes
 
   -- a feed was read, and its passes are the same as before
-  pub record WasRead (shards : ℕ) (start back : FeedState FeedFault) (old new : ℕ) (outcome : Outcome) (before after : List (Pass BookedState Entry FixedPart g)) : Type 0 where
+  pub record WasRead (shards : ℕ) (start back : FeedView) (old new : ℕ) (outcome : Outcome) (before after : List (Pass BookedState Entry FixedPart g)) : Type 0 where
     pub same : AreSame before after
     pub read : IsRead shards start back old new outcome after

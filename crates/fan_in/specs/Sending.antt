@@ -6,7 +6,7 @@ use Rattle.stream_base.specs.declared.limits.TheConstants.{JOURNAL_MAX}
 use Rattle.stream_base.specs.Model.Journals.{is_entry_within}
 use Rattle.stream_base.specs.Model.Routes.{routed}
 use Rattle.stream_base.specs.Model.What.{is_end}
-use Rattle.source_feed.specs.FeedState.{Closes, FeedState}
+use Rattle.source_feed.specs.FeedView.{FeedView}
 use Rattle.source_feed.specs.declared.feed_fault.FeedFault.{FeedFault}
 use Rattle.mail_lane.specs.Lane.{Lane, SenderState, IsSenderOf}
 use Rattle.turnstile.specs.History.{BeginsWith}
@@ -54,16 +54,16 @@ HaveSent shards entries outcome senders = (k : ℕ) (s : SenderState Entry) → 
     → HasSent (routed shards k entries) k outcome (slice_index_or senders k s)
 
 -- a feed that wasn't read yet, and senders that sent nothing yet, which send on these lanes
-pub record IsReadyToSend (lanes : List Lane) (start : FeedState FeedFault) (outcome : Outcome) (senders : List (SenderState Entry)) : Type 0 where
+pub record IsReadyToSend (lanes : List Lane) (start : FeedView) (outcome : Outcome) (senders : List (SenderState Entry)) : Type 0 where
   pub lanes_are : SendOn lanes senders
   pub running : start.ended ≡ false
   pub unanswered : start.answered ≡ None
-  pub whole : Closes start
+  pub unread : start.gave ≡ []
   pub done : outcome ≡ Done
   pub blank : All (λ s. s.sent ≡ []) senders
 
 -- at least one feed, and for each a row of senders with which it may be read and sent on these lanes; `state` is that of a feed
-pub record AreReadyToSend {F : Type 0} (state : F → FeedState FeedFault) (lanes : List Lane) (feeds : List F) (rows : List (Vec (SenderState Entry) Global)) : Type 0 where
+pub record AreReadyToSend {F : Type 0} (state : F → FeedView) (lanes : List Lane) (feeds : List F) (rows : List (Vec (SenderState Entry) Global)) : Type 0 where
   pub some : 1 ≤ length feeds
   pub one_each : length rows ≡ length feeds
   pub ready : (i : ℕ) (f : F) (row : Vec (SenderState Entry) Global) → i < length feeds
@@ -99,9 +99,9 @@ pub record HaveSentParts (shards : ℕ) (entries : List Entry) (outcome : Outcom
       ⊎ ((k : ℕ) × (k < length senders) × ((s : SenderState Entry) → JOURNAL_MAX < length (slice_index_or senders k s).sent))
 
 -- a feed was read to its end or to a fault, and its entries were sent
-pub record IsSentOut (shards : ℕ) (start back : FeedState FeedFault) (old new : ℕ) (outcome : Outcome) (before after : List (SenderState Entry)) : Type 0 where
+pub record IsSentOut (shards : ℕ) (start back : FeedView) (old new : ℕ) (outcome : Outcome) (before after : List (SenderState Entry)) : Type 0 where
   pub same : AreSameSenders before after
   pub back_is : IsBack start back outcome old new
   pub own : IsOwnOutcome outcome
   pub from : (k : ℕ) (s : SenderState Entry) → k < length after → AreFrom start.source (slice_index_or after k s).sent
-  pub parts : IfSome start.rest (λ stream. HaveSentParts shards stream.entries outcome after)
+  pub parts : HaveSentParts shards back.gave outcome after

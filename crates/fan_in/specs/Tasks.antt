@@ -1,7 +1,7 @@
 -- The tasks of feeds and owners, before and after they were done.
 use Rattle.std.specs.Prelude.{◌<◌, ℕ, List, length, ⊤, slice_index_or}
 use Rattle.stream_base.specs.Limits.{Definitions}
-use Rattle.source_feed.specs.FeedState.{FeedState}
+use Rattle.source_feed.specs.FeedView.{FeedView}
 use Rattle.source_feed.specs.declared.feed_fault.FeedFault.{FeedFault}
 use Rattle.mail_lane.specs.Lane.{Lane}
 use Rattle.fan_in.specs.Posts.{OwnsLane}
@@ -21,7 +21,7 @@ module _ {F : Type 0} where
   IsOwning (Owning job) = ⊤
 
 -- `state` and `faults` are those of the feeds
-module _ {F : Type 0} (state : F → FeedState FeedFault) where
+module _ {F : Type 0} (state : F → FeedView) where
   -- a task may be done: a feed is ready to be read and sent; or an owner has its lane
   abbrev pub MayWork : Definitions → ℕ → List Lane → Task F → Type 0
   MayWork d sources lanes (Reading job) = IsReadyToSend lanes (state job.feed) job.outcome (job.outboxes).items

@@ -3,14 +3,16 @@ use Rattle.std.specs.Prelude.{ℕ, Bool, List, Option}
 use Rattle.std.specs.List.{find}
 use Rattle.std.specs.Option.{option_map}
 use Rattle.std.specs.Str.{bytes_eq}
+use Rattle.outside.specs.Outside.{Reads}
 
--- a source in memory: what is left, which calls fail, the number of the next call, the faults so far, and the most that one call gives
+-- a source in memory: what is left, which calls fail, the number of the next call, the most that one call gives, all its bytes, and what was read
 pub record MemSourceState : Type 0 where
   pub left : List ℕ
   pub failing : List ℕ
   pub calls : ℕ
-  pub faults : ℕ
   pub piece : ℕ
+  pub whole : List ℕ
+  pub reads : Reads
 
 -- a sink in memory: what was written, the room that is left, which calls fail, the number of the next call, the faults so far, and the most that one call takes
 pub record MemSinkState : Type 0 where
@@ -27,14 +29,6 @@ pub record MemFileState : Type 0 where
   pub bytes : List ℕ
   pub failing : List ℕ
   pub refuse : Bool
-
--- files in memory: the files, the most that one read gives, the failed opens, the sources given back with a failed read, and how many are out
-pub record MemFilesState : Type 0 where
-  pub files : List MemFileState
-  pub piece : ℕ
-  pub failed_opens : ℕ
-  pub failed_reads : ℕ
-  pub out : ℕ
 
 -- the file has this name
 abbrev pub is_named : List ℕ → MemFileState → Bool

@@ -1,5 +1,5 @@
-ghost use Rattle.std.specs.Prelude.{◌≡◌, ◌≤◌, ◌<◌, ◌+◌, ◌∷◌, ℕ, List, Option, IfOk, OnOk, OnErr};
-ghost use Rattle.outside.specs.Outside.{Rose};
+ghost use Rattle.std.specs.Prelude.{◌≡◌, ◌≢◌, ◌++◌, ◌∷◌, [], ℕ, List, Option, length, IfOk, IfSome, OnOk, OnErr};
+ghost use Rattle.outside.specs.Outside.{Came, KeepsWord, back, nothing_read, out, refused};
 
 use crate::source::{Failed, Source};
 
@@ -10,46 +10,31 @@ pub trait Files {
     // The bytes under each name, where they are told.
     ghost told: { Self → List ℕ → Option (List ℕ) };
 
-    // These names may be opened, in this order.
-    ghost may_open: { Self → List (List ℕ) → Type 0 };
+    // The names that were to be opened, in order.
+    ghost asked: { Self → List (List ℕ) };
 
-    // How many opens have failed.
-    ghost failed_opens: { Self → ℕ };
+    // What became of the open of each number, from 0.
+    ghost came: { Self → ℕ → Came };
 
-    // How many sources with a failed read have been given back.
-    ghost failed_reads: { Self → ℕ };
-
-    // How many opened sources have not been given back.
-    ghost out: { Self → ℕ };
-
-    /// Opens the source of that name, where it may be opened next.
+    /// Opens the source of that name.
     fn open_file(&mut self, name: &str) -> Result<Self::Input, Failed>
-        requires { (rest : List (List ℕ)) × may_open self.old (name.now ∷ rest) }
-        ensures content { IfOk result (λ source. Self.Input.rest source ≡ told self.old name.now) }
-        ensures fresh { IfOk result (λ source. Self.Input.faults source ≡ 0) }
-        ensures opened { (rest : List (List ℕ)) → may_open self.old (name.now ∷ rest)
-            → OnOk result (may_open self.new rest) }
-        ensures unopened { (names : List (List ℕ)) → may_open self.old names
-            → OnErr result (may_open self.new names) }
-        ensures one_more { OnOk result (out self.new ≡ out self.old + 1) }
-        ensures quiet { OnOk result (failed_opens self.new ≡ failed_opens self.old) }
-        ensures failed { OnErr result (Rose (failed_opens self.old) (failed_opens self.new)) }
-        ensures none_out { OnErr result (out self.new ≡ out self.old) }
-        ensures reads { failed_reads self.new ≡ failed_reads self.old }
-        ensures never_falls { failed_opens self.old ≤ failed_opens self.new }
+        ensures asked { asked self.new ≡ asked self.old ++ name.now ∷ [] }
+        ensures fresh { IfOk result (λ source.
+            Self.Input.reads source ≡ nothing_read (length (asked self.old))) }
+        ensures content { IfOk result (λ source. Self.Input.told source ≡ told self.old name.now) }
+        ensures out { OnOk result (came self.new (length (asked self.old)) ≡ out) }
+        ensures refused { OnErr result (came self.new (length (asked self.old)) ≡ refused) }
+        ensures others { (i : ℕ) → i ≢ length (asked self.old)
+            → came self.new i ≡ came self.old i }
         ensures same { (which : List ℕ) → told self.new which ≡ told self.old which };
 
-    /// Takes an opened source back, and counts it where one of its reads failed.
+    /// Takes an opened source back, with what was read of it.
     fn give_back(&mut self, source: Self::Input)
-        requires { 1 ≤ out self.old }
-        ensures one_less { out self.new + 1 ≡ out self.old }
-        ensures planned { (names : List (List ℕ)) → may_open self.old names
-            → may_open self.new names }
-        ensures opens { failed_opens self.new ≡ failed_opens self.old }
-        ensures failed { 0 < Self.Input.faults source
-            → Rose (failed_reads self.old) (failed_reads self.new) }
-        ensures quiet { Self.Input.faults source ≡ 0
-            → failed_reads self.new ≡ failed_reads self.old }
-        ensures never_falls { failed_reads self.old ≤ failed_reads self.new }
+        ensures asked { asked self.new ≡ asked self.old }
+        ensures back { let reads = Self.Input.reads source in
+            came self.new reads.place ≡ back reads }
+        ensures others { (i : ℕ) → i ≢ (Self.Input.reads source).place
+            → came self.new i ≡ came self.old i }
+        ensures word { IfSome (Self.Input.told source) (KeepsWord (Self.Input.reads source)) }
         ensures same { (which : List ℕ) → told self.new which ≡ told self.old which };
 }

@@ -1,4 +1,4 @@
-ghost use Rattle.std.specs.Prelude.{◌≡◌, ◌≤◌, ◌<◌, IfOk, [], Some};
+ghost use Rattle.std.specs.Prelude.{◌≡◌, ◌≤◌, ◌<◌, IfOk, []};
 ghost use Rattle.outside.specs.Memory.{MemSinkState};
 
 use crate::sink::Sink;
@@ -71,7 +71,7 @@ impl MemSink {
 }
 
 impl Sink for MemSink {
-    ghost written = { λ s. Some s.bytes };
+    ghost taken = { λ s. s.bytes };
 
     ghost faults = { λ s. s.faults };
 

@@ -1,22 +1,26 @@
-ghost use Rattle.std.specs.Prelude.{◌≡◌, ◌≤◌, ◌<◌, ◌↔◌, min, ℕ, List, [], length, Option, Some, take, IfOk, OnOk, OnErr, IfSome, IsErr, Contains};
-ghost use Rattle.outside.specs.Outside.{Rose, with_front};
+ghost use Rattle.std.specs.Prelude.{◌≡◌, ◌≤◌, ◌++◌, ℕ, [], None, Some, take, length};
+ghost use Rattle.outside.specs.Outside.{nothing_read, with_read, KeepsWord};
+ghost use Rattle.outside.specs.ReadLogs.{reads_of};
 ghost use Rattle.outside.specs.Memory.{MemSourceState};
 
+use crate::read_log::ReadLog;
 use crate::source::{Failed, Source};
 use std::marker::Model;
 
 /// A source over bytes in memory, which gives at most `piece` bytes a call and fails at the calls
 /// whose numbers, from 0, stand in `failing`.
 pub struct MemSource<'a> {
+    whole: &'a [u8],
     left: &'a [u8],
     failing: &'a [u64],
     calls: u64,
-    faults: u64,
     piece: u64,
+    log: ReadLog,
 }
 
 impl<'a> Model for MemSource<'a> {
-    ghost use Rattle.std.specs.Prelude.{◌≤◌};
+    ghost use Rattle.std.specs.Prelude.{◌≡◌, ◌≤◌, ◌++◌, [], true, Some};
+    ghost use Rattle.outside.specs.ReadLogs.{reads_of};
     ghost use Rattle.outside.specs.Memory.{MemSourceState};
 
     ghost Value = { MemSourceState };
@@ -25,11 +29,14 @@ impl<'a> Model for MemSource<'a> {
       left = s.left.now;
       failing = s.failing.now;
       calls = s.calls;
-      faults = s.faults;
       piece = s.piece;
+      whole = s.whole.now;
+      reads = reads_of s.log;
     } };
 
-    ghost invariant = { λ s. 1 ≤ s.piece };
+    ghost invariant = { λ s. (1 ≤ s.piece)
+        × (s.whole.now ≡ (reads_of s.log).given ++ s.left.now)
+        × ((reads_of s.log).ended ≡ true → s.left.now ≡ []) };
 }
 
 impl<'a> MemSource<'a> {
@@ -41,50 +48,84 @@ impl<'a> MemSource<'a> {
               left = bytes.now;
               failing = failing.now;
               calls = 0;
-              faults = 0;
               piece = piece;
+              whole = bytes.now;
+              reads = nothing_read 0;
             } }
     {
         MemSource {
+            whole: bytes,
             left: bytes,
             failing,
             calls: 0,
-            faults: 0,
             piece,
+            log: ReadLog::start(),
         }
     }
 
-    /// Gives the source up, and answers how many of its reads have failed.
-    pub fn into_faults(self) -> u64
-        ensures { result ≡ self.entry.faults }
+    /// The same, of an opened file, of which this log says that nothing was read.
+    pub(crate) fn opened(
+        bytes: &'a [u8],
+        failing: &'a [u64],
+        piece: u64,
+        log: ReadLog,
+    ) -> MemSource<'a>
+        requires some { 1 ≤ piece }
+        requires fresh { (place : ℕ) × (reads_of log ≡ nothing_read place) }
+        ensures { result
+            ≡ record {
+              left = bytes.now;
+              failing = failing.now;
+              calls = 0;
+              piece = piece;
+              whole = bytes.now;
+              reads = reads_of log;
+            } }
+    {
+        MemSource {
+            whole: bytes,
+            left: bytes,
+            failing,
+            calls: 0,
+            piece,
+            log,
+        }
+    }
+
+    /// Gives the source up, and answers what was read of it.
+    pub(crate) fn into_log(self) -> ReadLog
+        ensures reads { reads_of result ≡ self.entry.reads }
+        ensures word { KeepsWord self.entry.reads self.entry.whole }
     {
         let MemSource {
+            whole: _,
             left: _,
             failing: _,
             calls: _,
-            faults,
             piece: _,
+            log,
         } = self;
-        faults
+        log
     }
 }
 
 impl Source for MemSource<'_> {
-    ghost rest = { λ s. Some s.left };
+    ghost reads = { λ s. s.reads };
 
-    ghost faults = { λ s. s.faults };
+    ghost told = { λ s. Some s.whole };
 
     fn read(&mut self, buf: &mut [u8]) -> Result<usize, Failed> {
         let fails = self.failing.contains(&self.calls);
         self.calls = self.calls.saturating_add(1);
         if fails {
-            self.faults = self.faults.saturating_add(1);
+            self.log.failed();
             return Err(Failed);
         }
         let n = (self.piece as usize).min(buf.len()).min(self.left.len());
         let (front, rest) = self.left.split_at(n);
         buf[..n].copy_from_slice(front);
         self.left = rest;
+        self.log.gave(buf, n);
         Ok(n)
     }
 }

@@ -26,7 +26,7 @@ mod made;
 #[cfg(test)]
 mod mail;
 #[cfg(test)]
-mod planned;
+mod noted;
 #[cfg(test)]
 mod runs;
 #[cfg(test)]

@@ -1,107 +1,70 @@
 -- Feeds that are read to their ends, one after another, and what came of it.
-use Rattle.std.proofs.Common.{◌≡◌, ◌∙◌, ◌<◌, ◌≤◌, ◌+◌, ◌++◌, ℕ, Bool, true, List, [], ◌∷◌, length, length-set, get_or, set, Option, Some, None, Result, Ok, Err, sym, subst, ap, refl, arith, append-nil, append_assoc, inl, inr}
-use Rattle.std.specs.Prelude.{◌⊎◌, IfOk, IfErr, IfSome, IsErrOf, MatchOption, OnOk, option_map, ⊤}
+use Rattle.std.proofs.Common.{◌≡◌, ◌∙◌, ◌<◌, ◌≤◌, ◌+◌, ◌++◌, ◌⊎◌, ℕ, List, [], ◌∷◌, length, length-set, get_or, set, Option, Some, None, Result, Ok, Err, sym, subst, ap, refl, arith, inl, inr, ⊎_elim}
+use Rattle.std.specs.Prelude.{IfOk, IfErr, IfSome, IsErrOf, OnOk}
 use Rattle.std.proofs.lemmas.Bool.{cases_lt}
 use Rattle.std.proofs.lemmas.List.{get_or_append_left, get_or_push, get_or_read, get_or-set_other, get_or-set_same, length_push}
 use Rattle.stream_base.specs.Limits.{Definitions}
-use Rattle.outside.specs.Outside.{Rose}
+use Rattle.outside.specs.Outside.{Reads, Rose, back}
 use Rattle.stream_base.specs.declared.entry.Entry.{Entry}
-use Rattle.source_feed.specs.FeedFault.{Ends, refusal_of}
-use Rattle.source_feed.specs.FeedState.{FeedState}
-use Rattle.source_feed.specs.Gives.{Answers, CountsReads, Gives, GivesEntry, GivesNothing, Refuses}
-use Rattle.source_feed.specs.FileFeedState.{FileFeedState, feed_state, source_stream}
-use Rattle.source_feed.specs.Stream.{IsWhole, Refusal, StaysTold, Stream, bad_record, nothing_left, too_long, with_first}
+use Rattle.source_feed.specs.FeedFault.{refusal_of}
+use Rattle.source_feed.specs.FeedView.{Answers, FeedView, Steps, StepsBack, StepsNowhere, StepsOn, given_then}
+use Rattle.source_feed.specs.FileFeedState.{FileFeedState, feed_view, stream_seen}
+use Rattle.source_feed.specs.Gives.{CountsReads}
+use Rattle.source_feed.specs.Stream.{Refusal, Stream}
 use Rattle.source_feed.specs.declared.feed_fault.FeedFault.{FeedFault}
 use Rattle.source_feed.specs.declared.feed_fault.FeedFault.TheVariants.{Read as FeedRead, TooLong as FeedTooLong, Row as FeedRow, NoMemory as FeedMemory}
 use Rattle.emission_text.specs.declared.fault.Fault.{Fault}
-use Rattle.scotty_run.specs.Causes.{IsFirstRefused, NoneRefusedBelow, StopsAtSources, stream_at, told_at}
+use Rattle.scotty_run.specs.Causes.{AreAllRead, IsSourceRead, StopsAtSources}
 use Rattle.scotty_run.specs.Opening.{AreUnread}
-use Rattle.scotty_run.specs.Outside.{Counts, Telling, WhereTold}
-use Rattle.scotty_run.specs.Reading.{AreDrained, AreFresh, AreReadOf, IsAllOf, IsFirstTrouble, OfFeed, ShowsRefusal}
+use Rattle.scotty_run.specs.Outside.{Asks, Opens, Telling, came_at}
+use Rattle.scotty_run.specs.Reading.{AreDrained, AreFresh, AreSameFeeds, IsDrained, IsFirstTrouble, IsReadAt, IsReadOn, IsSameFeed, IsStuck}
 use Rattle.scotty_run.specs.Settling.{fault_of}
-use Rattle.scotty_run.specs.Words.{Run}
 use Rattle.scotty_run.proofs.Opened.{some_of}
+use Rattle.scotty_run.proofs.SameFeed.{faults_before, place_stays, seen_as, word_stays}
+use Rattle.scotty_run.proofs.Shown.{ShowsFault, shows_fault, shows_whole}
 
 -- ---- one feed
--- a stream with these entries in front
-abbrev behind : List Entry → Stream → Stream
-behind given left = record { entries = given ++ left.entries; refusal = left.refusal }
-
--- what is left of a stream that has given these entries
-pub record IsRest (stream : Stream) (given : List Entry) (rest : Option Stream) : Type 0 where
-  pub left : Stream
-  pub is : rest ≡ Some left
-  pub whole : stream ≡ behind given left
-
-rest_more : (stream : Stream) (given : List Entry) (entry : Entry) (left : Stream) (r : Option Stream) → stream ≡ behind given left → option_map (with_first entry) r ≡ Some left → IsRest stream (given ++ entry ∷ []) r
-rest_more stream given entry left None e s = absurd (cc)
-rest_more stream given entry left (Some l) e s =
-    let is : left ≡ with_first entry l = cc in
-    let more : behind given (with_first entry l) ≡ behind (given ++ entry ∷ []) l = ap (λ (es : List Entry). let s : Stream = record { entries = es; refusal = l.refusal } in s) (sym (append_assoc given (entry ∷ []) l.entries)) in
-    record { left = l; is = refl; whole = e ∙ ap (behind given) is ∙ more }
-
-pub told_more : (o : Option Stream) (given : List Entry) (entry : Entry) (r s : Option Stream) → IfSome o (λ stream. IsRest stream given r) → StaysTold r (option_map (with_first entry) s)
-    → IfSome o (λ stream. IsRest stream (given ++ entry ∷ []) s)
-told_more None given entry r s h t = tt
-told_more (Some stream) given entry r s h t =
-    let t' : option_map (with_first entry) s ≡ Some h.left = subst (λ (x : Option Stream). StaysTold x (option_map (with_first entry) s)) h.is t in
-    rest_more stream given entry h.left s h.whole t'
-
-pub told_first : (o : Option Stream) → IfSome o (λ stream. IsRest stream [] o)
-told_first None = tt
-told_first (Some stream) = record { left = stream; is = refl; whole = refl }
-
--- a source that gives nothing more refuses nothing, and has given all
-pub told_all : (o : Option Stream) (given : List Entry) (source : ℕ) (ended : Bool) (r : Option Stream) → IfSome o (λ stream. IsRest stream given r) → IfSome r (IsWhole source ended) → ended ≡ true → IfSome o (λ stream. IsAllOf stream given)
-told_all None given source ended r h w e = tt
-told_all (Some stream) given source ended r h w e =
-    let w' : IsWhole source ended h.left = subst (λ (x : Option Stream). IfSome x (IsWhole source ended)) h.is w in
-    let nothing : h.left ≡ nothing_left = subst (λ (b : Bool). IsWhole source b h.left) e w' in
-    let all : stream ≡ behind given nothing_left = h.whole ∙ ap (behind given) nothing in
-    record { unrefused = ap (λ (s : Stream). s.refusal) all; entries_are = ap (λ (s : Stream). s.entries) all ∙ append-nil given }
-
--- a fault shows the refusal that the stream tells
-pub told_fault : (o : Option Stream) (given : List Entry) (r s : Option Stream) (fault : FeedFault) → IfSome o (λ stream. IsRest stream given r) → Ends (refusal_of fault) r s → IfSome o (ShowsRefusal fault)
-told_fault None given r s fault h e = tt
-told_fault (Some stream) given r s fault h e = shows (refusal_of fault) (subst (λ (x : Option Stream). Ends (refusal_of fault) x s) h.is e)
-  where
-    shows : (q : Option Refusal) → Ends q (Some h.left) s → MatchOption q ⊤ (λ refusal. stream.refusal ≡ Some refusal)
-    shows None x = tt
-    shows (Some refusal) x = ap (λ (s : Stream). s.refusal) h.whole ∙ ap (λ (s : Stream). s.refusal) x.0
-
--- want of memory shows none
-pub told_nothing : (o : Option Stream) → IfSome o (ShowsRefusal FeedMemory)
-told_nothing None = tt
-told_nothing (Some stream) = tt
-
 -- where a feed stands that has given some entries so far
-pub record IsDraining (start now : FeedState FeedFault) (given : List Entry) (old new : ℕ) : Type 0 where
+pub record IsDraining (start now : FeedView) (given : List Entry) (old new : ℕ) : Type 0 where
+  pub same : IsSameFeed start now
   pub unanswered : now.answered ≡ None
-  pub told : IfSome start.rest (λ stream. IsRest stream given now.rest)
+  pub gave : now.gave ≡ given
   pub quiet : new ≡ old
 
-module _ (start old new : FeedState FeedFault) (given : List Entry) (first before after : ℕ) (r : Result (Option Entry) FeedFault) (gives : Gives refusal_of old r new) (inv : IsDraining start old given first before) where
+module _ (start old new : FeedView) (given : List Entry) (first before after : ℕ) (r : Result (Option Entry) FeedFault) (steps : Steps old r new) (inv : IsDraining start old given first before) where
+  -- it stays the same feed
+  pub drain_same : IsSameFeed start new
+  drain_same = record { source = steps.source ∙ (inv.same).source; origin = steps.origin ∙ (inv.same).origin }
+
   -- one entry more
   pub drain_more : (entry : Entry) → r ≡ Ok (Some entry) → CountsReads old.answered before r after → IsDraining start new (given ++ entry ∷ []) first after
   drain_more entry e counts =
-      let g : GivesEntry old entry new = subst (λ (x : Result (Option Entry) FeedFault). Answers refusal_of old x new) e gives.outcome in
+      let g : StepsOn old entry new = subst (λ (x : Result (Option Entry) FeedFault). Answers old x new) e steps.outcome in
       record {
+        same = drain_same;
         unanswered = g.still_unanswered;
-        told = told_more start.rest given entry old.rest new.rest inv.told g.given;
+        gave = g.gave ∙ ap (λ (es : List Entry). es ++ entry ∷ []) inv.gave;
         quiet = subst (λ (x : Result (Option Entry) FeedFault). OnOk x (after ≡ before)) e counts.quiet ∙ inv.quiet;
       }
 
   -- nothing more
-  pub drain_ends : r ≡ Ok None → IfSome start.rest (λ stream. IsAllOf stream given)
+  pub drain_ends : r ≡ Ok None → IsDrained new given
   drain_ends e =
-      let g : GivesNothing old new = subst (λ (x : Result (Option Entry) FeedFault). Answers refusal_of old x new) e gives.outcome in
-      told_all start.rest given old.source old.ended old.rest inv.told gives.whole g.ended
+      let g : StepsNowhere old new = subst (λ (x : Result (Option Entry) FeedFault). Answers old x new) e steps.outcome in
+      g.all ∙ ap (λ (es : List Entry). Some (given_then es None)) (g.gave ∙ inv.gave)
 
   -- or a fault
-  pub drain_fails : (fault : FeedFault) → r ≡ Err fault → IfSome start.rest (ShowsRefusal fault)
+  pub drain_fails : (fault : FeedFault) → r ≡ Err fault → IsStuck new fault
   drain_fails fault e =
-      let g : Refuses refusal_of old fault new = subst (λ (x : Result (Option Entry) FeedFault). Answers refusal_of old x new) e gives.outcome in
-      told_fault start.rest given old.rest new.rest fault inv.told g.refused
+      let g : StepsBack old fault new = subst (λ (x : Result (Option Entry) FeedFault). Answers old x new) e steps.outcome in
+      shows (refusal_of fault) g.refused
+    where
+      shows : (q : Option Refusal) → IfSome q (λ refusal. new.whole ≡ Some (given_then new.gave (Some refusal))) → IfSome q (λ refusal. (entries : List Entry) × (new.whole ≡ Some (given_then entries (Some refusal))))
+      shows None x = tt
+      shows (Some refusal) x = (new.gave, x)
+
+  pub drain_quiet : CountsReads old.answered before r after → r ≡ Ok None → after ≡ first
+  drain_quiet counts e = subst (λ (x : Result (Option Entry) FeedFault). OnOk x (after ≡ before)) e counts.quiet ∙ inv.quiet
 
   pub drain_rises : CountsReads old.answered before r after → IsErrOf r FeedRead → Rose first after
   drain_rises counts read = by (counts.read read)
@@ -113,127 +76,181 @@ module _ (start old new : FeedState FeedFault) (given : List Entry) (first befor
       by (inl e) = absurd (none (sym inv.unanswered ∙ e))
       by (inr rose) = subst (λ n. Rose n after) inv.quiet rose
 
--- ---- feeds, one after another
-if_some : {X : Type 0} (o : Option X) (P Q : X → Type 0) → IfSome o P → ((x : X) → P x → Q x) → IfSome o Q
-if_some None P Q h f = tt
-if_some (Some x) P Q h f = f x h
+pub no_memory_is_no_read : FeedMemory ≡ FeedRead → ⊥
+no_memory_is_no_read e = cc
 
-module _ {S : Type 0} (rest : S → Option (List ℕ)) (faults : S → ℕ) where
+-- a refusal that a feed shows is one that was seen, where what was seen is the same
+stuck_as : (q : Option Refusal) (whole seen : Option Stream) → ((o : Option Stream) → whole ≡ o → seen ≡ o)
+    → IfSome q (λ refusal. (entries : List Entry) × (whole ≡ Some (given_then entries (Some refusal)))) → IfSome q (λ refusal. (entries : List Entry) × (seen ≡ Some (given_then entries (Some refusal))))
+stuck_as None whole seen is x = tt
+stuck_as (Some refusal) whole seen is x = (x.0, is (Some (given_then x.0 (Some refusal))) x.1)
+
+-- ---- feeds, one after another
+module _ {S : Type 0} (reads : S → Reads) (word : S → Option (List ℕ)) where
   -- where the reading of feeds stands before the one at a place
   pub record AreDraining (old now : List (FileFeedState S)) (all : List (List Entry)) (place : ℕ) : Type 0 where
-    pub many : length now ≡ length old
+    pub same : AreSameFeeds reads word old now
     pub count : length all ≡ place
-    pub drained : AreDrained rest old all
+    pub drained : AreDrained reads word old now all
     pub untouched : (j : ℕ) (f : FileFeedState S) → place ≤ j → get_or now j f ≡ get_or old j f
 
-  -- the entries of one feed more
-  pub drained_more : (old : List (FileFeedState S)) (all : List (List Entry)) (entries : List Entry) (place : ℕ) → length all ≡ place → place < length old → AreDrained rest old all
-      → OfFeed rest old place (λ stream. IsAllOf stream entries) → AreDrained rest old (all ++ entries ∷ [])
-  drained_more old all entries place count inside h own = record {
-    within = omega (arith, inside, count, length_push all entries);
-    each = λ i l f. by i f l (cases_lt i (length all));
-  }
-    where
-      by : (i : ℕ) (f : FileFeedState S) → i < length (all ++ entries ∷ []) → (i < length all) ⊎ (length all ≤ i) → IfSome (feed_state rest (get_or old i f)).rest (λ stream. IsAllOf stream (get_or (all ++ entries ∷ []) i []))
-      by i f l (inl less) = subst (λ (es : List Entry). IfSome (feed_state rest (get_or old i f)).rest (λ stream. IsAllOf stream es)) (sym (get_or_append_left all (entries ∷ []) [] i less)) (h.each i less f)
-      by i f l (inr ge) =
-          let same : length all ≡ i = omega (arith, ge, l, length_push all entries) in
-          subst (λ (es : List Entry). IfSome (feed_state rest (get_or old i f)).rest (λ stream. IsAllOf stream es)) (sym (get_or_push all entries [] i same))
-          (subst (λ (n : ℕ). IfSome (feed_state rest (get_or old n f)).rest (λ stream. IsAllOf stream entries)) (sym count ∙ same) (own f))
-
-  -- a feed that is read is the one that stood there first
-  pub stood : (old now : List (FileFeedState S)) (place : ℕ) (x : FileFeedState S) → place < length now → x ≡ get_or now place x → ((j : ℕ) (f : FileFeedState S) → place ≤ j → get_or now j f ≡ get_or old j f) → (f : FileFeedState S) → get_or old place f ≡ x
-  stood old now place x l is untouched f = sym (untouched place f (omega arith)) ∙ sym (get_or_read now place x l is f)
-
-  -- one feed more was read to its end
-  pub draining_more : (old now : List (FileFeedState S)) (all : List (List Entry)) (entries : List Entry) (place : ℕ) (x new : FileFeedState S) → place < length now → x ≡ get_or now place x
-      → IfSome (feed_state rest x).rest (λ stream. IsAllOf stream entries) → AreDraining old now all place → AreDraining old (set now place new) (all ++ entries ∷ []) (place + 1)
-  draining_more old now all entries place x new l is own inv = record {
-    many = length-set now place new ∙ inv.many;
-    count = omega (arith, length_push all entries, inv.count);
-    drained = drained_more old all entries place inv.count (omega (arith, l, inv.many)) inv.drained (λ f. subst (λ (y : FileFeedState S). IfSome (feed_state rest y).rest (λ stream. IsAllOf stream entries)) (sym (stood old now place x l is inv.untouched f)) own);
-    untouched = λ j f le. get_or-set_other now place j new f (λ e. omega (arith, e, le)) ∙ inv.untouched j f (omega arith);
+  pub none_drained : (feeds : List (FileFeedState S)) → AreDraining feeds feeds [] 0
+  none_drained feeds = record {
+    same = record { many = refl; each = λ i f l. record { source = refl; origin = refl } };
+    count = refl;
+    drained = λ i l. absurd (let no : ⊥ = omega (arith, l) in no);
+    untouched = λ j f l. refl;
   }
 
-  -- or one has a fault
-  pub draining_stops : (old now : List (FileFeedState S)) (all : List (List Entry)) (place : ℕ) (x new : FileFeedState S) (cause : FeedFault) (fault : Fault) → place < length now → x ≡ get_or now place x → fault ≡ fault_of place cause
-      → IfSome (feed_state rest x).rest (ShowsRefusal cause) → (cause ≡ FeedRead → Rose (faults x.from) (faults new.from)) → AreDraining old now all place → IsFirstTrouble rest faults old (set now place new) fault
-  draining_stops old now all place x new cause fault l is answered shows rose inv = record {
-    source = place;
-    inside = omega (arith, l, inv.many);
-    cause = cause;
-    answered = answered;
-    below = λ i b f. if_some (feed_state rest (get_or old i f)).rest (λ stream. IsAllOf stream (get_or all i [])) (λ stream. stream.refusal ≡ None) ((inv.drained).each i (omega (arith, inv.count, b)) f) (λ stream a. a.unrefused);
-    shows = λ f. subst (λ (y : FileFeedState S). IfSome (feed_state rest y).rest (ShowsRefusal cause)) (sym (stood old now place x l is inv.untouched f)) shows;
-    failed = λ f e.
-        subst (λ (y : FileFeedState S). Rose (faults y.from) (faults (get_or (set now place new) place f).from)) (sym (stood old now place x l is inv.untouched f))
-        (subst (λ (y : FileFeedState S). Rose (faults x.from) (faults y.from)) (sym (get_or-set_same now place new f l)) (rose e));
-  }
+  -- the feed at a place was read further
+  module _ (old now : List (FileFeedState S)) (all : List (List Entry)) (place : ℕ) (x new : FileFeedState S) (inside : place < length now) (is : x ≡ get_or now place x)
+      (same : IsSameFeed (feed_view reads word x) (feed_view reads word new)) (inv : AreDraining old now all place) where
+    -- a feed that is read is the one that stood there first
+    stood : (f : FileFeedState S) → get_or old place f ≡ x
+    stood f = sym (inv.untouched place f (omega arith)) ∙ sym (get_or_read now place x inside is f)
 
-  -- feeds that were read to their ends refuse nothing
-  pub none_below : (old : List (FileFeedState S)) (all : List (List Entry)) (place : ℕ) → length all ≡ place → AreDrained rest old all → (i : ℕ) → i < place → OfFeed rest old i (λ stream. stream.refusal ≡ None)
-  none_below old all place count h i l f = if_some (feed_state rest (get_or old i f)).rest (λ stream. IsAllOf stream (get_or all i [])) (λ stream. stream.refusal ≡ None) (h.each i (omega (arith, count, l)) f) (λ stream a. a.unrefused)
+    here : (f : FileFeedState S) → get_or (set now place new) place f ≡ new
+    here f = get_or-set_same now place new f inside
 
-  -- ---- what the sources of a run told
-  module _ (told : Telling) (names : List (List ℕ)) (d : Definitions) (feeds : List (FileFeedState S)) (unread : AreUnread rest faults told names d feeds) where
-    where_told : (o : Option (List ℕ)) (g : List ℕ → Stream) (P : Stream → Type 0) → IfSome (option_map g o) P → WhereTold o (λ bytes. P (g bytes))
-    where_told None g P h bytes is = absurd (none_some is)
-      where
-        none_some : {x : List ℕ} → None ≡ Some x → ⊥
-        none_some e = cc
-    where_told (Some b) g P h bytes is = subst (λ (x : List ℕ). P (g x)) (some_inj is) h
-      where
-        some_inj : {x y : List ℕ} → Some x ≡ Some y → x ≡ y
-        some_inj e = cc
+    there : (j : ℕ) (f : FileFeedState S) → (place ≡ j → ⊥) → get_or (set now place new) j f ≡ get_or now j f
+    there j f other = get_or-set_other now place j new f (λ e. other (sym e))
 
-    of_source : (i : ℕ) (P : Stream → Type 0) → i < length feeds → OfFeed rest feeds i P → WhereTold (told_at told names i) (λ bytes. P (stream_at d i bytes))
-    of_source i P l h =
-        let f = some_of feeds i l in
-        where_told (told_at told names i) (source_stream i d.every d.disorder) P
-        (subst (λ (o : Option Stream). IfSome o P) (ap (λ (s : FeedState FeedFault). s.rest) (unread i f l).state) (h f))
+    either : (j : ℕ) → (place ≡ j) ⊎ (place ≡ j → ⊥)
+    either j = ⊎_elim (λ (less : j < place). inr (λ e. omega (arith, e, less))) (λ ge. ⊎_elim (λ (more : place < j). inr (λ e. omega (arith, e, more))) (λ le. inl (omega (arith, ge, le))) (cases_lt place j)) (cases_lt j place)
 
-    pub fresh : AreFresh rest feeds
-    fresh i f l = record {
-      running = ap (λ (s : FeedState FeedFault). s.ended) (unread i f l).state;
-      unanswered = ap (λ (s : FeedState FeedFault). s.answered) (unread i f l).state;
+    pub same_more : AreSameFeeds reads word old (set now place new)
+    same_more = record {
+      many = length-set now place new ∙ (inv.same).many;
+      each = λ i f l. ⊎_elim
+          (λ (e : place ≡ i).
+          subst (λ k. IsSameFeed (feed_view reads word (get_or old k f)) (feed_view reads word (get_or (set now place new) k f))) e
+          (subst (λ (y : FileFeedState S). IsSameFeed (feed_view reads word y) (feed_view reads word (get_or (set now place new) place f))) (sym (stood f))
+          (subst (λ (y : FileFeedState S). IsSameFeed (feed_view reads word x) (feed_view reads word y)) (sym (here f)) same)))
+          (λ other. subst (λ (y : FileFeedState S). IsSameFeed (feed_view reads word (get_or old i f)) (feed_view reads word y)) (sym (there i f other)) ((inv.same).each i f l))
+          (either i);
     }
 
-    read_all : (all : List (List Entry)) → length feeds ≡ length names → length all ≡ length feeds → AreDrained rest feeds all → AreReadOf told d names all
-    read_all all many whole h = record {
-      many = whole ∙ many;
-      each = λ i l. of_source i (λ stream. IsAllOf stream (get_or all i [])) (omega (arith, l, many)) (h.each i (omega (arith, l, many, whole)));
+    before : (i : ℕ) → i < length all → IsReadAt reads word old (set now place new) i (get_or all i [])
+    before i l f =
+        let count = inv.count in
+        subst (λ (y : FileFeedState S). IsReadOn reads word (get_or old i f) y (get_or all i [])) (sym (there i f (λ e. omega (arith, e, l, count)))) (inv.drained i l f)
+
+    -- to its end
+    pub draining_more : (entries : List Entry) → IsDrained (feed_view reads word new) entries → (reads new.from).faults ≡ (reads x.from).faults → AreDraining old (set now place new) (all ++ entries ∷ []) (place + 1)
+    draining_more entries own quiet = record {
+      same = same_more;
+      count = let count = inv.count in omega (arith, length_push all entries, count);
+      drained = λ i l f. ⊎_elim
+          (λ (less : i < length all). subst (λ (es : List Entry). IsReadOn reads word (get_or old i f) (get_or (set now place new) i f) es) (sym (get_or_append_left all (entries ∷ []) [] i less)) (before i less f))
+          (λ ge.
+          let count = inv.count in
+          let e : length all ≡ i = omega (arith, ge, l, length_push all entries) in
+          let at : place ≡ i = sym count ∙ e in
+          subst (λ (es : List Entry). IsReadOn reads word (get_or old i f) (get_or (set now place new) i f) es) (sym (get_or_push all entries [] i e))
+          (subst (λ k. IsReadOn reads word (get_or old k f) (get_or (set now place new) k f) entries) at
+          (subst (λ (y : FileFeedState S). IsReadOn reads word y (get_or (set now place new) place f) entries) (sym (stood f))
+          (subst (λ (y : FileFeedState S). IsReadOn reads word x y entries) (sym (here f)) record { drained = own; quiet = quiet }))))
+          (cases_lt i (length all));
+      untouched = λ j f le. there j f (λ e. omega (arith, e, le)) ∙ inv.untouched j f (omega (arith, le));
     }
 
-    pub read_of : {T : Type 0} (items : T → List (List Entry)) (size : T → ℕ) (r : Result T Fault) → ((t : T) → size t ≡ length (items t)) → length feeds ≡ length names → IfOk r (λ t. size t ≡ length feeds) → IfOk r (λ t. AreDrained rest feeds (items t)) → IfOk r (λ t. AreReadOf told d names (items t))
-    read_of items size (Ok t) same many whole h = read_all (items t) many (sym (same t) ∙ whole) h
-    read_of items size (Err fault) same many whole h = tt
+    -- or up to a fault
+    pub draining_stops : (cause : FeedFault) (fault : Fault) → fault ≡ fault_of place cause → IsStuck (feed_view reads word new) cause → (cause ≡ FeedRead → Rose (reads x.from).faults (reads new.from).faults)
+        → IsFirstTrouble reads word old (set now place new) fault
+    draining_stops cause fault answered stuck rose = record {
+      source = place;
+      inside = let many = (inv.same).many in omega (arith, inside, many);
+      cause = cause;
+      answered = answered;
+      below = λ i b. let count = inv.count in (get_or all i [], before i (omega (arith, count, b)));
+      stuck = λ f. subst (λ (y : FileFeedState S). IsStuck (feed_view reads word y) cause) (sym (here f)) stuck;
+      failed = λ f e.
+          subst (λ (y : FileFeedState S). Rose (reads y.from).faults (reads (get_or (set now place new) place f).from).faults) (sym (stood f))
+          (subst (λ (y : FileFeedState S). Rose (reads x.from).faults (reads y.from).faults) (sym (here f)) (rose e));
+    }
 
-    none_refused : (source : ℕ) → source ≤ length feeds → ((i : ℕ) → i < source → OfFeed rest feeds i (λ stream. stream.refusal ≡ None)) → NoneRefusedBelow told d names source
-    none_refused source l h i below = of_source i (λ stream. stream.refusal ≡ None) (omega (arith, l, below)) (h i below)
+  -- ---- what the sources gave
+  module _ (base : ℕ) (told : Telling) (names : List (List ℕ)) (d : Definitions) (feeds : List (FileFeedState S)) (unread : AreUnread reads word base told names d feeds) where
+    pub fresh : AreFresh reads word feeds
+    fresh i f l =
+        let is = ap (feed_view reads word) (unread i f l).feed_is in
+        record {
+          running = ap (λ (v : FeedView). v.ended) is;
+          unanswered = ap (λ (v : FeedView). v.answered) is;
+          blank = ap (λ (v : FeedView). v.gave) is;
+        }
 
-    module _ (run : Run) (counts : Counts) (new : List (FileFeedState S)) (are : run.sources ≡ names) (many : length feeds ≡ length names) (after : length new ≡ length feeds)
-        (failed : (i : ℕ) (f : FileFeedState S) → i < length new → 0 < faults (get_or new i f).from → Rose counts.reads.before counts.reads.after) where
-      stops_at : (source : ℕ) (cause : FeedFault) → source < length feeds → ((i : ℕ) → i < source → OfFeed rest feeds i (λ stream. stream.refusal ≡ None)) → OfFeed rest feeds source (ShowsRefusal cause)
-          → ((f : FileFeedState S) → cause ≡ FeedRead → Rose (faults (get_or feeds source f).from) (faults (get_or new source f).from))
-          → StopsAtSources told run d counts (fault_of source cause)
-      stops_at source FeedRead inside below shows rose =
-          let f = some_of feeds source inside in
-          let at : source < length run.sources = omega (arith, inside, many, ap length are) in
-          let more : 0 < faults (get_or new source f).from = above (faults (get_or new source f).from) (subst (λ n. Rose n (faults (get_or new source f).from)) (unread source f inside).fresh (rose f refl)) in
-          (at, failed source f (omega (arith, inside, after)) more, subst (λ (ns : List (List ℕ)). NoneRefusedBelow told d ns source) (sym are) (none_refused source (omega (arith, inside)) below))
-        where
-          above : (n : ℕ) → Rose 0 n → 0 < n
-          above n (inl more) = more
-          above n (inr last) = omega (arith, last)
-      stops_at source FeedTooLong inside below shows rose = refused source too_long inside below shows
-        where
-          refused : (source : ℕ) (refusal : Refusal) → source < length feeds → ((i : ℕ) → i < source → OfFeed rest feeds i (λ stream. stream.refusal ≡ None)) → OfFeed rest feeds source (λ stream. stream.refusal ≡ Some refusal) → IsFirstRefused told d run.sources source refusal
-          refused source refusal inside below shows = subst (λ (ns : List (List ℕ)). IsFirstRefused told d ns source refusal) (sym are)
-              (record { inside = omega (arith, inside, many); refused = of_source source (λ stream. stream.refusal ≡ Some refusal) inside shows; below = none_refused source (omega (arith, inside)) below })
-      stops_at source (FeedRow number why) inside below shows rose = subst (λ (ns : List (List ℕ)). IsFirstRefused told d ns source (bad_record number why)) (sym are)
-          (record { inside = omega (arith, inside, many); refused = of_source source (λ stream. stream.refusal ≡ Some (bad_record number why)) inside shows; below = none_refused source (omega (arith, inside)) below })
-      stops_at source FeedMemory inside below shows rose = tt
+    module _ (new : List (FileFeedState S)) (many : length feeds ≡ length names) (same : AreSameFeeds reads word feeds new) where
+      start : (i : ℕ) → i < length names → FileFeedState S
+      start i l = some_of feeds i (omega (arith, l, many))
 
-      pub stops_of : {T : Type 0} (r : Result T Fault) → IfErr r (IsFirstTrouble rest faults feeds new) → IfErr r (StopsAtSources told run d counts)
-      stops_of (Ok t) h = tt
-      stops_of (Err fault) h = subst (StopsAtSources told run d counts) (sym h.answered) (stops_at h.source h.cause h.inside h.below h.shows h.failed)
+      -- each came from the open of its place
+      pub place_at : (i : ℕ) (f : FileFeedState S) → i < length names → (reads (get_or new i f).from).place ≡ base + i
+      place_at i f l =
+          let m : i < length feeds = omega (arith, l, many) in
+          let s = same.each i f m in
+          place_stays reads word d (base + i) i (told (get_or names i [])) (get_or feeds i f) (get_or new i f) (unread i f m) s.source s.origin
+
+      -- and tells what its file does
+      pub tells_at : (i : ℕ) (f : FileFeedState S) → i < length names → word (get_or new i f).from ≡ told (get_or names i [])
+      tells_at i f l =
+          let m : i < length feeds = omega (arith, l, many) in
+          let s = same.each i f m in
+          word_stays reads word d (base + i) i (told (get_or names i [])) (get_or feeds i f) (get_or new i f) (unread i f m) s.source s.origin
+
+      module _ (opens : Opens) (asked : Asks names opens) (first : length opens.before ≡ base) (came : (i : ℕ) (f : FileFeedState S) → i < length names → came_at opens i ≡ back (reads (get_or new i f).from)) where
+        read_at : (i : ℕ) (entries : List Entry) → i < length names → IsReadAt reads word feeds new i entries → IsSourceRead opens d i entries
+        read_at i entries l h =
+            let m : i < length feeds = omega (arith, l, many) in
+            let f = start i l in
+            let s = same.each i f m in
+            let r = h f in
+            let u = unread i f m in
+            shows_whole d opens i (reads (get_or new i f).from) (came i f l) entries
+            (place_at i f l ∙ ap (λ n. n + i) (sym first))
+            (r.quiet ∙ faults_before reads word d (base + i) i (told (get_or names i [])) (get_or feeds i f) (get_or new i f) u s.source s.origin)
+            (seen_as reads word d (base + i) i (told (get_or names i [])) (get_or feeds i f) (get_or new i f) u s.source s.origin (Some (given_then entries None)) r.drained)
+
+        all_read : (all : List (List Entry)) → length all ≡ length feeds → AreDrained reads word feeds new all → AreAllRead names d opens all
+        all_read all whole h = record {
+          asked = asked;
+          many = whole ∙ many;
+          each = λ i l. read_at i (get_or all i []) l (h i (omega (arith, l, many, whole)));
+        }
+
+        pub read_of : {T : Type 0} (items : T → List (List Entry)) (size : T → ℕ) (r : Result T Fault) → ((t : T) → size t ≡ length (items t)) → IfOk r (λ t. size t ≡ length feeds) → IfOk r (λ t. AreDrained reads word feeds new (items t)) → IfOk r (λ t. AreAllRead names d opens (items t))
+        read_of items size (Ok t) same whole h = all_read (items t) (sym (same t) ∙ whole) h
+        read_of items size (Err fault) same whole h = tt
+
+        stops_at : (shards : ℕ) (fault : Fault) → IsFirstTrouble reads word feeds new fault → StopsAtSources names shards d opens fault
+        stops_at shards fault h = subst (StopsAtSources names shards d opens) (sym h.answered) (by h.cause (shown h))
+          where
+            below : (i : ℕ) → i < h.source → (entries : List Entry) × IsSourceRead opens d i entries
+            below i b = let inside = h.inside in let r = h.below i b in (r.0, read_at i r.0 (omega (arith, b, inside, many)) r.1)
+
+            shown : (t : IsFirstTrouble reads word feeds new fault) → ShowsFault d opens t.source t.cause
+            shown t =
+                let inside = t.inside in
+                let l : t.source < length names = omega (arith, inside, many) in
+                let f = start t.source l in
+                let s = same.each t.source f inside in
+                let u = unread t.source f inside in
+                let before = faults_before reads word d (base + t.source) t.source (told (get_or names t.source [])) (get_or feeds t.source f) (get_or new t.source f) u s.source s.origin in
+                shows_fault d opens t.source (reads (get_or new t.source f).from) (came t.source f l) t.cause
+                (λ e. above (reads (get_or new t.source f).from).faults (subst (λ n. Rose n (reads (get_or new t.source f).from).faults) before (t.failed f e)))
+                (stuck_as (refusal_of t.cause) (feed_view reads word (get_or new t.source f)).whole (stream_seen t.source d.every d.disorder (reads (get_or new t.source f).from))
+                (seen_as reads word d (base + t.source) t.source (told (get_or names t.source [])) (get_or feeds t.source f) (get_or new t.source f) u s.source s.origin) (t.stuck f))
+              where
+                above : (n : ℕ) → Rose 0 n → 0 < n
+                above n (inl more) = more
+                above n (inr last) = omega (arith, last)
+
+            by : (f : FeedFault) → ShowsFault d opens h.source f → StopsAtSources names shards d opens (fault_of h.source f)
+            by FeedRead x = record { inside = let inside = h.inside in omega (arith, inside, many); asked = asked; below = below; read = x }
+            by FeedTooLong x = record { inside = let inside = h.inside in omega (arith, inside, many); asked = asked; below = below; read = x }
+            by (FeedRow number why) x = record { inside = let inside = h.inside in omega (arith, inside, many); asked = asked; below = below; read = x }
+            by FeedMemory x = tt
+
+        pub stops_of : {T : Type 0} (shards : ℕ) (r : Result T Fault) → IfErr r (IsFirstTrouble reads word feeds new) → IfErr r (StopsAtSources names shards d opens)
+        stops_of shards (Ok t) h = tt
+        stops_of shards (Err fault) h = stops_at shards fault h

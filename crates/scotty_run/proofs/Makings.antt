@@ -1,5 +1,5 @@
 -- The feeds and the shards of a made run.
-use Rattle.std.proofs.Common.{◌≡◌, ◌∙◌, ◌<◌, ◌+◌, ◌++◌, ◌⊎◌, ℕ, List, [], ◌∷◌, All, length, map, take, get_or, ap, sym, subst, arith, inl, inr, ⊎_elim, length-append, IfSome}
+use Rattle.std.proofs.Common.{◌≡◌, ◌∙◌, ◌<◌, ◌+◌, ◌++◌, ◌⊎◌, ℕ, List, [], ◌∷◌, All, length, map, take, get_or, ap, sym, subst, arith, inl, inr, ⊎_elim, length-append, None, Some}
 use Rattle.std.specs.List.{range_with_len}
 use Rattle.std.proofs.lemmas.Bool.{cases_lt}
 use Rattle.std.proofs.lemmas.Grind.{flat_map-append}
@@ -10,20 +10,20 @@ use Rattle.stream_base.specs.Model.Routes.{entries_from, routed}
 use Rattle.stream_base.specs.declared.entry.Entry.{Entry}
 use Rattle.stream_base.specs.declared.row.Row.{Row}
 use Rattle.shard_core.specs.Shard.{Sharded}
-use Rattle.source_feed.specs.FeedState.{FeedState}
-use Rattle.source_feed.specs.Generated.{made_definitions, made_entries, made_sources}
-use Rattle.source_feed.specs.declared.feed_fault.FeedFault.{FeedFault}
+use Rattle.source_feed.specs.FeedView.{FeedView, given_then}
+use Rattle.source_feed.specs.Generated.{made_definitions, made_entries, made_sources, made_stream}
+use Rattle.source_feed.specs.Stream.{StaysTold, Stream}
 use Rattle.fan_in.specs.declared.gathered.FeedEnd.{FeedEnd}
 use Rattle.fan_in.specs.declared.outcome.Outcome.{Outcome}
 use Rattle.fan_in.specs.declared.outcome.Outcome.TheVariants.{Done}
-use Rattle.fan_in.specs.Gathering.{AreFreshFeeds, AreGathered, HoldsPart, IsFault}
+use Rattle.fan_in.specs.Gathering.{AreFreshFeeds, AreGathered, Bears, IsFault}
 use Rattle.final_rows.specs.AtEnd.{rows_of_shards}
-use Rattle.scotty_run.specs.Making.{AreMadeFeeds, AreMadeShards, AreOfDefinitions, IsMadeFeed}
+use Rattle.scotty_run.specs.Making.{AreMadeFeeds, AreMadeShards, AreOfDefinitions, made_feed}
 use Rattle.scotty_run.specs.Words.{IsWithinLimits, Made}
 use Rattle.scotty_run.proofs.Opened.{some_of}
 
 abbrev Feed : Type 0
-Feed = FeedState FeedFault
+Feed = FeedView
 
 abbrev End : Type 0
 End = FeedEnd Feed
@@ -43,14 +43,24 @@ standing_more sources shards i s rows own l is alike before mine =
     ∙ sym (flat_map-append (standing_rows made_definitions sources) (map journal (take i shards)) (s.journal ∷ []))
     ∙ ap (rows_of_shards made_definitions sources) (sym (map-append journal (take i shards) (s ∷ [])) ∙ ap (map journal) (ap (λ x. take i shards ++ x ∷ []) is ∙ sym (take_more shards i s l)))
 
+-- a feed that came back with all its entries gave those of its stream
+gave_all : (stream : Stream) (back : Feed) (outcome : Outcome) → outcome ≡ Done → Bears back outcome → back.whole ≡ Some stream → back.gave ≡ stream.entries
+gave_all stream back outcome done bears whole =
+    let all : back.whole ≡ Some (given_then back.gave None) = subst (Bears back) done bears in
+    let is : Some (given_then back.gave None) ≡ Some stream = sym all ∙ whole in
+    ap (λ (s : Stream). s.entries) (some_inj is)
+  where
+    some_inj : {x y : Stream} → Some x ≡ Some y → x ≡ y
+    some_inj e = cc
+
 module _ (run : Made) where
   -- one feed more
-  pub made_more : (feeds : List Feed) (feed : Feed) (n : ℕ) → length feeds ≡ n → AreMadeFeeds run feeds → IsMadeFeed run.seed run.rows run.sources n feed → AreMadeFeeds run (feeds ++ feed ∷ [])
+  pub made_more : (feeds : List Feed) (feed : Feed) (n : ℕ) → length feeds ≡ n → AreMadeFeeds run feeds → feed ≡ made_feed run.seed run.rows run.sources n → AreMadeFeeds run (feeds ++ feed ∷ [])
   made_more feeds feed n many h is i f l =
-      ⊎_elim (λ (less : i < length feeds). subst (IsMadeFeed run.seed run.rows run.sources i) (sym (get_or_append_left feeds (feed ∷ []) f i less)) (h i f less))
+      ⊎_elim (λ (less : i < length feeds). get_or_append_left feeds (feed ∷ []) f i less ∙ h i f less)
       (λ ge.
       let same : n ≡ i = let size = length-append feeds (feed ∷ []) in omega (arith, ge, many, l, size) in
-      subst (IsMadeFeed run.seed run.rows run.sources i) (sym (get_or_push feeds feed f i (many ∙ same))) (subst (λ n. IsMadeFeed run.seed run.rows run.sources n feed) same is))
+      get_or_push feeds feed f i (many ∙ same) ∙ is ∙ ap (made_feed run.seed run.rows run.sources) same)
       (cases_lt i (length feeds))
 
   -- the feeds weren't read yet
@@ -58,12 +68,12 @@ module _ (run : Made) where
   fresh_feeds feeds many made = record {
     one_each = many;
     fresh = λ i f l.
-        let m = made i f l in
+        let is = made i f l in
         record {
-          of_source = ap (λ (s : Feed). s.source) m.state;
-          running = ap (λ (s : Feed). s.ended) m.state;
-          unanswered = ap (λ (s : Feed). s.answered) m.state;
-          whole = m.closes;
+          of_source = ap (λ (s : Feed). s.source) is;
+          running = ap (λ (s : Feed). s.ended) is;
+          unanswered = ap (λ (s : Feed). s.answered) is;
+          blank = ap (λ (s : Feed). s.gave) is;
         };
   }
 
@@ -128,9 +138,10 @@ module _ (run : Made) where
         let s = some_of shards j l2 in
         let f = some_of feeds i (omega (arith, li, one_each)) in
         let e = end_at i li in
-        let told = ap (λ (x : Feed). x.rest) (made i f (omega (arith, li, one_each))).state in
-        let part = subst (λ o. IfSome o (λ stream. HoldsPart run.shards j i stream (get_or ends i e).outcome (get_or shards j s).journal)) told (were.parts j i s f e l2 li) in
-        ap (entries_from i) (journal_at j s l2) ∙ part.whole (done_at i e li) ∙ ap (routed run.shards j) (sym (made_at i li))
+        let b = were.back i f e li in
+        let whole = subst (λ o. StaysTold o ((get_or ends i e).feed).whole) (ap (λ (x : Feed). x.whole) (made i f (omega (arith, li, one_each)))) b.seen in
+        let gave = gave_all (made_stream run.seed run.rows run.sources i) (get_or ends i e).feed (get_or ends i e).outcome (done_at i e li) b.bears whole in
+        ap (entries_from i) (journal_at j s l2) ∙ (were.parts j i s e l2 li).whole (done_at i e li) ∙ ap (routed run.shards j) (gave ∙ sym (made_at i li))
 
     pub made_shards : AreMadeShards run shards
     unfolding journals

@@ -4,8 +4,8 @@ pub mod Opening
 pub mod Statuses
 pub mod Causes
 pub mod Settling
-pub mod Called
 pub mod Answer
 pub mod Reading
 pub mod Judging
 pub mod Making
+pub mod InMemory

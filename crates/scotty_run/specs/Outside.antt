@@ -1,59 +1,90 @@
--- What a run finds outside, counts of what failed there, what may still be opened, and how calls that open and read files end.
-use Rattle.std.specs.Prelude.{◌≡◌, ◌≤◌, ◌<◌, ◌+◌, ℕ, List, [], ◌∷◌, length, Option, Some, Result, IfOk, IfErr, OnOk, slice_index_or}
-use Rattle.outside.specs.Outside.{Rose}
+-- What a call opened and what was read there, and how calls that open and read files end.
+use Rattle.std.specs.Prelude.{◌≡◌, ◌≤◌, ◌<◌, ◌+◌, ◌++◌, ◌⊎◌, ℕ, true, List, [], ◌∷◌, length, take, Option, Result, IfOk, IfErr, IfSome, slice_index_or, ⊤}
+use Rattle.outside.specs.Outside.{Came, KeepsWord, Reads, back, nothing_read, out, refused, unasked}
 use Rattle.emission_text.specs.declared.fault.Fault.{Fault}
 
 -- the bytes under each name, where they are told
 abbrev pub Telling : Type 0
 Telling = List ℕ → Option (List ℕ)
 
--- where the bytes are told, this holds of them
-abbrev pub WhereTold : Option (List ℕ) → (List ℕ → Type 0) → Type 0
-WhereTold told P = (bytes : List ℕ) → told ≡ Some bytes → P bytes
+-- the opens of a call: all names that were asked for before it, and after it, in order, and what became of the open of each number
+pub record Opens : Type 0 where
+  pub before : List (List ℕ)
+  pub after : List (List ℕ)
+  pub came : ℕ → Came
 
--- a count before and after
-pub record Count : Type 0 where
-  pub before : ℕ
-  pub after : ℕ
+-- the opens of a call on files, which were these before it, and these after it
+abbrev pub opens_of : {F : Type 0} → (F → List (List ℕ)) → (F → ℕ → Came) → F → F → Opens
+opens_of asked came old new = record { before = asked old; after = asked new; came = came new }
 
--- the counts of a run: of failed opens, and of sources given back with a failed read; and the names that are left: these may be opened afterwards, in this order
-pub record Counts : Type 1 where
-  pub opens : Count
-  pub reads : Count
-  pub left : List (List ℕ) → Type 0
+-- the call opened these names, in this order, and no others
+abbrev pub Asks : List (List ℕ) → Opens → Type 0
+Asks names opens = opens.after ≡ opens.before ++ names
 
--- these counts of files, before and after, and the names that are left
-abbrev pub counts_of : {F : Type 0} → (F → ℕ) → (F → ℕ) → (F → List (List ℕ) → Type 0) → F → F → Counts
-counts_of opens reads may_open old new = record {
-  opens = record { before = opens old; after = opens new };
-  reads = record { before = reads old; after = reads new };
-  left = may_open new;
-}
+-- the opens of the call behind those of these names
+abbrev pub behind : List (List ℕ) → Opens → Opens
+behind names opens = record { before = opens.before ++ names; after = opens.after; came = opens.came }
 
-module _ {F : Type 0} (failed_opens failed_reads : F → ℕ) (may_open : F → List (List ℕ) → Type 0) (many_out : F → ℕ) where
-  -- how a call that opens and reads all files of its plan ends: with a value of which `good` holds, and no name left; or with a fault that `stop` explains; each source that it opened is given back
-  pub record Ends {A : Type 0} (old new : F) (result : Result A Fault) (good : A → Type 0) (stop : Counts → Fault → Type 0) : Type 0 where
-    pub ok : IfOk result good
-    pub opened : OnOk result (may_open new [])
-    pub stopped : IfErr result (stop (counts_of failed_opens failed_reads may_open old new))
-    pub out : many_out new ≡ many_out old
+-- what became of the open at this place among those of the call
+abbrev pub came_at : Opens → ℕ → Came
+came_at opens i = opens.came (length opens.before + i)
 
-  module _ (told : F → Telling) where
-    -- how a call that opens and reads the file of one name ends, whatever names may be opened behind it: with a value of which `good` holds, and those names left; or with a fault that `stop` explains; the source is given back, no count falls, and what is told stays
-    pub record ReadsFile {A : Type 0} (name : List ℕ) (old new : F) (result : Result A Fault) (good : Option (List ℕ) → A → Type 0) (stop : Option (List ℕ) → List (List ℕ) → Counts → Fault → Type 0) : Type 0 where
-      pub ok : IfOk result (good (told old name))
-      pub opened : (rest : List (List ℕ)) → may_open old (name ∷ rest) → OnOk result (may_open new rest)
-      pub stopped : (rest : List (List ℕ)) → may_open old (name ∷ rest) → IfErr result (stop (told old name) (name ∷ rest) (counts_of failed_opens failed_reads may_open old new))
-      pub opens : failed_opens old ≤ failed_opens new
-      pub reads : failed_reads old ≤ failed_reads new
-      pub out : many_out new ≡ many_out old
-      pub same : (which : List ℕ) → told new which ≡ told old which
+-- all that a source gave: these bytes up to its end; and no read of it failed
+abbrev pub all_read : ℕ → List ℕ → Reads
+all_read place bytes = record { place = place; given = bytes; ended = true; faults = 0 }
 
-    -- each of these is given back: the count of failed reads rose where a read of one has failed, and the names that may be opened, the count of failed opens and what is told stay
-    pub record GivesBack {E : Type 0} (given : List E) (faults : E → ℕ) (old new : F) : Type 0 where
-      pub out : many_out new + length given ≡ many_out old
-      pub planned : (names : List (List ℕ)) → may_open old names → may_open new names
-      pub opens : failed_opens new ≡ failed_opens old
-      pub reads : failed_reads old ≤ failed_reads new
-      pub failed : (i : ℕ) (e : E) → i < length given → 0 < faults (slice_index_or given i e) → Rose (failed_reads old) (failed_reads new)
+-- the source that was opened there was read whole, and came back: these are its bytes
+abbrev pub WasReadWhole : Opens → ℕ → List ℕ → Type 0
+WasReadWhole opens i bytes = came_at opens i ≡ back (all_read (length opens.before + i) bytes)
+
+-- the source that was opened there came back, and nothing of it was read
+abbrev pub WasNotRead : Opens → ℕ → Type 0
+WasNotRead opens i = came_at opens i ≡ back (nothing_read (length opens.before + i))
+
+-- the source that was opened there came back, and this holds of what was read of it
+abbrev pub CameBack : Opens → ℕ → (Reads → Type 0) → Type 0
+CameBack opens i P = (reads : Reads) × (came_at opens i ≡ back reads) × P reads
+
+-- an open is over: it was refused, or its source came back; what that gave is how the bytes begin that the file tells, if it tells any, and all of them where its end was seen
+abbrev pub IsOver : Option (List ℕ) → Came → Type 0
+IsOver told unasked = ⊥
+IsOver told refused = ⊤
+IsOver told out = ⊥
+IsOver told (back reads) = IfSome told (KeepsWord reads)
+
+-- all opens of the call are over, by what the files of these names tell
+abbrev pub AreOver : Telling → Opens → Type 0
+AreOver told opens = (i : ℕ) → length opens.before ≤ i → i < length opens.after → IsOver (told (slice_index_or opens.after i [])) (opens.came i)
+
+module _ {F : Type 0} (asked : F → List (List ℕ)) (came : F → ℕ → Came) (told : F → Telling) where
+  -- how a call that may open files of these names leaves them: it opened the first ones of the names, in order, and nothing else; each of these opens is over; those of before it are as they were, and so is what is told
+  pub record OpensInOrder (names : List (List ℕ)) (old new : F) : Type 0 where
+    pub count : ℕ
+    pub in_order : asked new ≡ asked old ++ take count names
+    pub over : AreOver (told old) (opens_of asked came old new)
+    pub earlier : (i : ℕ) → i < length (asked old) → came new i ≡ came old i
+    pub same : (which : List ℕ) → told new which ≡ told old which
+
+  -- how such a call ends: with a value of which `good` holds, by its opens, or with a fault that `stop` explains by them
+  pub record Ends {A : Type 0} (names : List (List ℕ)) (old new : F) (result : Result A Fault) (good : Opens → A → Type 0) (stop : Opens → Fault → Type 0) : Type 0 where
+    pub files : OpensInOrder names old new
+    pub ok : IfOk result (good (opens_of asked came old new))
+    pub stopped : IfErr result (stop (opens_of asked came old new))
+
+  -- how a call ends that opens the file of one name, reads it and gives it back
+  pub record ReadsFile {A : Type 0} (name : List ℕ) (old new : F) (result : Result A Fault) (good : Opens → A → Type 0) (stop : Opens → Fault → Type 0) : Type 0 where
+    pub opened : Asks (name ∷ []) (opens_of asked came old new)
+    pub ends : Ends (name ∷ []) old new result good stop
+
+  -- each of these is given back: the place of its open has what was read of it
+  module _ {E : Type 0} (reads : E → Reads) (word : E → Option (List ℕ)) where
+    -- these came from opens in a row, of which the first has this number
+    abbrev pub ArePlaced : ℕ → List E → Type 0
+    ArePlaced base given = (i : ℕ) (e : E) → i < length given → (reads (slice_index_or given i e)).place ≡ base + i
+
+    pub record GivesBack (given : List E) (old new : F) : Type 0 where
+      pub asked_same : asked new ≡ asked old
+      pub back_at : (base : ℕ) → ArePlaced base given → (i : ℕ) (e : E) → i < length given → came new (base + i) ≡ back (reads (slice_index_or given i e))
+      pub others : (base : ℕ) → ArePlaced base given → (i : ℕ) → (i < base) ⊎ (base + length given ≤ i) → came new i ≡ came old i
+      pub word_kept : (i : ℕ) (e : E) → i < length given → IfSome (word (slice_index_or given i e)) (KeepsWord (reads (slice_index_or given i e)))
       pub same : (which : List ℕ) → told new which ≡ told old which

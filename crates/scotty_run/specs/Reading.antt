@@ -1,65 +1,63 @@
 -- Feeds that are read one after another, each to its end.
-use Rattle.std.specs.Prelude.{◌≡◌, ◌≤◌, ◌<◌, ℕ, false, List, [], length, Option, None, Some, IfSome, MatchOption, slice_index_or, ⊤}
-use Rattle.stream_base.specs.Limits.{Definitions}
-use Rattle.outside.specs.Outside.{Rose}
+use Rattle.std.specs.Prelude.{◌≡◌, ◌<◌, ℕ, false, List, [], length, Option, None, Some, IfSome, slice_index_or}
+use Rattle.outside.specs.Outside.{Reads, Rose}
 use Rattle.stream_base.specs.declared.entry.Entry.{Entry}
 use Rattle.source_feed.specs.FeedFault.{refusal_of}
-use Rattle.source_feed.specs.FeedState.{FeedState}
-use Rattle.source_feed.specs.FileFeedState.{FileFeedState, feed_state}
-use Rattle.source_feed.specs.Stream.{Stream}
+use Rattle.source_feed.specs.FeedView.{FeedView, given_then}
+use Rattle.source_feed.specs.FileFeedState.{FileFeedState, feed_view}
 use Rattle.source_feed.specs.declared.feed_fault.FeedFault.{FeedFault}
 use Rattle.source_feed.specs.declared.feed_fault.FeedFault.TheVariants.{Read as FeedRead}
-use Rattle.source_feed.specs.declared.whole.TheConstants.{SOURCE_MAX}
 use Rattle.emission_text.specs.declared.fault.Fault.{Fault}
-use Rattle.scotty_run.specs.Causes.{stream_at, told_at}
-use Rattle.scotty_run.specs.Outside.{Telling, WhereTold}
 use Rattle.scotty_run.specs.Settling.{fault_of}
 
--- a feed has neither ended nor answered a fault
-pub record IsFresh (feed : FeedState FeedFault) : Type 0 where
+-- a feed that gave nothing yet, neither its end nor a fault
+pub record IsFresh (feed : FeedView) : Type 0 where
   pub running : feed.ended ≡ false
   pub unanswered : feed.answered ≡ None
+  pub blank : feed.gave ≡ []
 
--- these are all entries of what a feed told, which refuses nothing
-pub record IsAllOf (stream : Stream) (entries : List Entry) : Type 0 where
-  pub unrefused : stream.refusal ≡ None
-  pub entries_are : stream.entries ≡ entries
+-- a feed was read to its end: these are the entries of its source, which isn't refused
+abbrev pub IsDrained : FeedView → List Entry → Type 0
+IsDrained feed entries = feed.whole ≡ Some (given_then entries None)
 
--- a fault shows the refusal of what a feed told, if it shows one
-abbrev pub ShowsRefusal : FeedFault → Stream → Type 0
-ShowsRefusal fault stream = MatchOption (refusal_of fault) ⊤ (λ refusal. stream.refusal ≡ Some refusal)
+-- a feed was read up to a fault, which shows the refusal of its source, if it shows one
+abbrev pub IsStuck : FeedView → FeedFault → Type 0
+IsStuck feed fault = IfSome (refusal_of fault) (λ refusal. (entries : List Entry) × (feed.whole ≡ Some (given_then entries (Some refusal))))
 
-module _ {S : Type 0} (rest : S → Option (List ℕ)) where
-  -- what the feed at a place told, where it told anything
-  abbrev pub OfFeed : List (FileFeedState S) → ℕ → (Stream → Type 0) → Type 0
-  OfFeed feeds i P = (f : FileFeedState S) → IfSome (feed_state rest (slice_index_or feeds i f)).rest P
+-- a feed that was read further is one of the same source
+pub record IsSameFeed (old new : FeedView) : Type 0 where
+  pub source : new.source ≡ old.source
+  pub origin : new.origin ≡ old.origin
 
+module _ {S : Type 0} (reads : S → Reads) (word : S → Option (List ℕ)) where
   -- each feed is fresh
   abbrev pub AreFresh : List (FileFeedState S) → Type 0
-  AreFresh feeds = (i : ℕ) (f : FileFeedState S) → i < length feeds → IsFresh (feed_state rest (slice_index_or feeds i f))
+  AreFresh feeds = (i : ℕ) (f : FileFeedState S) → i < length feeds → IsFresh (feed_view reads word (slice_index_or feeds i f))
+
+  -- the same feeds, read further
+  pub record AreSameFeeds (old new : List (FileFeedState S)) : Type 0 where
+    pub many : length new ≡ length old
+    pub each : (i : ℕ) (f : FileFeedState S) → i < length old → IsSameFeed (feed_view reads word (slice_index_or old i f)) (feed_view reads word (slice_index_or new i f))
+
+  -- a feed was read to its end, and no read failed
+  pub record IsReadOn (old new : FileFeedState S) (entries : List Entry) : Type 0 where
+    pub drained : IsDrained (feed_view reads word new) entries
+    pub quiet : (reads new.from).faults ≡ (reads old.from).faults
+
+  -- the feed at a place was, and these are its entries
+  abbrev pub IsReadAt : List (FileFeedState S) → List (FileFeedState S) → ℕ → List Entry → Type 0
+  IsReadAt old new i entries = (f : FileFeedState S) → IsReadOn (slice_index_or old i f) (slice_index_or new i f) entries
 
   -- these are the entries of the first feeds, in their order
-  pub record AreDrained (feeds : List (FileFeedState S)) (all : List (List Entry)) : Type 0 where
-    pub within : length all ≤ length feeds
-    pub each : (i : ℕ) → i < length all → OfFeed feeds i (λ stream. IsAllOf stream (slice_index_or all i []))
+  abbrev pub AreDrained : List (FileFeedState S) → List (FileFeedState S) → List (List Entry) → Type 0
+  AreDrained old new all = (i : ℕ) → i < length all → IsReadAt old new i (slice_index_or all i [])
 
-  module _ (faults : S → ℕ) where
-    -- the fault is that of the first feed that has one; a failed read of it was counted
-    pub record IsFirstTrouble (old new : List (FileFeedState S)) (fault : Fault) : Type 0 where
-      pub source : ℕ
-      pub inside : source < length old
-      pub cause : FeedFault
-      pub answered : fault ≡ fault_of source cause
-      pub below : (i : ℕ) → i < source → OfFeed old i (λ stream. stream.refusal ≡ None)
-      pub shows : OfFeed old source (ShowsRefusal cause)
-      pub failed : (f : FileFeedState S) → cause ≡ FeedRead → Rose (faults (slice_index_or old source f).from) (faults (slice_index_or new source f).from)
-
--- the entries of all sources, which refuse nothing, where their bytes are told
-pub record AreReadOf (told : Telling) (d : Definitions) (sources : List (List ℕ)) (all : List (List Entry)) : Type 0 where
-  pub many : length all ≡ length sources
-  pub each : (i : ℕ) → i < length sources → WhereTold (told_at told sources i) (λ bytes. IsAllOf (stream_at d i bytes) (slice_index_or all i []))
-
--- the bytes of a report, which aren't too many, where they are told
-pub record IsTextOf (bytes text : List ℕ) : Type 0 where
-  pub same : text ≡ bytes
-  pub short : length bytes ≤ SOURCE_MAX
+  -- the fault is that of the first feed that has one; a failed read of it was counted
+  pub record IsFirstTrouble (old new : List (FileFeedState S)) (fault : Fault) : Type 0 where
+    pub source : ℕ
+    pub inside : source < length old
+    pub cause : FeedFault
+    pub answered : fault ≡ fault_of source cause
+    pub below : (i : ℕ) → i < source → (entries : List Entry) × IsReadAt old new i entries
+    pub stuck : (f : FileFeedState S) → IsStuck (feed_view reads word (slice_index_or new source f)) cause
+    pub failed : (f : FileFeedState S) → cause ≡ FeedRead → Rose (reads (slice_index_or old source f).from).faults (reads (slice_index_or new source f).from).faults

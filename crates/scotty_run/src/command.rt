@@ -5,7 +5,7 @@ ghost use Rattle.emission_text.specs.Report.{form_of, report_text};
 ghost use Rattle.emission_text.specs.Sending.{Appends, Fails};
 ghost use Rattle.scotty_run.specs.Answer.{IsAnswer, IsCheckAnswer, IsMadeAnswer, Says};
 ghost use Rattle.scotty_run.specs.Causes.{AreShardsOfFiles, StopsAtFiles};
-ghost use Rattle.scotty_run.specs.Outside.{Ends, counts_of};
+ghost use Rattle.scotty_run.specs.Outside.{Ends, OpensInOrder, opens_of};
 ghost use Rattle.scotty_run.specs.Statuses.{finding_status, status_of};
 ghost use Rattle.scotty_run.specs.Words.{Check, IsCheck, IsCheckOf, IsCommand, IsMadeOf, IsRun, IsRunOf, Made, Run};
 
@@ -24,17 +24,18 @@ use std::sync::Wait;
 use std::thread::Threads;
 use stream_base::NoMemory;
 
-/// Runs the command that the words say. A run is answered with the report that its files call for,
-/// or with the first fault in the order of causes; in place of it an open, a read or a write may have
-/// failed, by its count, or memory ran out. A made run is answered with the summary of its final
-/// rows; in place of it a write may have failed, or memory ran out. It is so in every schedule of the
-/// feeds. A check is answered with the line of what is found of its report, by the bytes of the
-/// definitions, the report and the sources, or with the first fault, with the same exceptions as a
-/// run. Other words are answered with a fault of their own.
+/// Runs the command that the words say, over any files and any sink. A run is answered with the report
+/// of the bytes that its files gave, each to its end, or with the first fault in the order of causes:
+/// with what these bytes are refused for, or with the very open or read that failed; in place of that
+/// a write may have failed, or memory ran out. A made run is answered with the summary of its final
+/// rows, with the same two exceptions. It is so in every schedule of the feeds. A check is answered
+/// with the line of what is found of its report, by the bytes that the definitions, the report and the
+/// sources gave, or as a run with a fault. Other words are answered with a fault of their own.
 ///
 /// A run opens its definitions and then its sources, a check its definitions, its report and its
-/// sources: each once, in this order, and nothing else. Behind a report or a finding none is left;
-/// where one can't be opened, it is named, and those from it on are left.
+/// sources: the first ones of these names, each once, in this order, and nothing else. All of them
+/// behind a report or a finding, or where a source is in trouble; and none behind one that can't be
+/// opened. Each opened source is given back.
 pub fn scotty<F: Files, K: Sink, G: Gate, R: Threads + Wait + Sync>(
     alloc: Global,
     rt: &R,
@@ -43,26 +44,23 @@ pub fn scotty<F: Files, K: Sink, G: Gate, R: Threads + Wait + Sync>(
     sink: &mut K,
     gate: &G,
 ) -> Status
-    requires opens_run { (run : Run) → IsRunOf (map string_bytes words.now) run
-        → F.may_open files.old (run.defs ∷ run.sources) }
-    requires opens_check { (c : Check) → IsCheckOf (map string_bytes words.now) c
-        → F.may_open files.old (c.defs ∷ c.report ∷ c.sources) }
     ensures answer { (run : Run) → IsRunOf (map string_bytes words.now) run
-        → IsAnswer K.written K.faults run (F.told files.old)
-        (counts_of F.failed_opens F.failed_reads F.may_open files.old files.new)
+        → IsAnswer K.taken K.faults run (opens_of F.asked F.came files.old files.new)
         sink.old sink.new result }
+    ensures run_opens { (run : Run) → IsRunOf (map string_bytes words.now) run
+        → OpensInOrder F.asked F.came F.told (run.defs ∷ run.sources) files.old files.new }
     ensures made { (m : Made) → IsMadeOf (map string_bytes words.now) m
-        → IsMadeAnswer K.written K.faults m sink.old sink.new result }
+        → IsMadeAnswer K.taken K.faults m sink.old sink.new result }
     ensures check { (c : Check) → IsCheckOf (map string_bytes words.now) c
-        → IsCheckAnswer K.written K.faults c (F.told files.old)
-        (counts_of F.failed_opens F.failed_reads F.may_open files.old files.new)
+        → IsCheckAnswer K.taken K.faults c (opens_of F.asked F.came files.old files.new)
         sink.old sink.new result }
+    ensures check_opens { (c : Check) → IsCheckOf (map string_bytes words.now) c
+        → OpensInOrder F.asked F.came F.told (c.defs ∷ c.report ∷ c.sources) files.old files.new }
     ensures usage { (result ≡ Status.Usage) ↔ ¬ (IsCommand (map string_bytes words.now)) }
     ensures usage_said { result ≡ Status.Usage
-        → Says K.written K.faults Fault.Usage sink.old sink.new }
+        → Says K.taken K.faults Fault.Usage sink.old sink.new }
     ensures unopened { ¬ (IsRun (map string_bytes words.now))
         → ¬ (IsCheck (map string_bytes words.now)) → files.new ≡ files.old }
-    ensures out { F.out files.new ≡ F.out files.old }
 {
     match run_of(words) {
         Some(command) => run(alloc, rt, &command, files, sink, gate),
@@ -84,11 +82,10 @@ fn run<F: Files, K: Sink, G: Gate, R: Threads + Wait + Sync>(
     sink: &mut K,
     gate: &G,
 ) -> Status
-    requires planned { F.may_open files.old (command.now.defs ∷ command.now.sources) }
-    ensures answer { IsAnswer K.written K.faults command.now (F.told files.old)
-        (counts_of F.failed_opens F.failed_reads F.may_open files.old files.new)
-        sink.old sink.new result }
-    ensures out { F.out files.new ≡ F.out files.old }
+    ensures answer { IsAnswer K.taken K.faults command.now
+        (opens_of F.asked F.came files.old files.new) sink.old sink.new result }
+    ensures files { OpensInOrder F.asked F.came F.told (command.now.defs ∷ command.now.sources)
+        files.old files.new }
 {
     match fill_shards(alloc, rt, command, files, gate) {
         Ok(shards) => print_report(command.form, &shards, sink),
@@ -99,9 +96,9 @@ fn run<F: Files, K: Sink, G: Gate, R: Threads + Wait + Sync>(
 // The report of the shards.
 fn print_report<K: Sink>(form: ReportForm, shards: &[Shard], sink: &mut K) -> Status
     ensures either { (result ≡ Status.Done) ⊎ (result ≡ Status.WriteFault) }
-    ensures done { result ≡ Status.Done → Appends K.written K.faults
+    ensures done { result ≡ Status.Done → Appends K.taken K.faults
         (report_text (form_of form) shards.now) sink.old sink.new }
-    ensures failed { result ≡ Status.WriteFault → Fails K.written K.faults
+    ensures failed { result ≡ Status.WriteFault → Fails K.taken K.faults
         (report_text (form_of form) shards.now) sink.old sink.new }
 {
     match write_form(form, shards, sink) {
@@ -118,7 +115,7 @@ fn make<K: Sink, G: Gate, R: Threads + Wait + Sync>(
     sink: &mut K,
     gate: &G,
 ) -> Status
-    ensures answer { IsMadeAnswer K.written K.faults command.now sink.old sink.new result }
+    ensures answer { IsMadeAnswer K.taken K.faults command.now sink.old sink.new result }
 {
     match make_rows(alloc, rt, command, gate) {
         Ok(rows) => print_summary(command.rows, &rows, sink),
@@ -134,12 +131,10 @@ fn check<F: Files, K: Sink, R: Threads>(
     files: &mut F,
     sink: &mut K,
 ) -> Status
-    requires planned { F.may_open files.old
-        (command.now.defs ∷ command.now.report ∷ command.now.sources) }
-    ensures answer { IsCheckAnswer K.written K.faults command.now (F.told files.old)
-        (counts_of F.failed_opens F.failed_reads F.may_open files.old files.new)
-        sink.old sink.new result }
-    ensures out { F.out files.new ≡ F.out files.old }
+    ensures answer { IsCheckAnswer K.taken K.faults command.now
+        (opens_of F.asked F.came files.old files.new) sink.old sink.new result }
+    ensures files { OpensInOrder F.asked F.came F.told
+        (command.now.defs ∷ command.now.report ∷ command.now.sources) files.old files.new }
 {
     match find(alloc, rt, command, files) {
         Ok(finding) => print_finding(&finding, sink),
@@ -150,9 +145,9 @@ fn check<F: Files, K: Sink, R: Threads>(
 // The line of a finding.
 fn print_finding<K: Sink>(finding: &Finding, sink: &mut K) -> Status
     ensures { ((result ≡ finding_status finding.now)
-        × Appends K.written K.faults (finding_line finding.now) sink.old sink.new)
+        × Appends K.taken K.faults (finding_line finding.now) sink.old sink.new)
         ⊎ ((result ≡ Status.WriteFault)
-        × Fails K.written K.faults (finding_line finding.now) sink.old sink.new) }
+        × Fails K.taken K.faults (finding_line finding.now) sink.old sink.new) }
 {
     if write_finding(finding, sink).is_err() {
         return Status::WriteFault;
@@ -162,7 +157,7 @@ fn print_finding<K: Sink>(finding: &Finding, sink: &mut K) -> Status
 
 fn print_fault<K: Sink>(fault: &Fault, sink: &mut K) -> Status
     ensures status { result ≡ status_of fault.now }
-    ensures said { Says K.written K.faults fault.now sink.old sink.new }
+    ensures said { Says K.taken K.faults fault.now sink.old sink.new }
 {
     let _ = write_fault(fault, sink);
     status_of(fault)
@@ -176,10 +171,10 @@ fn fill_shards<F: Files, G: Gate, R: Threads + Wait + Sync>(
     files: &mut F,
     gate: &G,
 ) -> Result<Vec<Shard>, Fault>
-    requires planned { F.may_open files.old (command.now.defs ∷ command.now.sources) }
-    ensures { Ends F.failed_opens F.failed_reads F.may_open F.out files.old files.new result
-        (λ shards. AreShardsOfFiles (F.told files.old) command.now shards.items)
-        (StopsAtFiles (F.told files.old) command.now) }
+    ensures { Ends F.asked F.came F.told (command.now.defs ∷ command.now.sources)
+        files.old files.new result
+        (λ opens shards. AreShardsOfFiles command.now opens shards.items)
+        (StopsAtFiles command.now) }
 {
     match read_definitions(alloc, files, command.defs) {
         Err(fault) => Err(fault),

@@ -1,8 +1,8 @@
 //! The definitions file is opened, read and refused or accepted.
-ghost use Rattle.std.specs.Prelude.{◌≡◌, ◌∷◌, ℕ, List, Ok, IfOk, IfErr, IsOkAnd};
+ghost use Rattle.std.specs.Prelude.{◌≡◌, Ok, IfOk, IfErr, IsOkAnd};
 ghost use Rattle.window_defs.specs.Reading.{reading_of};
 ghost use Rattle.scotty_run.specs.Outside.{ReadsFile};
-ghost use Rattle.scotty_run.specs.Causes.{AreDefsOf, StopsAtBytes, StopsAtDefs, StopsAtReading};
+ghost use Rattle.scotty_run.specs.Causes.{AreDefinitionsRead, StopsAtBytes, StopsAtDefs, StopsAtReading};
 
 use emission_text::Fault;
 use outside::Files;
@@ -13,9 +13,8 @@ use window_defs::{BYTES_MAX, DefsFault, read_defs};
 
 /// The definitions in the file of this name, where they are accepted. The file is given back.
 pub fn read_definitions<F: Files>(alloc: Global, files: &mut F, name: &str) -> Result<Defs, Fault>
-    requires planned { (rest : List (List ℕ)) × F.may_open files.old (name.now ∷ rest) }
-    ensures { ReadsFile F.failed_opens F.failed_reads F.may_open F.out F.told name.now
-        files.old files.new result AreDefsOf StopsAtDefs }
+    ensures { ReadsFile F.asked F.came F.told name.now files.old files.new result
+        AreDefinitionsRead (StopsAtDefs name.now) }
 {
     match files.open_file(name) {
         Err(_) => Err(Fault::Unopened { place: None }),

@@ -1,5 +1,4 @@
 //! The sources of a run are gathered into its shards.
-ghost use Rattle.std.specs.Prelude.{◌≤◌, length};
 ghost use Rattle.scotty_run.specs.Causes.{AreShardsOf, StopsAtSources};
 ghost use Rattle.scotty_run.specs.Outside.{Ends, GivesBack};
 
@@ -26,12 +25,9 @@ pub fn gather_sources<F: Files, G: Gate, R: Threads + Wait + Sync>(
     defs: Defs,
     gate: &G,
 ) -> Result<Vec<Shard>, Fault>
-    requires planned { F.may_open files.old run.now.sources }
-    ensures ends { Ends F.failed_opens F.failed_reads F.may_open F.out files.old files.new result
-        (λ shards. AreShardsOf (F.told files.old) run.now defs shards.items)
-        (StopsAtSources (F.told files.old) run.now defs) }
-    ensures opens { F.failed_opens files.old ≤ F.failed_opens files.new }
-    ensures reads { F.failed_reads files.old ≤ F.failed_reads files.new }
+    ensures { Ends F.asked F.came F.told run.now.sources files.old files.new result
+        (λ opens shards. AreShardsOf run.now defs opens shards.items)
+        (StopsAtSources run.now.sources run.now.shards defs) }
 {
     let feeds = match open_sources(alloc, files, run.sources, &defs) {
         Ok(feeds) => feeds,
@@ -60,9 +56,8 @@ pub fn gather_sources<F: Files, G: Gate, R: Threads + Wait + Sync>(
 
 // Gives the sources of feeds back that were read.
 fn close_ends<F: Files>(files: &mut F, mut ends: Vec<FeedEnd<FileFeed<F::Input>>>)
-    requires { length ends.items ≤ F.out files.old }
-    ensures { GivesBack F.failed_opens F.failed_reads F.may_open F.out F.told
-        ends.items (λ e. F.Input.faults e.feed.from) files.old files.new }
+    ensures { GivesBack F.asked F.came F.told (λ e. F.Input.reads e.feed.from)
+        (λ e. F.Input.told e.feed.from) ends.items files.old files.new }
 {
     while let Some(end) = ends.pop() {
         let FeedEnd { feed, outcome: _ } = end;

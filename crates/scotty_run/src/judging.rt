@@ -1,11 +1,9 @@
 //! The report that a check judges, and what is found of it.
-ghost use Rattle.std.specs.Prelude.{◌≡◌, ◌∷◌, ℕ, List, Ok, Err, IfOk, IfErr};
+ghost use Rattle.std.specs.Prelude.{◌≡◌, ◌∷◌, Ok, Err, IfOk, IfErr};
 ghost use Rattle.source_feed.specs.declared.whole_fault.WholeFault.{WholeFault};
-ghost use Rattle.scotty_run.specs.Called.{reading_run};
 ghost use Rattle.scotty_run.specs.Causes.{StopsAtSources};
-ghost use Rattle.scotty_run.specs.Judging.{IsFindingOfFiles, IsFoundBehind, IsFoundIn, StopsAtCheck, StopsAtReport, StopsBehindDefs, report_fault};
-ghost use Rattle.scotty_run.specs.Outside.{Ends, ReadsFile, WhereTold};
-ghost use Rattle.scotty_run.specs.Reading.{IsTextOf};
+ghost use Rattle.scotty_run.specs.Judging.{IsFindingOfFiles, IsFoundBehind, IsFoundIn, IsReportRead, StopsAtCheck, StopsAtReport, StopsBehindDefs, report_fault};
+ghost use Rattle.scotty_run.specs.Outside.{Ends, ReadsFile};
 
 use crate::definitions::read_definitions;
 use crate::reading::read_sources;
@@ -27,11 +25,9 @@ pub fn find<F: Files, R: Threads>(
     command: &CheckWords,
     files: &mut F,
 ) -> Result<Finding, Fault>
-    requires planned { F.may_open files.old
-        (command.now.defs ∷ command.now.report ∷ command.now.sources) }
-    ensures { Ends F.failed_opens F.failed_reads F.may_open F.out files.old files.new result
-        (IsFindingOfFiles (F.told files.old) command.now)
-        (StopsAtCheck (F.told files.old) command.now) }
+    ensures { Ends F.asked F.came F.told
+        (command.now.defs ∷ command.now.report ∷ command.now.sources) files.old files.new result
+        (IsFindingOfFiles command.now) (StopsAtCheck command.now) }
 {
     match read_definitions(alloc, files, command.defs) {
         Err(fault) => Err(fault),
@@ -47,10 +43,9 @@ fn find_behind<F: Files, R: Threads>(
     files: &mut F,
     defs: &Defs,
 ) -> Result<Finding, Fault>
-    requires planned { F.may_open files.old (command.now.report ∷ command.now.sources) }
-    ensures { Ends F.failed_opens F.failed_reads F.may_open F.out files.old files.new result
-        (IsFoundBehind (F.told files.old) command.now defs.now)
-        (StopsBehindDefs (F.told files.old) command.now defs.now) }
+    ensures { Ends F.asked F.came F.told (command.now.report ∷ command.now.sources)
+        files.old files.new result
+        (IsFoundBehind command.now defs.now) (StopsBehindDefs command.now defs.now) }
 {
     match read_report(alloc, files, command.report) {
         Err(fault) => Err(fault),
@@ -67,10 +62,9 @@ fn find_in<F: Files, R: Threads>(
     defs: &Defs,
     text: &[u8],
 ) -> Result<Finding, Fault>
-    requires planned { F.may_open files.old command.now.sources }
-    ensures { Ends F.failed_opens F.failed_reads F.may_open F.out files.old files.new result
-        (IsFoundIn (F.told files.old) command.now defs.now text.now)
-        (StopsAtSources (F.told files.old) (reading_run command.now) defs.now) }
+    ensures { Ends F.asked F.came F.told command.now.sources files.old files.new result
+        (IsFoundIn command.now defs.now text.now)
+        (StopsAtSources command.now.sources 0 defs.now) }
 {
     match read_sources(alloc, command, files, defs) {
         Err(fault) => Err(fault),
@@ -86,10 +80,8 @@ fn find_in<F: Files, R: Threads>(
 
 // The bytes of the report in the file of this name. The file is given back.
 fn read_report<F: Files>(alloc: Global, files: &mut F, name: &str) -> Result<Vec<u8>, Fault>
-    requires planned { (rest : List (List ℕ)) × F.may_open files.old (name.now ∷ rest) }
-    ensures { ReadsFile F.failed_opens F.failed_reads F.may_open F.out F.told name.now
-        files.old files.new result
-        (λ told text. WhereTold told (λ bytes. IsTextOf bytes text.items)) StopsAtReport }
+    ensures { ReadsFile F.asked F.came F.told name.now files.old files.new result
+        (λ opens text. IsReportRead opens text.items) (StopsAtReport name.now) }
 {
     match files.open_file(name) {
         Err(_) => Err(Fault::ReportOpen),

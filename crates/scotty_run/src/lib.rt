@@ -6,9 +6,9 @@
 #![tactic(auto)]
 
 mod command;
-mod deciding;
 mod definitions;
 mod gathering;
+mod in_memory;
 mod judging;
 mod making;
 mod opening;
@@ -19,7 +19,7 @@ mod way;
 mod words;
 
 pub use command::scotty;
-pub use deciding::refused_definitions_call_for_their_fault;
+pub use in_memory::report_is_of_what_files_tell;
 pub use status::Status;
 pub use way::Way;
 pub use words::{

@@ -101,9 +101,9 @@ fn standing_rows<L>(
 pub fn print_summary<K: Sink>(tuples: u64, rows: &[Row], sink: &mut K) -> Status
     ensures either { (result ≡ Status.Done) ⊎ (result ≡ Status.WriteFault) }
     ensures done { result ≡ Status.Done
-        → Appends K.written K.faults (summary_of tuples 5 rows.now) sink.old sink.new }
+        → Appends K.taken K.faults (summary_of tuples 5 rows.now) sink.old sink.new }
     ensures failed { result ≡ Status.WriteFault
-        → Fails K.written K.faults (summary_of tuples 5 rows.now) sink.old sink.new }
+        → Fails K.taken K.faults (summary_of tuples 5 rows.now) sink.old sink.new }
 {
     match write_summary(tuples, 5, rows, sink) {
         Ok(()) => Status::Done,

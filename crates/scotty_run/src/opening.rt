@@ -1,8 +1,8 @@
 //! All sources of a run are opened before one is read, and are given back.
-ghost use Rattle.std.specs.Prelude.{◌≡◌, ◌≤◌, ◌+◌, [], ◌∷◌, ℕ, List, length, map, string_bytes, IfOk, IfErr, OnOk, OnErr};
-ghost use Rattle.outside.specs.Outside.{Rose};
-ghost use Rattle.scotty_run.specs.Opening.{AreUnread, IsUnread, StopsAtOpening};
-ghost use Rattle.scotty_run.specs.Outside.{GivesBack, counts_of};
+ghost use Rattle.std.specs.Prelude.{◌≡◌, ◌≢◌, ◌≤◌, ◌++◌, [], ◌∷◌, ℕ, List, length, map, string_bytes, IfOk, IfErr, OnErr};
+ghost use Rattle.outside.specs.Outside.{refused};
+ghost use Rattle.scotty_run.specs.Opening.{AreOpened, IsUnread, StopsAtOpening};
+ghost use Rattle.scotty_run.specs.Outside.{GivesBack, OpensInOrder, opens_of};
 
 use emission_text::Fault;
 use outside::{Failed, Files};
@@ -19,18 +19,12 @@ pub fn open_sources<F: Files>(
     defs: &Defs,
 ) -> Result<Vec<FileFeed<F::Input>>, Fault>
     requires few { length names.now ≤ 16 }
-    requires planned { F.may_open files.old (map string_bytes names.now) }
-    ensures many { IfOk result (λ feeds. length feeds.items ≡ length names.now) }
-    ensures unread { IfOk result (λ feeds. AreUnread F.Input.rest F.Input.faults (F.told files.old)
-        (map string_bytes names.now) defs.now feeds.items) }
-    ensures opened { OnOk result (F.may_open files.new []) }
+    ensures opened { IfOk result (λ feeds. AreOpened F.Input.reads F.Input.told F.asked F.came
+        F.told (map string_bytes names.now) defs.now files.old files.new feeds.items) }
+    ensures files { OnErr result (OpensInOrder F.asked F.came F.told (map string_bytes names.now)
+        files.old files.new) }
     ensures stopped { IfErr result (StopsAtOpening (map string_bytes names.now)
-        (counts_of F.failed_opens F.failed_reads F.may_open files.old files.new)) }
-    ensures out { IfOk result (λ feeds. F.out files.new ≡ F.out files.old + length feeds.items) }
-    ensures none_out { OnErr result (F.out files.new ≡ F.out files.old) }
-    ensures opens { F.failed_opens files.old ≤ F.failed_opens files.new }
-    ensures reads { F.failed_reads files.old ≤ F.failed_reads files.new }
-    ensures same { (which : List ℕ) → F.told files.new which ≡ F.told files.old which }
+        (opens_of F.asked F.came files.old files.new)) }
 {
     let mut feeds = match Vec::with_capacity(alloc, names.len()) {
         Ok(feeds) => feeds,
@@ -58,18 +52,12 @@ fn open_source<F: Files>(
     number: u16,
     defs: &Defs,
 ) -> Result<FileFeed<F::Input>, Failed>
-    requires planned { (rest : List (List ℕ)) × F.may_open files.old (name.now ∷ rest) }
-    ensures unread { IfOk result (IsUnread F.Input.rest F.Input.faults
+    ensures asked { F.asked files.new ≡ F.asked files.old ++ name.now ∷ [] }
+    ensures unread { IfOk result (IsUnread F.Input.reads F.Input.told (length (F.asked files.old))
         (F.told files.old name.now) number defs.now) }
-    ensures opened { (rest : List (List ℕ)) → F.may_open files.old (name.now ∷ rest)
-        → OnOk result (F.may_open files.new rest) }
-    ensures unopened { (names : List (List ℕ)) → F.may_open files.old names
-        → OnErr result (F.may_open files.new names) }
-    ensures out { OnOk result (F.out files.new ≡ F.out files.old + 1) }
-    ensures none_out { OnErr result (F.out files.new ≡ F.out files.old) }
-    ensures failed { OnErr result (Rose (F.failed_opens files.old) (F.failed_opens files.new)) }
-    ensures opens { F.failed_opens files.old ≤ F.failed_opens files.new }
-    ensures reads { F.failed_reads files.new ≡ F.failed_reads files.old }
+    ensures refused { OnErr result (F.came files.new (length (F.asked files.old)) ≡ refused) }
+    ensures others { (i : ℕ) → i ≢ length (F.asked files.old)
+        → F.came files.new i ≡ F.came files.old i }
     ensures same { (which : List ℕ) → F.told files.new which ≡ F.told files.old which }
 {
     match files.open_file(name) {
@@ -80,9 +68,8 @@ fn open_source<F: Files>(
 
 /// Gives the sources of these feeds back.
 pub fn close_feeds<F: Files>(files: &mut F, mut feeds: Vec<FileFeed<F::Input>>)
-    requires { length feeds.items ≤ F.out files.old }
-    ensures { GivesBack F.failed_opens F.failed_reads F.may_open F.out F.told
-        feeds.items (λ f. F.Input.faults f.from) files.old files.new }
+    ensures { GivesBack F.asked F.came F.told (λ f. F.Input.reads f.from)
+        (λ f. F.Input.told f.from) feeds.items files.old files.new }
 {
     while let Some(feed) = feeds.pop() {
         files.give_back(feed.into_source());

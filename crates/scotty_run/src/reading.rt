@@ -1,11 +1,10 @@
 //! The sources of a check are read whole, one after another.
-ghost use Rattle.std.specs.Prelude.{◌≡◌, ◌≤◌, length, IfOk, IfErr, IfSome, IsErrOf};
+ghost use Rattle.std.specs.Prelude.{◌≡◌, ◌≤◌, length, IfOk, IfErr, IsErrOf, OnOk};
 ghost use Rattle.outside.specs.Outside.{Rose};
 ghost use Rattle.report_check.specs.Findings.{lists_of};
-ghost use Rattle.scotty_run.specs.Called.{reading_run};
-ghost use Rattle.scotty_run.specs.Causes.{StopsAtSources};
+ghost use Rattle.scotty_run.specs.Causes.{AreAllRead, StopsAtSources};
 ghost use Rattle.scotty_run.specs.Outside.{Ends};
-ghost use Rattle.scotty_run.specs.Reading.{AreDrained, AreFresh, AreReadOf, IsAllOf, IsFirstTrouble, IsFresh, ShowsRefusal};
+ghost use Rattle.scotty_run.specs.Reading.{AreDrained, AreFresh, AreSameFeeds, IsDrained, IsFirstTrouble, IsFresh, IsSameFeed, IsStuck};
 
 use crate::opening::{close_feeds, open_sources};
 use crate::settling::fault_of;
@@ -24,10 +23,9 @@ pub fn read_sources<F: Files>(
     files: &mut F,
     defs: &Defs,
 ) -> Result<Vec<Vec<Entry>>, Fault>
-    requires planned { F.may_open files.old command.now.sources }
-    ensures { Ends F.failed_opens F.failed_reads F.may_open F.out files.old files.new result
-        (λ all. AreReadOf (F.told files.old) defs.now command.now.sources (lists_of all.items))
-        (StopsAtSources (F.told files.old) (reading_run command.now) defs.now) }
+    ensures { Ends F.asked F.came F.told command.now.sources files.old files.new result
+        (λ opens all. AreAllRead command.now.sources defs.now opens (lists_of all.items))
+        (StopsAtSources command.now.sources 0 defs.now) }
 {
     match open_sources(alloc, files, command.sources, defs) {
         Err(fault) => Err(fault),
@@ -45,12 +43,13 @@ fn drain_all<S: Source>(
     feeds: &mut Vec<FileFeed<S>>,
 ) -> Result<Vec<Vec<Entry>>, Fault>
     requires few { length feeds.old.items ≤ 16 }
-    requires fresh { AreFresh S.rest feeds.old.items }
-    ensures many { length feeds.new.items ≡ length feeds.old.items }
+    requires fresh { AreFresh S.reads S.told feeds.old.items }
+    ensures same { AreSameFeeds S.reads S.told feeds.old.items feeds.new.items }
     ensures whole { IfOk result (λ all. length all.items ≡ length feeds.old.items) }
-    ensures drained { IfOk result (λ all. AreDrained S.rest feeds.old.items (lists_of all.items)) }
+    ensures drained { IfOk result (λ all. AreDrained S.reads S.told
+        feeds.old.items feeds.new.items (lists_of all.items)) }
     ensures trouble { IfErr result
-        (IsFirstTrouble S.rest S.faults feeds.old.items feeds.new.items) }
+        (IsFirstTrouble S.reads S.told feeds.old.items feeds.new.items) }
 {
     let mut all = Vec::new(alloc);
     for i in 0..feeds.len() {
@@ -69,9 +68,10 @@ fn drain_all<S: Source>(
 // All entries of a feed, up to its end.
 fn drain<F: Feed>(alloc: Global, feed: &mut F) -> Result<Vec<Entry>, FeedFault>
     requires { IsFresh (F.state feed.old) }
-    ensures all { IfOk result (λ all. IfSome (F.state feed.old).rest
-        (λ stream. IsAllOf stream all.items)) }
-    ensures refused { IfErr result (λ fault. IfSome (F.state feed.old).rest (ShowsRefusal fault)) }
+    ensures same { IsSameFeed (F.state feed.old) (F.state feed.new) }
+    ensures all { IfOk result (λ all. IsDrained (F.state feed.new) all.items) }
+    ensures quiet { OnOk result (F.faults feed.new ≡ F.faults feed.old) }
+    ensures stuck { IfErr result (IsStuck (F.state feed.new)) }
     ensures read { IsErrOf result FeedFault.Read → Rose (F.faults feed.old) (F.faults feed.new) }
 {
     let mut all = Vec::new(alloc);

@@ -10,19 +10,13 @@ use Rattle.csv.specs.Reading.{default_config, records, strip_bom}
 use Rattle.stream_base.specs.Model.What.{is_end}
 use Rattle.stream_base.specs.declared.what.What.{What}
 use Rattle.stream_base.specs.declared.what.What.TheVariants.{Tuple, Mark, Water, Idle, End}
-use Rattle.source_feed.specs.FeedFault.{refusal_of}
 use Rattle.source_feed.specs.FeedState.{Closes}
-use Rattle.source_feed.specs.FileFeedState.{source_stream, state_unread, state_unreadable}
-use Rattle.source_feed.specs.declared.feed_fault.FeedFault.{FeedFault}
-use Rattle.source_feed.specs.declared.feed_fault.FeedFault.TheVariants.{Read, TooLong, Row, NoMemory as FeedMemory}
-use Rattle.source_feed.specs.declared.whole.TheConstants.{SOURCE_MAX}
-use Rattle.source_feed.specs.Gives.{Gives, Refuses}
 use Rattle.source_feed.specs.Pace.{as_waters, made_by, paced, paced_over, stream_from, told_by, told_from, waking_by, with_waiting}
 use Rattle.source_feed.specs.Record.{◌>>=◌, field, idle_of, is_empty, is_header, key_in, mark_of, time_in, tuple_of, value_in, water_of, what_of}
 use Rattle.source_feed.specs.Events.{Events, ending, stream_of, events_of, events_from, with_record}
 use Rattle.source_feed.specs.RowsView.{AreInner, WhileOpen, state_at}
 use Rattle.source_feed.specs.EventsLeft.{events_after}
-use Rattle.source_feed.specs.Stream.{IsWhole, Stream, Refusal, only_refused, too_long, entry_of, is_inner}
+use Rattle.source_feed.specs.Stream.{IsWhole, Stream, Refusal, entry_of, is_inner}
 use Rattle.source_feed.specs.declared.pace.Pace.{Pace}
 use Rattle.source_feed.specs.declared.row_why.RowWhy.{RowWhy}
 use Rattle.source_feed.specs.declared.row_why.RowWhy.TheVariants.{Kind, Fields}
@@ -157,34 +151,3 @@ closes_at pace waiting number records Open w = whole_stream pace waiting (events
 closes_at pace waiting number records Ended w = refl
 closes_at pace waiting number records (Stopped (Refused n why)) w = refl
 closes_at pace waiting number records (Stopped NoMemory) w = tt
-
--- the stream of a source with these bytes
-whole_in : (source every disorder : ℕ) (bytes : List ℕ) → IsWhole source false (source_stream source every disorder bytes)
-whole_in source every disorder bytes = either (nat_le (length bytes) SOURCE_MAX) (whole_bytes source every disorder bytes)
-  where
-    either : (b : Bool) → IsWhole source false (stream_of source every disorder bytes) → IsWhole source false (if b then stream_of source every disorder bytes else only_refused too_long)
-    either true h = h
-    either false h = refl
-
--- a feed whose source wasn't read closes rightly
-pub closes_unread : (source every disorder : ℕ) (bytes : Option (List ℕ)) → Closes (state_unread source every disorder bytes)
-closes_unread source every disorder None = tt
-closes_unread source every disorder (Some bytes) = whole_in source every disorder bytes
-
--- one whose source couldn't be read, too
-pub closes_unreadable : (source : ℕ) (fault : FeedFault) → Closes (state_unreadable source fault)
-closes_unreadable source Read = tt
-closes_unreadable source TooLong = refl
-closes_unreadable source (Row number why) = refl
-closes_unreadable source FeedMemory = tt
-
--- where a source can't be read, its feed refuses
-pub gives_unreadable : (source every disorder : ℕ) (bytes : Option (List ℕ)) (fault : FeedFault)
-    → Refuses refusal_of (state_unread source every disorder bytes) fault (state_unreadable source fault)
-    → Gives refusal_of (state_unread source every disorder bytes) (Err fault) (state_unreadable source fault)
-gives_unreadable source every disorder bytes fault refuses = record {
-  source = refl;
-  whole = closes_unread source every disorder bytes;
-  whole_after = closes_unreadable source fault;
-  outcome = refuses;
-}

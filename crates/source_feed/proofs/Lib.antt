@@ -7,3 +7,4 @@ pub mod GeneratedExamples
 pub mod Giving
 pub mod Made
 pub mod MadeGiving
+mod Feeding

@@ -1,6 +1,7 @@
 -- The feed of a source by its fields.
 use Rattle.std.specs.Prelude.{◌≡◌, ℕ, ⊤}
 use Rattle.source_feed.specs.FileFeedState.{FileFeedState, Reading, unread, giving, unreadable}
+use Rattle.source_feed.specs.EntryLogs.{entries_in}
 use Rattle.source_feed.specs.declared.file_feed.State.{State}
 use Rattle.source_feed.specs.declared.file_feed.State.TheVariants.{Unread, Open, Stopped}
 use Rattle.source_feed.specs.declared.file_feed.FileFeed.TheInside.{Inside}
@@ -18,10 +19,5 @@ file_feed_state a =
       every = a.every;
       disorder = a.disorder;
       reading = reading_of a.state;
+      gave = entries_in a.gave;
     }
-
--- the rows are those of this source
-abbrev pub HasRowsOf : ℕ → State → Type 0
-HasRowsOf source Unread = ⊤
-HasRowsOf source (Open rows) = (rows.value).source ≡ source
-HasRowsOf source (Stopped fault) = ⊤

@@ -14,3 +14,6 @@ pub mod Whole
 pub mod Generated
 pub mod Generating
 pub mod MadeFeedView
+pub mod EntryLogs
+pub mod FeedView
+pub mod MadeView

@@ -9,7 +9,7 @@ use Rattle.source_feed.specs.RowsView.{AreInner}
 use Rattle.source_feed.specs.Stream.{Stream, entry_of, nothing_left}
 use Rattle.source_feed.specs.declared.feed_fault.FeedFault.{FeedFault}
 use Rattle.source_feed.specs.declared.generator.Generator.{Generator}
-use Rattle.source_feed.specs.declared.made_feed.MadeFeed.TheInside.{Inside}
+use Rattle.source_feed.specs.declared.made_feed.Making.TheInside.{Inside}
 
 -- what is left of the stream: what waits, what the generator has left, and the end; nothing once that was given
 abbrev pub rest_of : Generator → List What → Bool → Stream

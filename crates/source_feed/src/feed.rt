@@ -1,7 +1,6 @@
 ghost use Rattle.std.specs.Prelude.{ℕ};
-ghost use Rattle.source_feed.specs.FeedFault.{refusal_of};
-ghost use Rattle.source_feed.specs.FeedState.{FeedState};
-ghost use Rattle.source_feed.specs.Gives.{CountsReads, Gives};
+ghost use Rattle.source_feed.specs.FeedView.{FeedView, Steps};
+ghost use Rattle.source_feed.specs.Gives.{CountsReads};
 ghost use Rattle.source_feed.specs.declared.feed_fault.FeedFault.{FeedFault};
 
 use crate::feed_fault::FeedFault;
@@ -9,9 +8,8 @@ use stream_base::Entry;
 
 /// The reader of one source: it gives the source's entries one by one.
 pub trait Feed {
-    // The source's number, whether its end was given, the fault that was answered, and the stream
-    // that is left, where the feed tells it.
-    ghost state: { Self → FeedState FeedFault };
+    // What it gave so far, and what is known of its source.
+    ghost state: { Self → FeedView };
 
     // How many reads have failed.
     ghost faults: { Self → ℕ };
@@ -22,7 +20,7 @@ pub trait Feed {
     /// many bytes, `Row` where the next record is refused, and `NoMemory` where memory ran out.
     /// After a fault each later call answers it.
     fn next(&mut self) -> Result<Option<Entry>, FeedFault>
-        ensures gives { Gives refusal_of (state self.old) result (state self.new) }
+        ensures gives { Steps (state self.old) result (state self.new) }
         ensures counts { CountsReads (state self.old).answered
             (faults self.old) result (faults self.new) };
 }

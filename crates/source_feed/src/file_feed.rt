@@ -1,11 +1,13 @@
-ghost use Rattle.std.specs.Prelude.{◌≡◌, ◌≢◌, None, IfOk, IfErr, option_map};
+ghost use Rattle.std.specs.Prelude.{◌≡◌, ◌≢◌, ◌++◌, [], None, Some, false, IfOk, IfErr, IfNone, option_map};
+ghost use Rattle.source_feed.specs.EntryLogs.{entries_in, entries_of};
 ghost use Rattle.source_feed.specs.FeedFault.{refusal_of};
-ghost use Rattle.source_feed.specs.FeedState.{Closes};
-ghost use Rattle.source_feed.specs.FileFeedState.{feed_state, state_of_rows, state_unread, state_unreadable, unread_feed};
-ghost use Rattle.source_feed.specs.Gives.{CountsReads, Gives, GoesOnAs, Refuses};
+ghost use Rattle.source_feed.specs.FileFeedState.{IsAt, feed_view, giving, state_of_rows, unread_feed, unreadable};
+ghost use Rattle.source_feed.specs.Gives.{CountsReads, Gives};
 
+use crate::entry_log::{EntryLog, with_entry};
 use crate::feed::Feed;
 use crate::feed_fault::FeedFault;
+use crate::row_fault::RowFault;
 use crate::rows::Rows;
 use crate::whole::{SOURCE_MAX, read_whole};
 use outside::Source;
@@ -23,32 +25,35 @@ enum State {
 
 /// The feed of a source of the outside. It reads the source whole at the first call of `next`. A
 /// feed isn't `Drop`: `into_source` gives the source back.
-pub struct FileFeed<S> {
+pub struct FileFeed<S: Source> {
     alloc: Global,
     source: S,
     index: u16,
     every: u64,
     disorder: u64,
     state: State,
+    gave: EntryLog,
 }
 
-impl<S> Model for FileFeed<S> {
-    ghost use Rattle.source_feed.specs.FileFeedState.{FileFeedState};
-    ghost use Rattle.source_feed.specs.FileFeedView.{file_feed_state, HasRowsOf};
+impl<S: Source> Model for FileFeed<S> {
+    ghost use Rattle.source_feed.specs.EntryLogs.{entries_in};
+    ghost use Rattle.source_feed.specs.FileFeedState.{FileFeedState, IsAt};
+    ghost use Rattle.source_feed.specs.FileFeedView.{file_feed_state, reading_of};
 
     ghost Value = { FileFeedState S };
 
     ghost view = { file_feed_state };
 
-    ghost invariant = { λ a. HasRowsOf a.index a.state };
+    ghost invariant = { λ a. IsAt a.index a.every a.disorder (S.reads a.source)
+        (entries_in a.gave) (reading_of a.state) };
 }
 
 impl<S: Source> FileFeed<S> {
     /// The feed of this source, which has this number; the definitions say when its watermarks are
     /// made.
     pub fn new(alloc: Global, source: S, index: u16, defs: &Defs) -> FileFeed<S>
-        ensures value { result ≡ unread_feed source index defs.now }
-        ensures whole { Closes (feed_state S.rest result) }
+        requires fresh { ((S.reads source).given ≡ []) × ((S.reads source).ended ≡ false) }
+        ensures { result ≡ unread_feed source index defs.now }
     {
         FileFeed {
             alloc,
@@ -57,6 +62,7 @@ impl<S: Source> FileFeed<S> {
             every: defs.every(),
             disorder: defs.disorder(),
             state: State::Unread,
+            gave: EntryLog::Start,
         }
     }
 
@@ -71,19 +77,20 @@ impl<S: Source> FileFeed<S> {
             every: _,
             disorder: _,
             state: _,
+            gave: _,
         } = self;
         source
     }
 }
 
 impl<S: Source> Feed for FileFeed<S> {
-    ghost state = { feed_state S.rest };
+    ghost state = { feed_view S.reads S.told };
 
-    ghost faults = { λ f. S.faults f.from };
+    ghost faults = { λ f. (S.reads f.from).faults };
 
     fn next(&mut self) -> Result<Option<Entry>, FeedFault> {
         match &mut self.state {
-            State::Open(rows) => next_entry(rows),
+            State::Open(rows) => next_entry(rows, &mut self.gave),
             State::Stopped(fault) => Err(*fault),
             State::Unread => {
                 match read_rows(
@@ -94,7 +101,7 @@ impl<S: Source> Feed for FileFeed<S> {
                     self.disorder,
                 ) {
                     Ok(mut rows) => {
-                        let next = next_entry(&mut rows);
+                        let next = next_entry(&mut rows, &mut self.gave);
                         self.state = State::Open(rows);
                         next
                     }
@@ -108,7 +115,7 @@ impl<S: Source> Feed for FileFeed<S> {
     }
 }
 
-// The entries of a source, which is read whole. Their reader is large, so it stays in one place,
+// The rows of a source, which is read whole. Their reader is large, so it stays in one place,
 // and a call of `next` that gives one of them doesn't pay for its making.
 #[inline(never)]
 fn read_rows<S: Source>(
@@ -118,11 +125,17 @@ fn read_rows<S: Source>(
     every: u64,
     disorder: u64,
 ) -> Result<Box<Rows>, FeedFault>
-    ensures fresh { let unread = state_unread index every disorder (S.rest source.old) in
-        IfOk result (λ rows. GoesOnAs unread (state_of_rows rows.value)) }
-    ensures refused { let unread = state_unread index every disorder (S.rest source.old) in
-        IfErr result (λ fault. Refuses refusal_of unread fault (state_unreadable index fault)) }
-    ensures counts { CountsReads None (S.faults source.old) result (S.faults source.new) }
+    requires fresh { (S.reads source.old).given ≡ [] }
+    ensures rows { IfOk result (λ rows. IsAt index every disorder (S.reads source.new)
+        [] (giving rows.value)) }
+    ensures start { IfOk result (λ rows. ((rows.value).ended ≡ false)
+        × ((rows.value).answered ≡ None)) }
+    ensures stopped { IfErr result (λ fault. IsAt index every disorder (S.reads source.new)
+        [] (unreadable fault)) }
+    ensures place { (S.reads source.new).place ≡ (S.reads source.old).place }
+    ensures told { S.told source.new ≡ S.told source.old }
+    ensures counts { CountsReads None
+        (S.reads source.old).faults result (S.reads source.new).faults }
 {
     let bytes = read_whole(alloc, source, SOURCE_MAX)?;
     let rows = Rows::new(alloc, bytes, index, every, disorder)?;
@@ -132,13 +145,19 @@ fn read_rows<S: Source>(
     }
 }
 
-// The next entry.
-fn next_entry(rows: &mut Rows) -> Result<Option<Entry>, FeedFault>
+// The next entry, which is logged.
+fn next_entry(rows: &mut Rows, gave: &mut EntryLog) -> Result<Option<Entry>, FeedFault>
     ensures gives { Gives refusal_of (state_of_rows rows.old) result (state_of_rows rows.new) }
+    ensures logged { entries_in gave.new ≡ entries_in gave.old ++ entries_of result }
+    ensures lost { IfNone (rows.new).rest ((rows.new).answered ≡ Some RowFault.NoMemory) }
     ensures not_read { IfErr result (λ fault. fault ≢ FeedFault.Read) }
 {
     match rows.next() {
-        Ok(next) => Ok(next),
+        Ok(Some(entry)) => {
+            *gave = with_entry(gave, &entry);
+            Ok(Some(entry))
+        }
+        Ok(None) => Ok(None),
         Err(fault) => Err(FeedFault::from(fault)),
     }
 }

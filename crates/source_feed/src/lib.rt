@@ -8,6 +8,7 @@
 //! reason. A generated source's entries are those that the definition deals it, and never refused.
 #![tactic(auto)]
 
+mod entry_log;
 mod event;
 mod feed;
 mod feed_fault;

@@ -1,10 +1,13 @@
-ghost use Rattle.std.specs.Prelude.{◌≡◌, ◌≤◌, ◌<◌, None, Some, false, OnErr};
+ghost use Rattle.std.specs.Prelude.{◌≡◌, ◌≤◌, ◌<◌, [], IsSome, None, Some, false, OnErr};
 ghost use Rattle.source_feed.specs.FeedFault.{refusal_of};
 ghost use Rattle.source_feed.specs.FeedState.{Closes};
 ghost use Rattle.source_feed.specs.Generated.{IsMadeSource, made_stream};
+ghost use Rattle.source_feed.specs.FeedView.{Steps};
 ghost use Rattle.source_feed.specs.Gives.{CountsReads, Gives};
+ghost use Rattle.source_feed.specs.MadeView.{no_origin};
 ghost use Rattle.source_feed.specs.Stream.{entry_of};
 
+use crate::entry_log::{EntryLog, with_entry};
 use crate::feed::Feed;
 use crate::feed_fault::FeedFault;
 use crate::generator::Generator;
@@ -15,16 +18,15 @@ use stream_base::{Entry, What};
 /// The most tuples of a generated input.
 pub const MADE_ROWS_MAX: u64 = 1_000_000;
 
-/// The feed of one source of the generated input, whose tuples are drawn by a generator of numbers
-/// and dealt to the sources in turn. It needs no memory and never answers a fault.
+// The entries of one source of the generated input, as they are made.
 #[derive(Drop)]
-pub struct MadeFeed {
+pub(crate) struct Making {
     generator: Generator,
     waiting: Waiting,
     ended: bool,
 }
 
-impl Model for MadeFeed {
+impl Model for Making {
     ghost use Rattle.source_feed.specs.FeedState.{FeedState};
     ghost use Rattle.source_feed.specs.MadeFeedView.{made_feed_state, IsMaking};
     ghost use Rattle.source_feed.specs.declared.feed_fault.FeedFault.{FeedFault};
@@ -36,10 +38,10 @@ impl Model for MadeFeed {
     ghost invariant = { IsMaking };
 }
 
-impl MadeFeed {
+impl Making {
     /// The feed of the source `index` of the input of `rows` tuples that this seed generates for so
     /// many sources. The input has 1 to 1,000,000 tuples and 1 to 16 sources, numbered from 0.
-    pub fn new(seed: u64, rows: u64, sources: u16, index: u16) -> MadeFeed
+    pub fn new(seed: u64, rows: u64, sources: u16, index: u16) -> Making
         requires { IsMadeSource rows sources index }
         ensures value { result ≡ record {
           source = index;
@@ -49,7 +51,7 @@ impl MadeFeed {
         } }
         ensures whole { Closes result }
     {
-        MadeFeed {
+        Making {
             generator: Generator::start(seed, rows, sources, index),
             waiting: Waiting::nothing(),
             ended: false,
@@ -67,14 +69,10 @@ impl MadeFeed {
     }
 }
 
-impl Feed for MadeFeed {
-    ghost state = { λ feed. feed };
-
-    ghost faults = { λ _. 0 };
-
+impl Making {
     fn next(&mut self) -> Result<Option<Entry>, FeedFault>
         ensures gives { Gives refusal_of self.old result self.new }
-        ensures counts { CountsReads (self.old).answered 0 result 0 }
+        ensures told { IsSome (self.new).rest }
         ensures never_refused { OnErr result ⊥ }
     {
         if let Some(what) = self.waiting.next() {
@@ -92,6 +90,67 @@ impl Feed for MadeFeed {
                 self.ended = true;
                 Ok(Some(self.entry(What::End)))
             }
+        }
+    }
+}
+
+/// The feed of one source of the generated input, whose tuples are drawn by a generator of numbers
+/// and dealt to the sources in turn. It needs no memory and never answers a fault.
+#[derive(Drop)]
+pub struct MadeFeed {
+    making: Making,
+    gave: EntryLog,
+}
+
+impl Model for MadeFeed {
+    ghost use Rattle.source_feed.specs.FeedView.{FeedView};
+    ghost use Rattle.source_feed.specs.MadeView.{IsUnlost, made_view};
+
+    ghost Value = { FeedView };
+
+    ghost view = { made_view };
+
+    ghost invariant = { λ a. IsUnlost a.making };
+}
+
+impl MadeFeed {
+    /// The feed of the source `index` of the input of `rows` tuples that this seed generates for so
+    /// many sources. The input has 1 to 1,000,000 tuples and 1 to 16 sources, numbered from 0.
+    pub fn new(seed: u64, rows: u64, sources: u16, index: u16) -> MadeFeed
+        requires { IsMadeSource rows sources index }
+        ensures { result ≡ record {
+          source = index;
+          origin = no_origin;
+          ended = false;
+          answered = None;
+          gave = [];
+          whole = Some (made_stream seed rows sources index);
+        } }
+    {
+        MadeFeed {
+            making: Making::new(seed, rows, sources, index),
+            gave: EntryLog::Start,
+        }
+    }
+}
+
+impl Feed for MadeFeed {
+    ghost state = { λ feed. feed };
+
+    ghost faults = { λ _. 0 };
+
+    fn next(&mut self) -> Result<Option<Entry>, FeedFault>
+        ensures gives { Steps self.old result self.new }
+        ensures counts { CountsReads (self.old).answered 0 result 0 }
+        ensures never_refused { OnErr result ⊥ }
+    {
+        match self.making.next() {
+            Ok(Some(entry)) => {
+                self.gave = with_entry(&self.gave, &entry);
+                Ok(Some(entry))
+            }
+            Ok(None) => Ok(None),
+            Err(fault) => Err(fault),
         }
     }
 }

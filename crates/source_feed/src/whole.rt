@@ -1,6 +1,6 @@
-ghost use Rattle.std.specs.Prelude.{◌≡◌, ◌≢◌, ◌≤◌, [], length, IfOk, IfErr, IfSome, IsErrOf, OnOk};
-ghost use Rattle.outside.specs.Outside.{Rose, with_front};
-ghost use Rattle.source_feed.specs.Whole.{PassesLimit};
+ghost use Rattle.std.specs.Prelude.{◌≡◌, ◌≢◌, ◌≤◌, length, true, IfOk, IfErr, IfSome, IsErrOf, OnOk};
+ghost use Rattle.outside.specs.Outside.{KeepsWord, Rose};
+ghost use Rattle.source_feed.specs.Whole.{GoesOn, PassesLimit, with_given};
 
 use crate::whole_fault::WholeFault;
 use outside::Source;
@@ -24,17 +24,19 @@ pub fn read_whole<S: Source>(
 ) -> Result<Vec<u8>, WholeFault>
     requires { limit ≤ SOURCE_MAX }
     ensures whole { IfOk result (λ bytes.
-        S.rest source.old ≡ with_front bytes.items (S.rest source.new)) }
-    ensures ends { OnOk result (IfSome (S.rest source.new) (λ left. left ≡ [])) }
+        S.reads source.new ≡ with_given bytes.items true (S.reads source.old)) }
     ensures within { IfOk result (λ bytes. length bytes.items ≤ limit) }
     ensures too_long { IsErrOf result WholeFault.TooLong
-        → PassesLimit limit (S.rest source.old) (S.rest source.new) }
+        → PassesLimit limit (S.reads source.old) (S.reads source.new) }
     ensures read { IsErrOf result WholeFault.Read
-        → Rose (S.faults source.old) (S.faults source.new) }
-    ensures quiet { OnOk result (S.faults source.new ≡ S.faults source.old) }
-    ensures quiet_fault { IfErr result (λ fault.
-        fault ≢ WholeFault.Read → S.faults source.new ≡ S.faults source.old) }
-    ensures never_falls { S.faults source.old ≤ S.faults source.new }
+        → Rose (S.reads source.old).faults (S.reads source.new).faults }
+    ensures quiet_fault { IfErr result (λ fault. fault ≢ WholeFault.Read
+        → (S.reads source.new).faults ≡ (S.reads source.old).faults) }
+    ensures on { GoesOn (S.reads source.old) (S.reads source.new) }
+    ensures told { S.told source.new ≡ S.told source.old }
+    ensures word { OnOk result (IfSome (S.told source.new) (KeepsWord (S.reads source.new))) }
+    ensures word_too_long { IsErrOf result WholeFault.TooLong
+        → IfSome (S.told source.new) (KeepsWord (S.reads source.new)) }
 {
     let mut bytes = Vec::new(alloc);
     let mut piece = [0; PIECE];

@@ -1,21 +1,29 @@
 //! The clauses of a feed tell which entries it gives in all.
 
-ghost use Rattle.std.specs.Prelude.{◌≡◌, Some, None, IfOk, IfErr, IfSome};
+ghost use Rattle.std.specs.Prelude.{◌≡◌, ◌++◌, List, Some, None, IfOk, IfErr, IfSome};
 ghost use Rattle.source_feed.specs.FeedFault.{refusal_of};
+ghost use Rattle.source_feed.specs.FeedView.{given_then};
 ghost use Rattle.source_feed.specs.FileFeedState.{source_stream};
 ghost use Rattle.source_feed.specs.Generated.{IsMadeSource, made_entries};
+ghost use Rattle.source_feed.specs.Stream.{StaysTold};
+ghost use Rattle.stream_base.specs.declared.entry.Entry.{Entry};
 
-use outside::MemSource;
+use outside::{Files, MemFiles, MemSource};
 use source_feed::{Feed, FeedFault, FileFeed, MadeFeed};
 use std::alloc::Global;
 use stream_base::{Defs, Entry};
 
-// All entries of a feed that hasn't given its end: those that it told, or the refusal that it told.
+// All entries that a feed still gives. With those that it gave before they are the stream of its
+// source, or those before the refusal are.
 pub fn all_of<F: Feed>(alloc: Global, feed: &mut F) -> Result<Vec<Entry>, FeedFault>
-    ensures given { IfOk result (λ entries. IfSome (F.state feed.old).rest (λ stream.
-        stream ≡ record { entries = entries.items; refusal = None })) }
+    ensures source { (F.state feed.new).source ≡ (F.state feed.old).source }
+    ensures origin { (F.state feed.new).origin ≡ (F.state feed.old).origin }
+    ensures seen { StaysTold (F.state feed.old).whole (F.state feed.new).whole }
+    ensures given { IfOk result (λ entries. (F.state feed.new).whole
+        ≡ Some (given_then ((F.state feed.old).gave ++ entries.items) None)) }
     ensures refused { IfErr result (λ fault. IfSome (refusal_of fault) (λ refusal.
-        IfSome (F.state feed.old).rest (λ stream. stream.refusal ≡ Some refusal))) }
+        (before : List Entry)
+        × ((F.state feed.new).whole ≡ Some (given_then before (Some refusal))))) }
 {
     let mut entries = Vec::new(alloc);
     'turns: for _ in 0..u64::MAX {
@@ -42,7 +50,7 @@ pub fn entries_of(alloc: Global, bytes: &[u8], defs: &Defs) -> Result<Vec<Entry>
 {
     let mut feed = FileFeed::new(alloc, MemSource::new(bytes, &[], 7), 0, defs);
     let entries = all_of(alloc, &mut feed);
-    let _faults = feed.into_source().into_faults();
+    MemFiles::new(&[], 1).give_back(feed.into_source());
     entries
 }
 

@@ -5,6 +5,8 @@
 #[cfg(test)]
 mod accepted;
 #[cfg(test)]
+mod counted;
+#[cfg(test)]
 mod cuts;
 #[cfg(test)]
 mod drained;

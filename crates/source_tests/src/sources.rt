@@ -1,5 +1,4 @@
-use crate::drained;
-use outside::MemSource;
+use crate::counted::CountedSource;
 use source_feed::{
     Feed, FeedFault, FileFeed, RowFault, RowWhy, Rows, WholeFault, read_whole, route,
 };
@@ -285,12 +284,12 @@ fn takes_keys_of_any_bytes_but_control_characters(rt: HostRuntime) -> Result<(),
 #[test]
 fn reads_a_source_whole_up_to_its_limit(rt: HostRuntime) -> Result<(), Fail> {
     for piece in 1..7 {
-        let mut source = MemSource::new(b"12345", &[], piece);
+        let mut source = CountedSource::new(b"12345", &[], piece);
         let whole = read_whole(rt.alloc(), &mut source, 5);
         assert_eq!(rt; source.into_faults(), 0);
         assert_eq!(rt; whole?.as_slice(), b"12345".as_slice());
 
-        let mut source = MemSource::new(b"123456789", &[], piece);
+        let mut source = CountedSource::new(b"123456789", &[], piece);
         let long = read_whole(rt.alloc(), &mut source, 4);
         let rest = read_whole(rt.alloc(), &mut source, 4);
         assert_eq!(rt; source.into_faults(), 0);
@@ -299,7 +298,7 @@ fn reads_a_source_whole_up_to_its_limit(rt: HostRuntime) -> Result<(), Fail> {
     }
     for call in 0..5 {
         let failing = [call];
-        let mut source = MemSource::new(b"12345678", &failing, 2);
+        let mut source = CountedSource::new(b"12345678", &failing, 2);
         let read = read_whole(rt.alloc(), &mut source, 8);
         assert_eq!(rt; source.into_faults(), 1);
         assert!(rt; matches!(read, Err(WholeFault::Read)));
@@ -342,7 +341,7 @@ fn feeds_a_source_whatever_its_pieces(rt: HostRuntime) -> Result<(), Fail> {
             source: 0,
             what: What::End,
         };
-        let source = MemSource::new(b"t,1,5,a\nw,2\n", &[], piece);
+        let source = CountedSource::new(b"t,1,5,a\nw,2\n", &[], piece);
         let mut feed = FileFeed::new(rt.alloc(), source, 0, &defs);
         for want in [Some(tuple), Some(water(2)), Some(end), None, None] {
             assert_eq!(rt; feed.next(), Ok(want));
@@ -357,7 +356,7 @@ fn answers_a_failed_read_again(rt: HostRuntime) -> Result<(), Fail> {
     let defs = made_never(rt.alloc())?;
     for call in 0..5 {
         let failing = [call];
-        let source = MemSource::new(b"t,1,5,a\nw,2\n", &failing, 3);
+        let source = CountedSource::new(b"t,1,5,a\nw,2\n", &failing, 3);
         let mut feed = FileFeed::new(rt.alloc(), source, 0, &defs);
         assert_eq!(rt; feed.next(), Err(FeedFault::Read));
         assert_eq!(rt; feed.next(), Err(FeedFault::Read));
@@ -369,7 +368,7 @@ fn answers_a_failed_read_again(rt: HostRuntime) -> Result<(), Fail> {
 #[test]
 fn answers_a_refused_record_again(rt: HostRuntime) -> Result<(), Fail> {
     let defs = made_never(rt.alloc())?;
-    let source = MemSource::new(b"w,1\nt,1,5\nw,2\n", &[], 8);
+    let source = CountedSource::new(b"w,1\nt,1,5\nw,2\n", &[], 8);
     let mut feed = FileFeed::new(rt.alloc(), source, 0, &defs);
     let fault = FeedFault::Row {
         number: 2,
@@ -396,7 +395,7 @@ pub fn is_sent<T: Send>(_value: &T) {}
 #[test]
 fn goes_to_another_thread(rt: HostRuntime) -> Result<(), Fail> {
     let defs = made_never(rt.alloc())?;
-    let feed = FileFeed::new(rt.alloc(), MemSource::new(b"", &[], 1), 0, &defs);
+    let feed = FileFeed::new(rt.alloc(), CountedSource::new(b"", &[], 1), 0, &defs);
     is_sent(&feed);
     assert_eq!(rt; feed.into_source().into_faults(), 0);
     Ok(())

@@ -7,4 +7,4 @@ use Rattle.emission_text.proofs.change_line.put_changes.Given as goal
 
 abbrev pub invariant-loop-change : goal.invariant-loop-change
 invariant-loop-change g l =
-    AppendsPrefix g.K.Sink.written g.K.Sink.faults (l.fn.out ++ flat_map (form_of l.form).line l.changes) (l.out ++ flat_map (form_of l.form).line (drop l.change-index l.changes)) l.fn.sink l.sink
+    AppendsPrefix g.K.Sink.taken g.K.Sink.faults (l.fn.out ++ flat_map (form_of l.form).line l.changes) (l.out ++ flat_map (form_of l.form).line (drop l.change-index l.changes)) l.fn.sink l.sink

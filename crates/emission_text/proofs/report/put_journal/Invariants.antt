@@ -7,4 +7,4 @@ use Rattle.emission_text.proofs.report.put_journal.Given as goal
 
 abbrev pub invariant-loop-position : goal.invariant-loop-position
 invariant-loop-position g l =
-    AppendsPrefix g.K.Sink.written g.K.Sink.faults (l.fn.out ++ lines_of (form_of l.form) l.shard) (l.out ++ lines_behind (form_of l.form) l.shard l.position) l.fn.sink l.sink
+    AppendsPrefix g.K.Sink.taken g.K.Sink.faults (l.fn.out ++ lines_of (form_of l.form) l.shard) (l.out ++ lines_behind (form_of l.form) l.shard l.position) l.fn.sink l.sink

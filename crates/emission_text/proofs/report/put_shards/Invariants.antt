@@ -6,4 +6,4 @@ use Rattle.emission_text.proofs.report.put_shards.Given as goal
 
 abbrev pub invariant-loop-k : goal.invariant-loop-k
 invariant-loop-k g l =
-    AppendsPrefix g.K.Sink.written g.K.Sink.faults (l.fn.out ++ lines_from (form_of l.form) 0 l.shards) (l.out ++ lines_from (form_of l.form) l.k (drop l.k l.shards)) l.fn.sink l.sink
+    AppendsPrefix g.K.Sink.taken g.K.Sink.faults (l.fn.out ++ lines_from (form_of l.form) 0 l.shards) (l.out ++ lines_from (form_of l.form) l.k (drop l.k l.shards)) l.fn.sink l.sink

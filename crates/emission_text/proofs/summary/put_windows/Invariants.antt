@@ -8,4 +8,4 @@ use Rattle.emission_text.proofs.summary.put_windows.Given as goal
 
 abbrev pub invariant-loop-window : goal.invariant-loop-window
 invariant-loop-window g l =
-    AppendsPrefix g.K.Sink.written g.K.Sink.faults (l.fn.out ++ windows_lines l.windows l.rows) (l.out ++ flat_map (window_lines l.rows) (range_with_len l.window (l.windows - l.window))) l.fn.sink l.sink
+    AppendsPrefix g.K.Sink.taken g.K.Sink.faults (l.fn.out ++ windows_lines l.windows l.rows) (l.out ++ flat_map (window_lines l.rows) (range_with_len l.window (l.windows - l.window))) l.fn.sink l.sink

@@ -4,7 +4,7 @@ use Rattle.emission_text.specs.Report.{form_of, report_text}
 use Rattle.emission_text.specs.Sending.{Appends, Fails}
 use Rattle.scotty_run.specs.Answer.{IsAnswer}
 use Rattle.scotty_run.specs.Causes.{AreShardsOfFiles}
-use Rattle.scotty_run.specs.Outside.{counts_of}
+use Rattle.scotty_run.specs.Outside.{opens_of}
 use Rattle.scotty_run.specs.Words.{Run}
 use Rattle.scotty_run.specs.declared.status.Status.TheVariants as status
 use Rattle.scotty_run.proofs.Answering.{reports, stops}
@@ -13,23 +13,21 @@ use Rattle.scotty_run.proofs.command.run.Goals as goal
 pub returns-in-Ok-clause-answer : goal.returns-in-Ok-clause-answer
 returns-in-Ok-clause-answer g c =
     let k = g.K.Sink in
-    let told = g.F.Files.told c.args.files.now in
     let run = c.args.command.now in
     let form : c.command.inside.form ≡ run.form = ap (λ (r : Run). r.form) c.command.view_is in
-    let counts = counts_of g.F.Files.failed_opens g.F.Files.failed_reads g.F.Files.may_open c.args.files.now c.fill_shards.new.files in
+    let opens = opens_of g.F.Files.asked g.F.Files.came c.args.files.now c.fill_shards.new.files in
     let says = c.print_report.ensures in
     let old = c.args.sink.now in
     let new = c.print_report.new.sink in
-    let done = subst (λ r. c.print_report.result ≡ status.Done → Appends k.written k.faults (report_text (form_of r) c.deref.result.now) old new) form says.done in
-    let failed = subst (λ r. c.print_report.result ≡ status.WriteFault → Fails k.written k.faults (report_text (form_of r) c.deref.result.now) old new) form says.failed in
-    let files = subst (λ (shards : List Sharded). AreShardsOfFiles told run shards) (sym c.deref.ensures.value) c.in-Ok.ensures.ok in
-    reports k.written k.faults told run counts old new c.deref.result.now files (files.filled).journals c.in-Ok.ensures.opened c.print_report.result says.either done failed
+    let done = subst (λ r. c.print_report.result ≡ status.Done → Appends k.taken k.faults (report_text (form_of r) c.deref.result.now) old new) form says.done in
+    let failed = subst (λ r. c.print_report.result ≡ status.WriteFault → Fails k.taken k.faults (report_text (form_of r) c.deref.result.now) old new) form says.failed in
+    let files = subst (λ (shards : List Sharded). AreShardsOfFiles run opens shards) (sym c.deref.ensures.value) c.in-Ok.ensures.ok in
+    reports k.taken k.faults run opens old new c.deref.result.now files c.print_report.result says.either done failed
 
 pub returns-in-Err-clause-answer : goal.returns-in-Err-clause-answer
 returns-in-Err-clause-answer g c =
     let k = g.K.Sink in
-    let told = g.F.Files.told c.args.files.now in
     let run = c.args.command.now in
-    let counts = counts_of g.F.Files.failed_opens g.F.Files.failed_reads g.F.Files.may_open c.args.files.now c.fill_shards.new.files in
-    subst (IsAnswer k.written k.faults run told counts c.args.sink.now c.print_fault.new.sink) (sym c.print_fault.ensures.status)
-    (stops k.written k.faults told run counts c.args.sink.now c.print_fault.new.sink c.in-Err.fault c.in-Err.ensures.stopped c.print_fault.ensures.said)
+    let opens = opens_of g.F.Files.asked g.F.Files.came c.args.files.now c.fill_shards.new.files in
+    subst (IsAnswer k.taken k.faults run opens c.args.sink.now c.print_fault.new.sink) (sym c.print_fault.ensures.status)
+    (stops k.taken k.faults run opens c.args.sink.now c.print_fault.new.sink c.in-Err.fault c.in-Err.ensures.stopped c.print_fault.ensures.said)

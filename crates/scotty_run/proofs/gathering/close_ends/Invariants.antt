@@ -6,7 +6,7 @@ use Rattle.scotty_run.proofs.gathering.close_ends.Given as goal
 abbrev pub invariant-loop-end : goal.invariant-loop-end
 invariant-loop-end g l =
     let f = g.F.Files in
-    AreGivenDownTo f.failed_opens f.failed_reads f.may_open f.out f.told (λ x. g.F.Input.Source.faults x.feed.from) l.ends.items l.initial.ends.items l.initial.files l.files
+    AreGivenDownTo f.asked f.came f.told (λ x. g.F.Input.Source.reads x.feed.from) (λ x. g.F.Input.Source.told x.feed.from) l.ends.items l.initial.ends.items l.initial.files l.files
 
 abbrev pub decreases-loop-end : goal.decreases-loop-end
 decreases-loop-end g l = vec_len l.ends

@@ -1,102 +1,120 @@
 -- The sources are opened, gathered and given back; what became of them is the run's answer.
-use Rattle.std.proofs.Common.{◌≡◌, ◌∙◌, ◌<◌, [], length, map, string_bytes, All, ap, arith, sym, subst}
+use Rattle.std.proofs.Common.{◌≡◌, ◌∙◌, ◌<◌, ℕ, length, map, string_bytes, All, ap, arith, refl, sym, subst}
 use Rattle.std.proofs.lemmas.List.{length-map}
-use Rattle.source_feed.specs.FileFeedState.{feed_state}
 use Rattle.fan_in.specs.Gathering.{AreGathered}
 use Rattle.fan_in.specs.declared.outcome.Outcome.TheVariants.{Done}
-use Rattle.scotty_run.specs.Outside.{counts_of}
+use Rattle.source_feed.specs.FileFeedState.{feed_view}
+use Rattle.scotty_run.specs.Outside.{GivesBack, opens_of}
 use Rattle.scotty_run.specs.Settling.{IsTrouble}
 use Rattle.scotty_run.specs.Words.{AreFew, run_of}
-use Rattle.scotty_run.proofs.Ends.{end_at, failed, fresh_feeds, gathering}
+use Rattle.scotty_run.proofs.Ends.{fresh_feeds, gathering, place_at, tells_at}
+use Rattle.scotty_run.proofs.Opened.{are_placed}
 use Rattle.scotty_run.proofs.Gathers.{shards_of, stops_at}
-use Rattle.scotty_run.proofs.Opened.{rose_since}
-use Rattle.scotty_run.proofs.Judged.{opening_stops}
+use Rattle.scotty_run.proofs.Returned.{came_back, opened_in_order, opening_stops}
 use Rattle.scotty_run.proofs.gathering.gather_sources.Goals as goal
-
-pub open_sources-requires-clause-planned : goal.open_sources-requires-clause-planned
-open_sources-requires-clause-planned g c lives bounds = rw (← c.run.view_is) at c.requires.planned
 
 pub gather-requires-clause-fresh : goal.gather-requires-clause-fresh
 gather-requires-clause-fresh g c lives bounds =
-    fresh_feeds g.F.Input.Source.rest g.F.Input.Source.faults (g.F.Files.told c.args.files.now) (map string_bytes c.run.inside.sources.now) c.args.defs c.in-Ok.feeds.items (length c.run.inside.sources.now) c.in-Ok.ensures.many c.in-Ok.ensures.unread
+    let f = g.F.Files in
+    let opened = c.in-Ok.ensures.opened in
+    let names = map string_bytes c.run.inside.sources.now in
+    fresh_feeds g.F.Input.Source.reads g.F.Input.Source.told (length (f.asked c.args.files.now)) (f.told c.args.files.now) names c.args.defs c.in-Ok.feeds.items (length c.run.inside.sources.now)
+    (opened.many ∙ length-map c.run.inside.sources.now string_bytes) opened.unread
 
-pub returns-in-Err-clause-ends : goal.returns-in-Err-clause-ends
-returns-in-Err-clause-ends g c =
+pub returns-in-Err : goal.returns-in-Err
+returns-in-Err g c =
     let f = g.F.Files in
     let w = c.run.inside in
     let run = run_of w.form w.defs.now w.shards w.way (map string_bytes w.sources.now) in
-    let counts = counts_of f.failed_opens f.failed_reads f.may_open c.args.files.now c.open_sources.new.files in
+    let opens = opens_of f.asked f.came c.args.files.now c.open_sources.new.files in
     rw (← c.run.view_is) record {
+      files = c.in-Err.ensures.files;
       ok = tt;
-      opened = tt;
-      stopped = opening_stops (f.told c.args.files.now) run c.args.defs counts c.in-Err.fault c.in-Err.ensures.stopped;
-      out = c.in-Err.ensures.none_out;
+      stopped = opening_stops run.sources run.shards c.args.defs opens c.in-Err.fault c.in-Err.ensures.stopped;
     }
 
-pub returns-clause-ends : goal.returns-clause-ends
-returns-clause-ends g c = record {
-  ok = tt;
-  opened = tt;
-  stopped = tt;
-  out = let a = c.in-Ok.ensures.out in let b = c.close_feeds.ensures.out in let n = ap (λ (v : _). length v.items) c.in-Err-gather.ensures.unstarted in omega (arith, a, b, n);
-}
-
-pub returns-in-Some-clause-ends : goal.returns-in-Some-clause-ends
-returns-in-Some-clause-ends g c =
+pub returns : goal.returns
+returns g c =
     let f = g.F.Files in
     let w = c.run.inside in
-    let rest = g.F.Input.Source.rest in
-    let faults = g.F.Input.Source.faults in
-    let told = f.told c.args.files.now in
+    let reads = g.F.Input.Source.reads in
+    let word = g.F.Input.Source.told in
+    let names = map string_bytes w.sources.now in
+    let old = c.args.files.now in
+    let mid = c.open_sources.new.files in
+    let new = c.close_feeds.new.files in
+    let opened = c.in-Ok.ensures.opened in
+    let feeds = c.in-Ok.feeds.items in
+    let given = c.in-Err-gather.field-0.feeds.items in
+    let are : given ≡ feeds = ap (λ (v : _). v.items) c.in-Err-gather.ensures.unstarted in
+    let closed = subst (λ fs. GivesBack f.asked f.came f.told (λ x. reads x.from) (λ x. word x.from) fs mid new) are c.close_feeds.ensures in
+    let inside : (i : ℕ) → i < length names → i < length feeds = λ i l. omega (arith, l, opened.many) in
+    rw (← c.run.view_is) record {
+      files = opened_in_order f.asked f.came f.told reads word names c.args.defs (λ x. x.from) feeds feeds old mid new opened opened.many
+          (λ i x l. are_placed reads word (length (f.asked old)) (f.told old) names c.args.defs feeds opened.unread i x (inside i l))
+          (λ i x l. (opened.unread i x (inside i l)).content) closed;
+      ok = tt;
+      stopped = tt;
+    }
+
+pub returns-in-Some : goal.returns-in-Some
+returns-in-Some g c =
+    let f = g.F.Files in
+    let w = c.run.inside in
+    let reads = g.F.Input.Source.reads in
+    let word = g.F.Input.Source.told in
     let run = run_of w.form w.defs.now w.shards w.way (map string_bytes w.sources.now) in
+    let old = c.args.files.now in
+    let mid = c.open_sources.new.files in
+    let new = c.close_ends.new.files in
+    let base = length (f.asked old) in
+    let opened = c.in-Ok.ensures.opened in
     let feeds = c.in-Ok.feeds.items in
     let ends = c.in-Ok-gather.field-0.ends.items in
     let shards = c.in-Ok-gather.field-0.shards.items in
     let size : length w.sources.now ≡ length run.sources = sym (length-map w.sources.now string_bytes) in
-    let all = c.in-Ok-gather.ensures.gathered in
-    let were = subst (λ n. AreGathered (feed_state rest) (λ f. faults f.from) c.args.defs n run.shards feeds shards ends) size all in
+    let were = subst (λ n. AreGathered (feed_view reads word) (λ x. (reads x.from).faults) c.args.defs n run.shards feeds shards ends) size c.in-Ok-gather.ensures.gathered in
     let limits = subst (λ n. AreFew n run.shards) size c.run.invariant in
-    let one_each = c.in-Ok.ensures.many ∙ size in
-    let unread = c.in-Ok.ensures.unread in
     let closed = c.close_ends.ensures in
-    let came = gathering rest faults told run c.args.defs feeds ends shards unread limits one_each were in
-    let counts = counts_of f.failed_opens f.failed_reads f.may_open c.args.files.now c.close_ends.new.files in
+    let place = place_at reads word base (f.told old) run c.args.defs feeds ends shards opened.unread limits opened.many were in
+    let tells = tells_at reads word base (f.told old) run c.args.defs feeds ends shards opened.unread limits opened.many were in
+    let came = came_back f.asked f.came f.told (λ x. reads x.feed.from) (λ x. word x.feed.from) ends (length run.sources) base mid new were.many_ends place closed in
+    let opens = opens_of f.asked f.came old new in
+    let gathered = gathering reads word base (f.told old) run c.args.defs feeds ends shards opened.unread limits opened.many were opens (closed.asked_same ∙ opened.in_order) refl came in
     let trouble = subst (λ es. IsTrouble (map (λ e. e.outcome) es) c.in-Some.fault) c.deref.ensures.value c.in-Some.ensures.some in
     rw (← c.run.view_is) record {
+      files = opened_in_order f.asked f.came f.told reads word run.sources c.args.defs (λ x. x.feed.from) feeds ends old mid new opened were.many_ends place tells closed;
       ok = tt;
-      opened = tt;
-      stopped = stops_at told run c.args.defs (map (λ e. e.outcome) ends) shards came counts
-          (λ i l is.
-          let e = end_at rest faults told run c.args.defs feeds ends shards unread limits one_each were i l in
-          let some = failed rest faults told run c.args.defs feeds ends shards unread limits one_each were i e l is in
-          let inside : i < length ends = let n = were.many_ends in omega (arith, l, n) in
-          rose_since counts.reads.before (f.failed_reads c.open_sources.new.files) counts.reads.after c.open_sources.ensures.reads (closed.failed i e inside some))
-          c.in-Some.fault trouble;
-      out = let a = c.in-Ok.ensures.out in let b = closed.out in let n = c.in-Ok.ensures.many in let m = all.many_ends in omega (arith, a, b, n, m);
+      stopped = stops_at run c.args.defs opens (map (λ e. e.outcome) ends) (map (λ e. e.feed.gave) ends) shards gathered c.in-Some.fault trouble;
     }
 
-pub returns-in-Ok-gather-clause-ends : goal.returns-in-Ok-gather-clause-ends
-returns-in-Ok-gather-clause-ends g c =
+pub returns-in-Ok-gather : goal.returns-in-Ok-gather
+returns-in-Ok-gather g c =
     let f = g.F.Files in
     let w = c.run.inside in
-    let rest = g.F.Input.Source.rest in
-    let faults = g.F.Input.Source.faults in
-    let told = f.told c.args.files.now in
+    let reads = g.F.Input.Source.reads in
+    let word = g.F.Input.Source.told in
     let run = run_of w.form w.defs.now w.shards w.way (map string_bytes w.sources.now) in
+    let old = c.args.files.now in
+    let mid = c.open_sources.new.files in
+    let new = c.close_ends.new.files in
+    let base = length (f.asked old) in
+    let opened = c.in-Ok.ensures.opened in
     let feeds = c.in-Ok.feeds.items in
     let ends = c.in-Ok-gather.field-0.ends.items in
     let shards = c.in-Ok-gather.field-0.shards.items in
     let size : length w.sources.now ≡ length run.sources = sym (length-map w.sources.now string_bytes) in
-    let all = c.in-Ok-gather.ensures.gathered in
-    let were = subst (λ n. AreGathered (feed_state rest) (λ f. faults f.from) c.args.defs n run.shards feeds shards ends) size all in
+    let were = subst (λ n. AreGathered (feed_view reads word) (λ x. (reads x.from).faults) c.args.defs n run.shards feeds shards ends) size c.in-Ok-gather.ensures.gathered in
     let limits = subst (λ n. AreFew n run.shards) size c.run.invariant in
-    let one_each = c.in-Ok.ensures.many ∙ size in
     let closed = c.close_ends.ensures in
-    let came = gathering rest faults told run c.args.defs feeds ends shards c.in-Ok.ensures.unread limits one_each were in
+    let place = place_at reads word base (f.told old) run c.args.defs feeds ends shards opened.unread limits opened.many were in
+    let tells = tells_at reads word base (f.told old) run c.args.defs feeds ends shards opened.unread limits opened.many were in
+    let came = came_back f.asked f.came f.told (λ x. reads x.feed.from) (λ x. word x.feed.from) ends (length run.sources) base mid new were.many_ends place closed in
+    let opens = opens_of f.asked f.came old new in
+    let gathered = gathering reads word base (f.told old) run c.args.defs feeds ends shards opened.unread limits opened.many were opens (closed.asked_same ∙ opened.in_order) refl came in
     let done = subst (λ es. All (λ o. o ≡ Done) (map (λ e. e.outcome) es)) c.deref.ensures.value c.in-None.ensures.none in
     rw (← c.run.view_is) record {
-      ok = shards_of told run c.args.defs (map (λ e. e.outcome) ends) shards came done;
-      opened = closed.planned [] c.in-Ok.ensures.opened;
+      files = opened_in_order f.asked f.came f.told reads word run.sources c.args.defs (λ x. x.feed.from) feeds ends old mid new opened were.many_ends place tells closed;
+      ok = shards_of run c.args.defs opens (map (λ e. e.outcome) ends) (map (λ e. e.feed.gave) ends) shards gathered done;
       stopped = tt;
-      out = let a = c.in-Ok.ensures.out in let b = closed.out in let n = c.in-Ok.ensures.many in let m = all.many_ends in omega (arith, a, b, n, m);
     }

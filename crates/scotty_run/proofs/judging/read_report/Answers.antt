@@ -1,50 +1,61 @@
--- What stops the reading of the report is told by the bytes that were read and by the counts.
-use Rattle.std.proofs.Common.{◌≡◌, ◌∙◌, ◌<◌, ◌∷◌, ℕ, List, Option, subst, arith}
-use Rattle.std.specs.Prelude.{IfOk, IsErrOf}
-use Rattle.source_feed.specs.Whole.{PassesLimit}
-use Rattle.source_feed.specs.declared.whole_fault.WholeFault.TheVariants.{Read, TooLong}
+-- What stops the reading of the report is told by the bytes that were read.
+use Rattle.std.proofs.Common.{◌≡◌, ◌∙◌, ◌+◌, ℕ, length, ap, sym, subst, arith}
+use Rattle.outside.specs.Outside.{KeepsWord, back}
+use Rattle.std.specs.Prelude.{IfSome}
 use Rattle.source_feed.specs.declared.whole.TheConstants.{SOURCE_MAX}
-use Rattle.outside.specs.Outside.{Rose, with_front}
-use Rattle.scotty_run.specs.Outside.{counts_of}
-use Rattle.scotty_run.proofs.Judged.{report_stops, text_is_told}
-use Rattle.scotty_run.proofs.Told.{on_ok}
+use Rattle.scotty_run.specs.Outside.{IsOver, opens_of}
+use Rattle.scotty_run.proofs.Returned.{one_in_order}
+use Rattle.scotty_run.proofs.WholeFiles.{IsReadSo, read_so, report_read, report_stop}
 use Rattle.scotty_run.proofs.judging.read_report.Goals as goal
 
 pub returns-in-Err : goal.returns-in-Err
 returns-in-Err g c =
+    let f = g.F.Files in
     let opened = c.open_file.ensures in
+    let old = c.args.files.now in
+    let new = c.open_file.new.self in
+    let name = c.args.name.now in
+    let refused = c.in-Err.ensures.refused in
+    let here : length (f.asked old) + 0 ≡ length (f.asked old) = omega arith in
     record {
-      ok = tt;
-      opened = λ rest planned. tt;
-      stopped = λ rest planned. (c.in-Err.ensures.failed, c.in-Err.ensures.unopened (c.args.name.now ∷ rest) planned);
-      opens = opened.never_falls;
-      reads = let a = opened.reads in omega (arith, a);
-      out = c.in-Err.ensures.none_out;
-      same = opened.same;
+      opened = opened.asked;
+      ends = record {
+        files = one_in_order f.asked f.came f.told name old new opened.asked
+            (subst (IsOver (f.told old name)) (sym refused) tt)
+            (λ i l. opened.others i (λ e. omega (arith, e, l))) opened.same;
+        ok = tt;
+        stopped = (opened.asked, ap (f.came new) here ∙ refused);
+      };
     }
 
 pub returns-in-Ok : goal.returns-in-Ok
 returns-in-Ok g c =
     let f = g.F.Files in
+    let reads = g.F.Input.Source.reads in
+    let word = g.F.Input.Source.told in
     let opened = c.open_file.ensures in
     let given = c.give_back.ensures in
-    let told = f.told c.args.files.now c.args.name.now in
     let read = c.read_whole-bytes in
-    let left = g.F.Input.Source.rest read.new.source in
-    let faults = g.F.Input.Source.faults read.new.source in
+    let old = c.args.files.now in
     let new = c.give_back.new.self in
-    let from : g.F.Input.Source.rest c.in-Ok.source ≡ told = c.in-Ok.ensures.content in
-    let counts = counts_of f.failed_opens f.failed_reads f.may_open c.args.files.now new in
-    let whole = subst (λ (o : Option (List ℕ)). IfOk read.result (λ b. o ≡ with_front b.items left)) from read.ensures.whole in
-    let long = subst (λ (o : Option (List ℕ)). IsErrOf read.result TooLong → PassesLimit SOURCE_MAX o left) from read.ensures.too_long in
-    let failed = subst (λ (n : ℕ). IsErrOf read.result Read → Rose n faults) c.in-Ok.ensures.fresh read.ensures.read in
-    let rose = subst (λ (n : ℕ). 0 < faults → Rose n counts.reads.after) opened.reads given.failed in
+    let name = c.args.name.now in
+    let first = length (f.asked old) in
+    let now = reads read.new.source in
+    let opens = opens_of f.asked f.came old new in
+    let asked = given.asked ∙ opened.asked in
+    let place : now.place ≡ first = read.ensures.on.place ∙ ap (λ (r : _). r.place) c.in-Ok.ensures.fresh in
+    let here : first + 0 ≡ first = omega arith in
+    let back_at : f.came new first ≡ back now = ap (f.came new) (sym place) ∙ given.back in
+    let came : f.came new (first + 0) ≡ back now = ap (f.came new) here ∙ back_at in
+    let so = subst (λ (n : ℕ). IsReadSo SOURCE_MAX n read.result now) (sym here) (read_so SOURCE_MAX first read.result (reads c.in-Ok.source) now c.in-Ok.ensures.fresh read.ensures.whole read.ensures.too_long read.ensures.read) in
     record {
-      ok = text_is_told told left read.result c.text_of.result c.text_of.ensures.ok whole read.ensures.ends read.ensures.within;
-      opened = λ rest planned. on_ok c.text_of.result (f.may_open new rest) (given.planned rest (c.in-Ok.ensures.opened rest planned));
-      stopped = λ rest planned. report_stops told left (c.args.name.now ∷ rest) counts faults read.result c.text_of.result c.text_of.ensures.stopped long failed rose;
-      opens = let a = opened.never_falls in let b = given.opens in omega (arith, a, b);
-      reads = let a = opened.reads in let b = given.never_falls in omega (arith, a, b);
-      out = let a = c.in-Ok.ensures.one_more in let b = given.one_less in omega (arith, a, b);
-      same = λ which. given.same which ∙ opened.same which;
+      opened = asked;
+      ends = record {
+        files = one_in_order f.asked f.came f.told name old new asked
+            (subst (IsOver (f.told old name)) (sym back_at) (subst (λ t. IfSome t (KeepsWord now)) (read.ensures.told ∙ c.in-Ok.ensures.content) given.word))
+            (λ i l. given.others i (λ e. omega (arith, e, l, place)) ∙ opened.others i (λ e. omega (arith, e, l)))
+            (λ which. given.same which ∙ opened.same which);
+        ok = report_read name opens asked now came read.result so c.text_of.result c.text_of.ensures.ok read.ensures.within;
+        stopped = report_stop name opens asked now came read.result so c.text_of.result c.text_of.ensures.stopped;
+      };
     }

@@ -1,6 +1,6 @@
 -- One feed more.
-use Rattle.std.proofs.Common.{◌∙◌, [], ◌∷◌, length, length-append, ap, arith, sym, subst}
-use Rattle.scotty_run.specs.Making.{AreMadeFeeds, IsMadeFeed}
+use Rattle.std.proofs.Common.{◌≡◌, ◌∙◌, [], ◌∷◌, length, length-append, ap, arith, sym, subst}
+use Rattle.scotty_run.specs.Making.{AreMadeFeeds, made_feed}
 use Rattle.scotty_run.specs.Words.{Made}
 use Rattle.scotty_run.proofs.Makings.{made_more}
 use Rattle.scotty_run.proofs.making.make_feeds.Goals as goal
@@ -12,7 +12,7 @@ loop-source-preserved c =
     let feed = c.new.result in
     let inv = c.loop-source.invariant in
     let source = c.loop-source.source in
-    let unread = subst (λ (r : Made). IsMadeFeed r.seed r.rows r.sources source feed) c.made.view_is record { state = c.new.ensures.value; closes = c.new.ensures.whole } in
+    let unread = subst (λ (r : Made). feed ≡ made_feed r.seed r.rows r.sources source) c.made.view_is c.new.ensures in
     let items = c.push_reserved.ensures.items in
     record {
       many = let n = inv.many in let size = ap length items in omega (arith, n, size, length-append feeds (feed ∷ []));

@@ -6,7 +6,7 @@ use Rattle.scotty_run.proofs.opening.close_feeds.Given as goal
 abbrev pub invariant-loop-feed : goal.invariant-loop-feed
 invariant-loop-feed g l =
     let f = g.F.Files in
-    AreGivenDownTo f.failed_opens f.failed_reads f.may_open f.out f.told (λ x. g.F.Input.Source.faults x.from) l.feeds.items l.initial.feeds.items l.initial.files l.files
+    AreGivenDownTo f.asked f.came f.told (λ x. g.F.Input.Source.reads x.from) (λ x. g.F.Input.Source.told x.from) l.feeds.items l.initial.feeds.items l.initial.files l.files
 
 abbrev pub decreases-loop-feed : goal.decreases-loop-feed
 decreases-loop-feed g l = vec_len l.feeds

@@ -1,30 +1,19 @@
 -- One source more is opened.
-use Rattle.std.proofs.Common.{◌≡◌, ◌∙◌, ◌<◌, ◌+◌, ℕ, List, [], ◌∷◌, drop, length, length-append, map, string_bytes, get_or, Option, ap, arith, sym, subst}
-use Rattle.std.proofs.lemmas.List.{drop_all, get_or-map, length-map}
+use Rattle.std.proofs.Common.{◌≡◌, ◌∙◌, ◌<◌, ◌+◌, ℕ, List, [], ◌∷◌, length, length-append, map, string_bytes, get_or, take, Option, ap, arith, inl, refl, sym, subst, append-nil}
+use Rattle.std.proofs.lemmas.List.{get_or-map, length-map, length-take-le}
 use Rattle.scotty_run.specs.Opening.{AreUnread, IsUnread}
-use Rattle.scotty_run.proofs.Opened.{name_is_next, unread_more}
+use Rattle.scotty_run.proofs.Opened.{more_in_order, unread_more}
+use Rattle.scotty_run.proofs.Returned.{unopened, unopened_in_order}
 use Rattle.scotty_run.proofs.opening.open_sources.Goals as goal
-
-pub open_source-requires-clause-planned : goal.open_source-requires-clause-planned
-open_source-requires-clause-planned g c lives bounds =
-    let names = map string_bytes c.args.names.now in
-    let name = c.as_str.result.now in
-    let i = c.loop-i.i in
-    let at : get_or names i [] ≡ name = get_or-map string_bytes c.args.names.now i c.index-names-i.result [] c.loop-i-test.true ∙ ap string_bytes (sym c.index-names-i.is) ∙ sym c.as_str.ensures.value in
-    let l : i < length names = omega (arith, c.loop-i-test.true, length-map c.args.names.now string_bytes) in
-    (drop (i + 1) names, name_is_next g.F.Files.may_open c.loop-i.files names i name l at c.loop-i.invariant.left)
-
-pub returns-clause-opened : goal.returns-clause-opened
-returns-clause-opened g c =
-    let names = map string_bytes c.args.names.now in
-    subst (g.F.Files.may_open c.loop-i.files) (drop_all c.loop-i.i names (omega (arith, c.loop-i-test.false, length-map c.args.names.now string_bytes))) c.loop-i.invariant.left
 
 pub loop-i-preserved : goal.loop-i-preserved
 loop-i-preserved g c =
     let f = g.F.Files in
-    let rest = g.F.Input.Source.rest in
-    let faults = g.F.Input.Source.faults in
-    let told = f.told c.args.files.now in
+    let reads = g.F.Input.Source.reads in
+    let word = g.F.Input.Source.told in
+    let start = c.args.files.now in
+    let base = length (f.asked start) in
+    let told = f.told start in
     let names = map string_bytes c.args.names.now in
     let feeds = c.loop-i.feeds.items in
     let feed = c.in-Ok-open_source.feed in
@@ -33,15 +22,52 @@ loop-i-preserved g c =
     let inv = c.loop-i.invariant in
     let opened = c.open_source.ensures in
     let items = c.push_reserved.ensures.items in
+    let inside : i < length names = omega (arith, c.loop-i-test.true, length-map c.args.names.now string_bytes) in
     let at : get_or names i [] ≡ name = get_or-map string_bytes c.args.names.now i c.index-names-i.result [] c.loop-i-test.true ∙ ap string_bytes (sym c.index-names-i.is) ∙ sym c.as_str.ensures.value in
-    let unread = subst (λ (o : Option (List ℕ)). IsUnread rest faults o i c.args.defs.now feed) (inv.same name) c.in-Ok-open_source.ensures.unread in
+    let taken = length-take-le i names (omega (arith, inside)) in
+    let size : length (f.asked c.loop-i.files) ≡ base + i = ap length inv.in_order ∙ length-append (f.asked start) (take i names) ∙ ap (λ m. base + m) taken in
+    let unread = subst (λ n. IsUnread reads word n (told name) i c.args.defs.now feed) size (subst (λ (o : Option (List ℕ)). IsUnread reads word (length (f.asked c.loop-i.files)) o i c.args.defs.now feed) (inv.same name) c.in-Ok-open_source.ensures.unread) in
     record {
-      many = let n = inv.many in let size = ap length items in omega (arith, n, size, length-append feeds (feed ∷ []));
+      many = let n = inv.many in let more = ap length items in omega (arith, n, more, length-append feeds (feed ∷ []));
       room = c.push_reserved.ensures.capacity ∙ inv.room;
-      unread = subst (λ (fs : List _). AreUnread rest faults told names c.args.defs.now fs) (sym items) (unread_more rest faults told names c.args.defs.now feeds feed i name inv.many at inv.unread unread);
-      left = c.in-Ok-open_source.ensures.opened (drop (i + 1) names) (name_is_next f.may_open c.loop-i.files names i name (omega (arith, c.loop-i-test.true, length-map c.args.names.now string_bytes)) at inv.left);
-      out = let a = inv.out in let b = c.in-Ok-open_source.ensures.out in omega (arith, a, b);
-      opens = let a = inv.opens in let b = opened.opens in omega (arith, a, b);
-      reads = opened.reads ∙ inv.reads;
+      in_order = more_in_order (f.asked start) (f.asked c.loop-i.files) (f.asked c.open_source.new.files) names i name inside at inv.in_order opened.asked;
+      unread = subst (λ (fs : List _). AreUnread reads word base told names c.args.defs.now fs) (sym items) (unread_more reads word base told names c.args.defs.now feeds feed i name inv.many at inv.unread unread);
+      earlier = λ k l. opened.others k (λ e. omega (arith, e, size, l)) ∙ inv.earlier k l;
       same = λ which. opened.same which ∙ inv.same which;
     }
+
+pub loop-i-init : goal.loop-i-init
+loop-i-init g c = record {
+  many = ap length c.in-Ok.ensures.items;
+  room = c.in-Ok.ensures.exact;
+  in_order = sym (append-nil (g.F.Files.asked c.args.files.now));
+  unread = λ i x l. absurd (let no : ⊥ = omega (arith, l, ap length c.in-Ok.ensures.items) in no);
+  earlier = λ k l. refl;
+  same = λ which. refl;
+}
+
+pub returns-in-Err-open_source-clause-files : goal.returns-in-Err-open_source-clause-files
+returns-in-Err-open_source-clause-files g c =
+    let f = g.F.Files in
+    let names = map string_bytes c.args.names.now in
+    let i = c.loop-i.i in
+    let inv = c.loop-i.invariant in
+    let opened = c.open_source.ensures in
+    let at : get_or names i [] ≡ c.as_str.result.now = get_or-map string_bytes c.args.names.now i c.index-names-i.result [] c.loop-i-test.true ∙ ap string_bytes (sym c.index-names-i.is) ∙ sym c.as_str.ensures.value in
+    unopened_in_order f.asked f.came f.told g.F.Input.Source.reads g.F.Input.Source.told names c.args.defs.now c.loop-i.feeds.items c.args.files.now c.loop-i.files c.open_source.new.files c.close_feeds.new.files i c.as_str.result.now
+    inv.many (omega (arith, c.loop-i-test.true, length-map c.args.names.now string_bytes)) at inv.in_order inv.unread inv.earlier inv.same opened.asked c.in-Err-open_source.ensures.refused opened.others opened.same c.close_feeds.ensures
+
+pub returns-in-Err-open_source-clause-stopped : goal.returns-in-Err-open_source-clause-stopped
+returns-in-Err-open_source-clause-stopped g c =
+    let f = g.F.Files in
+    let names = map string_bytes c.args.names.now in
+    let i = c.loop-i.i in
+    let inv = c.loop-i.invariant in
+    let opened = c.open_source.ensures in
+    let at : get_or names i [] ≡ c.as_str.result.now = get_or-map string_bytes c.args.names.now i c.index-names-i.result [] c.loop-i-test.true ∙ ap string_bytes (sym c.index-names-i.is) ∙ sym c.as_str.ensures.value in
+    inl (
+      i,
+      refl,
+      unopened f.asked f.came f.told g.F.Input.Source.reads g.F.Input.Source.told names c.args.defs.now c.loop-i.feeds.items c.args.files.now c.loop-i.files c.open_source.new.files c.close_feeds.new.files i c.as_str.result.now
+          inv.many (omega (arith, c.loop-i-test.true, length-map c.args.names.now string_bytes)) at inv.in_order inv.unread inv.earlier inv.same opened.asked c.in-Err-open_source.ensures.refused opened.others opened.same c.close_feeds.ensures,
+    )

@@ -4,4 +4,4 @@ use Rattle.scotty_run.proofs.Draining.{AreDraining}
 use Rattle.scotty_run.proofs.reading.drain_all.Given as goal
 
 abbrev pub invariant-loop-i : goal.invariant-loop-i
-invariant-loop-i g l = AreDraining g.S.Source.rest g.S.Source.faults l.initial.feeds.items l.feeds.items (lists_of l.all.items) l.i
+invariant-loop-i g l = AreDraining g.S.Source.reads g.S.Source.told l.initial.feeds.items l.feeds.items (lists_of l.all.items) l.i

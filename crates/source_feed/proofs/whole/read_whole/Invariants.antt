@@ -1,12 +1,18 @@
--- The bytes so far, and those that are left, are those that there were.
-use Rattle.std.proofs.Common.{◌≡◌, ◌≤◌, ◌+◌, ◌-◌, length}
-use Rattle.outside.specs.Outside.{with_front}
+-- The bytes so far are what the source gave.
+use Rattle.std.proofs.Common.{◌≡◌, ◌≤◌, ◌<◌, ◌+◌, ◌-◌, ◌++◌, length, false, IfSome}
+use Rattle.outside.specs.Outside.{KeepsWord}
 use Rattle.source_feed.proofs.whole.read_whole.Given as goal
 
 abbrev pub invariant-pieces : goal.invariant-pieces
 invariant-pieces g l =
-    (g.S.Source.rest l.fn.source ≡ with_front l.bytes.items (g.S.Source.rest l.source))
-    × (g.S.Source.faults l.source ≡ g.S.Source.faults l.fn.source)
+    let old = g.S.Source.reads l.fn.source in
+    let now = g.S.Source.reads l.source in
+    (now.place ≡ old.place)
+    × (now.given ≡ old.given ++ l.bytes.items)
+    × (now.faults ≡ old.faults)
+    × (g.S.Source.told l.source ≡ g.S.Source.told l.fn.source)
+    × (0 < length l.bytes.items → now.ended ≡ false)
+    × (0 < length l.bytes.items → IfSome (g.S.Source.told l.source) (KeepsWord now))
     × (length l.bytes.items ≤ l.limit + 1)
 
 abbrev pub decreases-pieces : goal.decreases-pieces

@@ -68,7 +68,7 @@ returns-in-Ok-clause-gathered g c =
           ⊎_elim (λ a. subst IsFault (sym (a.1 i e le)) (fault_without _))
           (λ a. let n = ap length none in let m = a.0 in let some = plan.some_shards in absurd (omega (arith, c.in-Ok.ensures.shards))) outcomes;
       alike = λ k s l. (c.hand_back.ensures.closed.closed k s l).gathered;
-      parts = λ k i s f e lk l.
+      parts = λ k i s e lk l.
           let lf : i < length feeds = omega (arith, one_each) in
           let le : i < length ends = omega (arith, many_ends) in
           let lr : i < length rows = omega (arith, many_rows) in
@@ -76,12 +76,15 @@ returns-in-Ok-clause-gathered g c =
           let closed = c.hand_back.ensures.closed in
           let shard = get_or c.hand_back.result.shards.items k s in
           let seats = c.in-Ok.ensures.open.rows_are i row l in
+          let f = some_of feeds i lf in
           let read = c.read_out-ends.ensures.read i f e row lf in
           ⊎_elim (λ a. let n = ap length a.0 in absurd (omega arith))
           (λ a.
           let long : k < length (get_or rows i row).items = let n = a.0 in let m = read.same in omega (arith, seats.many, m.many) in
-          let parts = subst (λ n. IfSome (g.F.Feed.state (get_or feeds i f)).rest (λ stream. HaveMade n stream.entries (get_or ends i e).outcome (get_or rows i row).items)) shards read.read.parts in
-          subst (λ o. IfSome (g.F.Feed.state (get_or feeds i f)).rest (λ stream. HoldsPart plan.shards k i stream o shard.journal)) (sym (a.1 i e le))
+          let now = (get_or c.hand_back.result.ends.items i e).feed in
+          let before = subst (λ n. HaveMade n (g.F.Feed.state (get_or ends i e).feed).gave (get_or ends i e).outcome (get_or rows i row).items) shards read.read.parts in
+          let parts = subst (λ x. HaveMade plan.shards (g.F.Feed.state x).gave (get_or ends i e).outcome (get_or rows i row).items) (sym (c.hand_back.ensures.same.feeds i e le)) before in
+          subst (λ o. HoldsPart plan.shards k i (g.F.Feed.state now).gave o shard.journal) (sym (a.1 i e le))
           (parts_of _ _ k i _ _ shard _ (closed.closed k s lk) long (λ p. closed.settled k i s row p lk lr) parts))
           outcomes;
     }

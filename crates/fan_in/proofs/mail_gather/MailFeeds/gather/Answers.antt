@@ -78,21 +78,23 @@ returns-in-Ok-clause-gathered g c =
       many_shards = inr all_shards;
       none = λ none i e l. let some = plan.some_shards in let m = ap length none in absurd (omega (arith, all_shards));
       alike = λ k s l. (c.settle_all.ensures.settled k s l).gathered;
-      parts = λ k i s f e lk l.
+      parts = λ k i s e lk l.
           let lf : i < length feeds = omega (arith, one_each) in
           let le : i < length ends.items = omega (arith, many_ends) in
           let row = some_of opened i (omega (arith, open_many)) in
           let box = some_of rows i (omega (arith, many_rows)) in
+          let f = some_of feeds i lf in
           let sent = c.send_all-ends.ensures.sent i f row e box lf in
           let senders = (get_or rows i box).items in
           let deref : length c.deref.result.now ≡ n = ap length c.deref.ensures.value ∙ shards in
           let many_senders : length senders ≡ n = sent.same.many ∙ (c.in-Ok.ensures.open.rows_are i row l).many ∙ shards in
           let own = (get_or ends.items i e).outcome in
-          let parts = subst (λ m. IfSome (g.F.Feed.state (get_or feeds i f)).rest (λ stream. HaveSentParts m stream.entries own senders)) deref sent.parts in
+          let before = subst (λ m. HaveSentParts m (g.F.Feed.state (get_or ends.items i e).feed).gave own senders) deref sent.parts in
+          let parts = subst (λ x. HaveSentParts n (g.F.Feed.state x).gave own senders) (sym (same i e le)) before in
           let kn : k < n = omega (arith, all_shards) in
           let d = some_of senders k (omega (arith, many_senders)) in
           let held = rw lent at c.settle_all.ensures.held in
-          rw w (parts_of _ n k i own (get_or done i e).outcome senders (λ j. (get_or handed j s).journal) d (sym many_senders) kn sent.own (subst (λ m. Follows m own (get_or done i e).outcome) shards (follows i e le)) parts
+          rw w (parts_of n k i _ own (get_or done i e).outcome senders (λ j. (get_or handed j s).journal) d (sym many_senders) kn sent.own (subst (λ m. Follows m own (get_or done i e).outcome) shards (follows i e le)) parts
           (λ j lj. (c.settle_all.ensures.settled j s (omega (arith, all_shards))).short)
           (λ j lj. held j i box d e s (omega (arith, shards)) le));
     }
