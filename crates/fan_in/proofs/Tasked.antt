@@ -1,9 +1,9 @@
 -- The tasks of all feeds and owners, in one list.
-use Rattle.std.proofs.Common.{◌≡◌, ◌<◌, ◌+◌, ◌-◌, arith, ℕ, List, length, drop, get_or, sym, ap, subst, ◌∙◌, ⊎_elim}
+use Rattle.std.proofs.Common.{◌≡◌, ◌<◌, ◌+◌, ◌-◌, ◌++◌, arith, refl, ℕ, List, length, drop, get_or, sym, ap, subst, ◌∙◌, ⊎_elim}
 use Rattle.std.specs.Prelude.{All, Vec}
 use Rattle.std.specs.declared.alloc.Global.{Global}
 use Rattle.std.proofs.lemmas.Bool.{cases_lt}
-use Rattle.std.proofs.lemmas.List.{get_or-drop, length-drop}
+use Rattle.std.proofs.lemmas.List.{get_or_append_left, get_or-append_right, get_or-drop, length-append, length-drop}
 use Rattle.stream_base.specs.Limits.{Definitions}
 use Rattle.stream_base.specs.declared.entry.Entry.{Entry}
 use Rattle.source_feed.specs.FeedView.{FeedView}
@@ -17,7 +17,7 @@ use Rattle.fan_in.specs.declared.task.Task.{Task}
 use Rattle.fan_in.specs.declared.task.Task.TheVariants.{Owning, Reading}
 use Rattle.fan_in.specs.Posts.{AreOwned, OwnsLane}
 use Rattle.fan_in.specs.Sending.{IsReadyToSend, IsSentOut}
-use Rattle.fan_in.specs.Tasks.{HasWorked, IsOwning, IsReading, MayWork}
+use Rattle.fan_in.specs.Tasks.{HasWorked, HaveWorked, IsOwning, IsReading, MayWork}
 use Rattle.fan_in.proofs.Lists.{some_of}
 
 -- the tasks of feeds stay where those of owners come behind them
@@ -39,6 +39,19 @@ module _ {F : Type 0} (state : F → FeedView) (faults : F → ℕ) (d : Definit
   is_owning (Owning a) (Owning b) h r = tt
   is_owning (Owning a) (Reading b) h r = absurd h
   is_owning (Reading a) b h r = absurd r
+
+  -- tasks that were done in two parts, one list behind the other
+  pub worked_both : (xs ys us vs : List (Task F)) → HaveWorked state faults d sources lanes xs us → HaveWorked state faults d sources lanes ys vs → HaveWorked state faults d sources lanes (xs ++ ys) (us ++ vs)
+  worked_both xs ys us vs h w = record {
+    many = omega (arith, length-append xs ys, length-append us vs, h.many, w.many);
+    worked = λ i t l.
+        ⊎_elim
+        (λ (less : i < length xs). subst (λ x. HasWorked state faults d sources lanes x (get_or (us ++ vs) i t)) (sym (get_or_append_left xs ys t i less))
+        (subst (λ u. HasWorked state faults d sources lanes (get_or xs i t) u) (sym (get_or_append_left us vs t i (omega (arith, h.many)))) (h.worked i t less)))
+        (λ ge. subst (λ x. HasWorked state faults d sources lanes x (get_or (us ++ vs) i t)) (sym (get_or-append_right xs ys (length xs) i t refl ge))
+        (subst (λ u. HasWorked state faults d sources lanes (get_or ys (i - length xs) t) u) (sym (get_or-append_right us vs (length xs) i t h.many ge)) (w.worked (i - length xs) t (omega (arith, length-append xs ys)))))
+        (cases_lt i (length xs));
+  }
 
   module _ (feeds : List F) (rows : List (Vec (SenderState Entry) Global)) (owners : List OwnerJob) (tasks : List (Task F)) (many : length tasks ≡ length feeds + length owners) (rows_many : length rows ≡ length feeds)
       (each : (i : ℕ) (f : F) (row : Vec (SenderState Entry) Global) (t : Task F) → i < length feeds → get_or tasks i t ≡ Reading (record { feed = get_or feeds i f; outcome = Done; outboxes = get_or rows i row }))

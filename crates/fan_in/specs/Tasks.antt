@@ -1,5 +1,5 @@
 -- The tasks of feeds and owners, before and after they were done.
-use Rattle.std.specs.Prelude.{◌<◌, ℕ, List, length, ⊤, slice_index_or}
+use Rattle.std.specs.Prelude.{◌≡◌, ◌<◌, ℕ, List, length, ⊤, slice_index_or}
 use Rattle.stream_base.specs.Limits.{Definitions}
 use Rattle.source_feed.specs.FeedView.{FeedView}
 use Rattle.source_feed.specs.declared.feed_fault.FeedFault.{FeedFault}
@@ -34,3 +34,8 @@ module _ {F : Type 0} (state : F → FeedView) where
     HasWorked d sources lanes (Owning a) (Owning b) = (l : Lane) → OwnsLane d sources (a.owner).number (slice_index_or lanes (a.owner).number l) b
     HasWorked d sources lanes (Reading a) (Owning b) = ⊥
     HasWorked d sources lanes (Owning a) (Reading b) = ⊥
+
+    -- each of these tasks was done
+    pub record HaveWorked (d : Definitions) (sources : ℕ) (lanes : List Lane) (old new : List (Task F)) : Type 0 where
+      pub many : length new ≡ length old
+      pub worked : (i : ℕ) (t : Task F) → i < length old → HasWorked d sources lanes (slice_index_or old i t) (slice_index_or new i t)

@@ -119,7 +119,7 @@ fn send_all<F: Feed + Send, G: Gate, R: Threads + Wait + Sync>(
     let many = feeds.len();
     add_feeds(&mut tasks, feeds, rows, owners.len());
     add_owners(&mut tasks, owners);
-    run_tasks(rt, gate, plan, lanes, tasks.as_mut_slice());
+    run_tasks(rt, gate, plan, lanes, many, tasks.as_mut_slice());
     take_feeds(&mut tasks, many, &mut ends, &mut boxes);
     take_owners(tasks, &mut jobs);
     (ends, boxes, jobs, shards)
