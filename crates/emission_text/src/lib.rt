@@ -26,6 +26,7 @@ pub use fault::Fault;
 pub use fault_line::write_fault;
 pub use finding_line::write_finding;
 pub use pending::Pending;
+pub use pieces::{put_numbered, put_pieces};
 pub use report::{
     report_of_alike_shards_is_of_their_journals, write_form, write_report, write_report2,
 };

@@ -1,21 +1,30 @@
 -- What an offer comes to.
-use Rattle.std.proofs.Common.{◌≡◌, ◌≤◌, append-nil, arith, suc, ℕ, List, [], ◌∷◌, ◌++◌, length, drop, Option, Ok, Err, sym, refl, ap, subst, ◌∙◌}
-use Rattle.std.specs.Prelude.{IfSome, IfOk, IfErr, OnOk, OnErr}
-use Rattle.std.specs.List.{zip}
+use Rattle.std.proofs.Common.{◌≡◌, ◌≤◌, ◌+◌, append-nil, arith, suc, ℕ, Bool, true, false, cond, eqb, eq-eqb, ne_eqb, List, [], ◌∷◌, ◌++◌, length, drop, Option, Ok, Err, sym, refl, ap, subst, ◌∙◌}
+use Rattle.std.specs.Prelude.{◌&&◌, ◌||◌, All, IfSome, IfOk, IfErr, OnOk, OnErr}
+use Rattle.std.specs.List.{filter, zip}
+use native.Mathlib.Decide.{ℕ_discrete}
 use Rattle.std.proofs.lemmas.List.{length-map}
+use Rattle.std.proofs.lemmas.List.Elements.{All-push}
 use Rattle.std.proofs.lemmas.Slice.Zip.{seconds-zip}
 use Rattle.std.specs.declared.result.Result.{Result}
 use Rattle.stream_base.specs.declared.entry.Entry.{Entry}
 use Rattle.stream_base.specs.Model.Changes.{changes_after}
+use Rattle.stream_base.specs.Model.Watermark.{has_ended}
+use Rattle.stream_base.specs.Model.What.{is_end}
 use Rattle.shard_core.specs.declared.applied.Applied.{Applied}
 use Rattle.shard_core.specs.declared.applied.ApplyFault.{ApplyFault}
+use Rattle.shard_core.specs.declared.applied.ApplyFault.TheVariants.{Ended}
+use Rattle.turnstile.specs.declared.keeps.Keeps.{Ghosts}
 use Rattle.turnstile.specs.declared.pass.Pass.{Pass}
-use Rattle.turnstile.specs.History.{by_number}
+use Rattle.turnstile.specs.History.{by_number, of_number}
 use Rattle.turnstile.specs.Passes.{number, seen, made, IsTurn}
 use Rattle.fan_in.specs.declared.fixed_part.FixedPart.{FixedPart}
-use Rattle.fan_in.specs.contracts.booked.BookedKeeps.TheImpl.{ghosts}
-use Rattle.fan_in.specs.Desks.{BookedState, booked_with, entries_of, items_of}
+use Rattle.fan_in.specs.Desks.{AreBySource, BookedState, booked_with, entries_of, fixed_of, items_of}
 use Rattle.fan_in.specs.Offers.{Books, HoldsCause, IsOffered, IsOpen, IsRefused}
+
+-- what both kinds of desks keep
+abbrev these : Ghosts BookedState Entry FixedPart
+these = record { items = items_of; fixed = fixed_of }
 
 cancel : {A : Type 0} (xs ys zs : List A) → xs ++ ys ≡ xs ++ zs → ys ≡ zs
 cancel [] ys zs e = e
@@ -48,8 +57,61 @@ entries-items b h = seconds-zip b.numbers (b.shard).journal (sym h)
 pub length-items : (b : BookedState) → length b.numbers ≡ length (b.shard).journal → length (b.shard).journal ≡ length (items_of b)
 length-items b h = ap length (sym (entries-items b h)) ∙ length-map (items_of b) (λ i. i.1)
 
-pub offered_of : (entry : Entry) (old new : Pass BookedState Entry FixedPart ghosts) (reply : Result Applied ApplyFault)
-    → IsTurn {g = ghosts} (λ before after n r. Books entry before after n r) old new reply → IfOk reply (IsOffered {g = ghosts} entry old new)
+-- a booking under the number of its source's pass keeps the entries by their sources
+pub still_by_source : (before after : BookedState) (n : ℕ) (entry : Entry) (reply : Result Applied ApplyFault) → Books entry before after n reply → n ≡ entry.source + 1 → AreBySource (items_of before) → AreBySource (items_of after)
+still_by_source before after n entry (Ok r) b is h =
+    subst AreBySource (sym (ap items_of b.booked ∙ one_more before n entry b.numbered)) (All-push (λ (item : ℕ × Entry). item.0 ≡ (item.1).source + 1) (items_of before) (n, entry) h is)
+still_by_source before after n entry (Err f) b is h = subst (λ x. AreBySource (items_of x)) (sym b.refused) h
+
+same_test : (n m s : ℕ) → n ≡ m + 1 → Dec (m ≡ s) → eqb n (s + 1) ≡ eqb m s
+same_test n m s e (yes is) = eq-eqb n (s + 1) (e ∙ ap (λ k. k + 1) is) ∙ sym (eq-eqb m s is)
+same_test n m s e (no ne) = ne_eqb n (s + 1) (λ k. ne (omega arith)) ∙ sym (ne_eqb m s ne)
+
+-- an item more, with the number of its source's pass
+end_more : (s : ℕ) (i : ℕ × Entry) (b : Bool) (entries : List Entry) (own : List (ℕ × Entry)) → eqb i.1.source s ≡ b → has_ended s entries ≡ has_ended s (entries_of own) → has_ended s (i.1 ∷ entries) ≡ has_ended s (entries_of (cond b (i ∷ own) own))
+end_more s i true entries own u h = ap (λ (x : Bool). (eqb i.1.source s && is_end i.1.what) || x) h
+end_more s i false entries own u h = rw u h
+
+-- a source's end is among the entries under the number of its pass, or nowhere
+own_end : (s : ℕ) (items : List (ℕ × Entry)) → AreBySource items → has_ended s (entries_of items) ≡ has_ended s (of_number (s + 1) items)
+own_end s [] h = refl
+own_end s (i ∷ is) h =
+    let here : i.0 ≡ i.1.source + 1 = h 0 i (omega arith) in
+    let test : eqb i.0 (s + 1) ≡ eqb i.1.source s = same_test i.0 i.1.source s here (ℕ_discrete i.1.source s) in
+    let more : has_ended s (entries_of is) ≡ has_ended s (of_number (s + 1) is) = own_end s is (λ k d l. h (suc k) d (omega arith)) in
+    rw test (end_more s i (eqb i.1.source s) (entries_of is) (filter (λ (e : ℕ × Entry). eqb e.0 (s + 1)) is) refl more)
+
+-- a turn at a desk by sources is one that books
+pub booked_of : (entry : Entry) (old new : Pass BookedState Entry FixedPart these) (reply : Result Applied ApplyFault)
+    → IsTurn {g = these} (λ before after n r. Books entry before after n r × AreBySource (items_of before)) old new reply → IsTurn {g = these} (λ before after n r. Books entry before after n r) old new reply
+booked_of entry old new reply t = record {
+  before = t.before;
+  after = t.after;
+  added = t.added;
+  fixed_before = t.fixed_before;
+  fixed_after = t.fixed_after;
+  begins = t.begins;
+  own = t.own;
+  call = t.call.0;
+  at_most_one = t.at_most_one;
+  adds = t.adds;
+  sees = t.sees;
+  makes = t.makes;
+}
+
+-- where a source has ended at a desk by sources, its pass made its end
+pub ended_of : (entry : Entry) (old new : Pass BookedState Entry FixedPart these) (reply : Result Applied ApplyFault)
+    → IsTurn {g = these} (λ before after n r. Books entry before after n r × AreBySource (items_of before)) old new reply → number old ≡ entry.source + 1 → reply ≡ Err Ended → has_ended entry.source (made old) ≡ true
+ended_of entry old new reply t n e =
+    let s : ℕ = entry.source in
+    let items : List (ℕ × Entry) = items_of t.before in
+    let does : Books entry t.before t.after (number old) (Err Ended) = subst (λ (r : Result Applied ApplyFault). Books entry t.before t.after (number old) r) e t.call.0 in
+    let own : of_number (number old) items ≡ made old = t.own in
+    let journal : has_ended s (entries_of items) ≡ has_ended s (t.before.shard).journal = ap (has_ended s) (entries-items t.before does.numbered) in
+    ap (has_ended s) (sym own) ∙ ap (λ (m : ℕ). has_ended s (of_number m items)) n ∙ sym (own_end s items t.call.1) ∙ journal ∙ does.cause
+
+pub offered_of : (entry : Entry) (old new : Pass BookedState Entry FixedPart these) (reply : Result Applied ApplyFault)
+    → IsTurn {g = these} (λ before after n r. Books entry before after n r) old new reply → IfOk reply (IsOffered {g = these} entry old new)
 offered_of entry old new (Ok r) t =
     let does : Books entry t.before t.after (number old) (Ok r) = t.call in
     let after : items_of t.after ≡ items_of t.before ++ (number old, entry) ∷ [] = ap items_of does.booked ∙ one_more t.before (number old) entry does.numbered in
@@ -68,8 +130,8 @@ offered_of entry old new (Ok r) t =
     }
 offered_of entry old new (Err f) t = tt
 
-pub refused_of : (entry : Entry) (old new : Pass BookedState Entry FixedPart ghosts) (reply : Result Applied ApplyFault)
-    → IsTurn {g = ghosts} (λ before after n r. Books entry before after n r) old new reply → IfErr reply (IsRefused {g = ghosts} entry old new)
+pub refused_of : (entry : Entry) (old new : Pass BookedState Entry FixedPart these) (reply : Result Applied ApplyFault)
+    → IsTurn {g = these} (λ before after n r. Books entry before after n r) old new reply → IfErr reply (IsRefused {g = these} entry old new)
 refused_of entry old new (Ok r) t = tt
 refused_of entry old new (Err f) t =
     let does : Books entry t.before t.after (number old) (Err f) = t.call in

@@ -1,5 +1,5 @@
 -- From the desks that were opened and the feeds that were read to what is handed back.
-use Rattle.std.proofs.Common.{◌≡◌, ◌≤◌, ◌<◌, arith, ℕ, List, [], ◌++◌, length, get_or, sym, refl, ap, subst, ◌∙◌, inr, ◌⊎◌, ⊎_elim, Option, Some, None}
+use Rattle.std.proofs.Common.{◌≡◌, ◌≤◌, ◌<◌, ◌+◌, arith, ℕ, List, [], ◌++◌, length, get_or, sym, refl, ap, subst, ◌∙◌, inr, ◌⊎◌, ⊎_elim, Option, Some, None}
 use Rattle.std.specs.Prelude.{All, IfSome, Vec}
 use Rattle.std.specs.declared.alloc.Global.{Global}
 use Rattle.stream_base.specs.declared.entry.Entry.{Entry}
@@ -65,6 +65,9 @@ module _ {g : Ghosts BookedState Entry FixedPart} where
           let ld : k < length desks = let m = seats.many in omega arith in
           let seat = seats.each k (some_of desks k ld) p ld in
           subst (λ (o : Option FixedPart). IfSome o (λ f. start.source < f.sources)) (sym seat.fixed_is) (subst (λ s. s < f.sources) (sym fresh.of_source) l);
+      own_source = λ k p lk.
+          let ld : k < length desks = let m = seats.many in omega arith in
+          (seats.each k (some_of desks k ld) p ld).number_is ∙ ap (λ s. s + 1) (sym fresh.of_source);
       blank = blank;
     };
   }

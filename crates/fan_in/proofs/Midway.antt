@@ -1,11 +1,15 @@
 -- One feed, from its first entry to its end or fault.
-use Rattle.std.proofs.Common.{◌≡◌, ◌<◌, arith, append-nil, append_assoc, length-append, ℕ, true, Bool, List, [], ◌∷◌, ◌++◌, length, get_or, sym, refl, ap, subst, ◌∙◌, inl, inr, ◌⊎◌, Option, Some, None, Ok, Err}
-use Rattle.std.specs.Prelude.{All, IfSome, MatchOption, option_map, ⊤}
+use Rattle.std.proofs.Common.{◌≡◌, ◌<◌, ◌+◌, arith, append-nil, append_assoc, length-append, ℕ, true, false, Bool, eqb, List, [], ◌∷◌, ◌++◌, length, get_or, sym, refl, ap, subst, ◌∙◌, inl, inr, ◌⊎◌, Option, Some, None, Ok, Err}
+use Rattle.std.specs.Prelude.{◌&&◌, All, IfSome, MatchOption, option_map, ⊤}
 use Rattle.std.proofs.lemmas.List.{get_or_append_left}
+use Rattle.std.proofs.lemmas.List.Folds.{list_any_none}
 use Rattle.std.proofs.lemmas.List.Elements.{All-filter, All-nil, All-push, filter-append}
 use Rattle.outside.specs.Outside.{Rose}
 use Rattle.stream_base.specs.declared.entry.Entry.{Entry}
+use Rattle.stream_base.specs.Model.Journals.{is_entry_within}
 use Rattle.stream_base.specs.Model.Routes.{goes_to, routed}
+use Rattle.stream_base.specs.Model.Watermark.{has_ended}
+use Rattle.stream_base.specs.Model.What.{is_end}
 use Rattle.source_feed.specs.FeedView.{FeedView, Steps, given_then}
 use Rattle.source_feed.specs.Gives.{CountsReads}
 use Rattle.source_feed.specs.Stream.{StaysTold, Stream}
@@ -14,13 +18,14 @@ use Rattle.source_feed.specs.declared.feed_fault.FeedFault.TheVariants.{Read, No
 use Rattle.turnstile.specs.declared.keeps.Keeps.{Ghosts}
 use Rattle.turnstile.specs.declared.pass.Pass.{Pass}
 use Rattle.turnstile.specs.declared.turnstile.Turnstile.{Turnstile}
-use Rattle.turnstile.specs.Passes.{made}
+use Rattle.turnstile.specs.Passes.{fixed, made}
 use Rattle.fan_in.specs.Desks.{BookedState}
 use Rattle.fan_in.specs.declared.fixed_part.FixedPart.{FixedPart}
 use Rattle.fan_in.specs.declared.outcome.Outcome.{Outcome}
 use Rattle.fan_in.specs.declared.outcome.Outcome.TheVariants.{Done, Fault, Full}
 use Rattle.fan_in.specs.Gathering.{Bears, Shows, NamesOneOf}
-use Rattle.fan_in.specs.Reading.{AreSame, HasMade, HaveMade, IsHalfway, IsReady, IsReadyAt, IsRead, MadeOwn, StandAt, TakesMore, WasRead}
+use Rattle.fan_in.specs.Offers.{MayOffer}
+use Rattle.fan_in.specs.Reading.{AreSame, HasMade, HaveMade, IsHalfway, IsReady, IsReadyAt, IsRead, MadeOwn, MayHandIn, StandAt, TakesMore, WasRead}
 
 -- once seen, the stream of a source stays
 pub seen_more : (a b c : Option Stream) → StaysTold a b → StaysTold b c → StaysTold a c
@@ -58,6 +63,22 @@ routed_more shards k given more = filter-append (λ e. goes_to shards k e.what) 
 pub all_front : (P : Entry → Type 0) (xs ys : List Entry) → All P (xs ++ ys) → All P xs
 all_front P xs ys h = λ k d l. subst P (get_or_append_left xs ys d k l) (h k d (omega (arith, length-append xs ys)))
 
+-- no entry is an end
+abbrev pub AreInner : List Entry → Type 0
+AreInner entries = All (λ e. is_end e.what ≡ false) entries
+
+no_end : (a b : Bool) → b ≡ false → (a && b) ≡ false
+no_end true b h = h
+no_end false b h = refl
+
+-- where no entry is an end, no source has ended
+not_ended : (s : ℕ) (entries : List Entry) → AreInner entries → has_ended s entries ≡ false
+not_ended s entries h = list_any_none (λ (e : Entry). eqb e.source s && is_end e.what) entries (λ k d l. no_end (eqb (get_or entries k d).source s) (is_end (get_or entries k d).what) (h k d l))
+
+may_offer : (source : ℕ) (entry : Entry) (f : Option FixedPart) → entry.source ≡ source → is_entry_within entry ≡ true → IfSome f (λ f. source < f.sources) → IfSome f (MayOffer entry)
+may_offer source entry None e w h = tt
+may_offer source entry (Some f) e w h = record { source = subst (λ (s : ℕ). s < f.sources) (sym e) h; within = w }
+
 module _ {g : Ghosts BookedState Entry FixedPart} where
   -- where a feed stands that has given some entries so far
   pub record IsMidway (shards : ℕ) (start now : FeedView) (old new : ℕ) (outcome : Outcome) (first passes : List (Pass BookedState Entry FixedPart g)) : Type 0 where
@@ -71,6 +92,7 @@ module _ {g : Ghosts BookedState Entry FixedPart} where
     pub quiet : new ≡ old
     pub halfway : IsHalfway shards outcome
     pub own : All (λ e. e.source ≡ start.source) given
+    pub inner : now.ended ≡ false → AreInner given
     pub parts : HaveMade shards given outcome passes
 
   same_refl : (passes : List (Pass BookedState Entry FixedPart g)) → AreSame passes passes
@@ -89,6 +111,7 @@ module _ {g : Ghosts BookedState Entry FixedPart} where
     quiet = refl;
     halfway = subst (IsHalfway shards) (sym r.done) tt;
     own = All-nil (λ e. e.source ≡ start.source);
+    inner = λ _. All-nil (λ e. is_end e.what ≡ false);
     parts = λ k p l. record {
       begins = ([], sym (append-nil _ ∙ r.blank k p l));
       whole = λ _. r.blank k p l;
@@ -144,6 +167,21 @@ module _ {g : Ghosts BookedState Entry FixedPart} where
         };
   }
 
+  -- the passes may hand in a further entry that the feed gives
+  pub may_hand_in : (shards : ℕ) (start now then' : FeedView) (old n : ℕ) (o o' : Outcome) (first ps : List (Pass BookedState Entry FixedPart g)) (entry : Entry)
+      → IsReady start o first → IsMidway shards start now old n o' first ps → Steps now (Ok (Some entry)) then' → All (MayHandIn entry) ps
+  may_hand_in shards start now then' old n o o' first ps entry r m gives = λ k p l.
+      let lf : k < length first = let a = (m.same).many in omega arith in
+      let same = (m.same).same k p lf in
+      let source : entry.source ≡ start.source = gives.outcome.own ∙ m.source in
+      let begins = (m.parts k p l).begins in
+      let inner = All-filter (λ e. goes_to shards k e.what) (λ e. is_end e.what ≡ false) m.given (m.inner gives.outcome.running) in
+      record {
+        may = subst (λ (f : Option FixedPart). IfSome f (MayOffer entry)) (sym same.fixed_same) (may_offer start.source entry (fixed (get_or first k p)) source gives.outcome.within (r.known k p lf));
+        own_source = same.number_same ∙ r.own_source k p lf ∙ ap (λ s. s + 1) (sym source);
+        running = not_ended entry.source (made (get_or ps k p)) (all_front (λ e. is_end e.what ≡ false) (made (get_or ps k p)) begins.0 (subst AreInner begins.1 inner));
+      }
+
   -- a further entry was given and taken
   pub more : (shards : ℕ) (start now then' : FeedView) (old n n' : ℕ) (o o' : Outcome) (first ps qs : List (Pass BookedState Entry FixedPart g)) (entry : Entry)
       → IsMidway shards start now old n o first ps → Steps now (Ok (Some entry)) then' → CountsReads {T = Option Entry} now.answered n (Ok (Some entry)) n'
@@ -159,6 +197,7 @@ module _ {g : Ghosts BookedState Entry FixedPart} where
     quiet = counts.quiet ∙ m.quiet;
     halfway = step_halfway shards entry o o' ps qs m.halfway t;
     own = All-push (λ e. e.source ≡ start.source) m.given entry m.own (gives.outcome.own ∙ m.source);
+    inner = λ e. All-push (λ e. is_end e.what ≡ false) m.given entry (m.inner gives.outcome.running) (sym gives.outcome.end ∙ e);
     parts = step_parts shards entry m.given o o' ps qs s.many m.parts t;
   }
 

@@ -20,17 +20,13 @@ use Rattle.fan_in.specs.declared.outcome.Outcome.TheVariants.{Done, Fault, Full}
 use Rattle.fan_in.specs.Gathering.{Bears, IsBack}
 use Rattle.fan_in.specs.Reading.{IsHalfway}
 use Rattle.fan_in.specs.Sending.{AreFrom, AreSameSenders, EndsLast, HasSent, HaveSent, HaveSentParts, IsOwnOutcome, IsReadyToSend, IsSentOut, SendOn, SendsMore, own_outcome}
-use Rattle.fan_in.proofs.Midway.{all_front, bears_last, no_read, routed_more, seen_first, seen_more, shows}
+use Rattle.fan_in.proofs.Midway.{AreInner, all_front, bears_last, no_read, routed_more, seen_first, seen_more, shows}
 
 -- the first lanes took the entry, and the others were not asked yet
 pub record SentTo (shards : ℕ) (entry : Entry) (asked : ℕ) (old now : List (SenderState Entry)) : Type 0 where
   pub same : AreSameSenders old now
   pub rest : (k : ℕ) (s : SenderState Entry) → asked ≤ k → get_or now k s ≡ get_or old k s
   pub sent : (k : ℕ) (s : SenderState Entry) → k < asked → HasSent ((get_or old k s).sent ++ routed shards k (entry ∷ [])) k Done (get_or now k s)
-
--- no entry is an end
-abbrev pub AreInner : List Entry → Type 0
-AreInner entries = All (λ e. is_end e.what ≡ false) entries
 
 -- behind entries that are no end, any entry may be the last
 ends_push : (xs : List Entry) (e : Entry) → AreInner xs → EndsLast (xs ++ e ∷ [])

@@ -1,9 +1,10 @@
 -- How far the reading of one feed has come, and what its passes made of its entries.
-use Rattle.std.specs.Prelude.{◌≡◌, ◌≤◌, ◌<◌, ◌++◌, ℕ, false, List, [], ◌∷◌, length, All, None, IfSome, ⊤, slice_index_or, Vec}
+use Rattle.std.specs.Prelude.{◌≡◌, ◌≤◌, ◌<◌, ◌+◌, ◌++◌, ℕ, false, List, [], ◌∷◌, length, All, None, IfSome, ⊤, slice_index_or, Vec}
 use Rattle.std.specs.declared.alloc.Global.{Global}
 use Rattle.stream_base.specs.declared.entry.Entry.{Entry}
 use Rattle.stream_base.specs.declared.limits.TheConstants.{JOURNAL_MAX}
 use Rattle.stream_base.specs.Model.Routes.{routed}
+use Rattle.stream_base.specs.Model.Watermark.{has_ended}
 use Rattle.source_feed.specs.FeedView.{FeedView}
 use Rattle.source_feed.specs.declared.feed_fault.FeedFault.{FeedFault}
 use Rattle.source_feed.specs.declared.feed_fault.FeedFault.TheVariants.{NoMemory}
@@ -11,12 +12,13 @@ use Rattle.turnstile.specs.declared.keeps.Keeps.{Ghosts}
 use Rattle.turnstile.specs.declared.pass.Pass.{Pass}
 use Rattle.turnstile.specs.declared.turnstile.Turnstile.{Turnstile}
 use Rattle.turnstile.specs.History.{BeginsWith}
-use Rattle.turnstile.specs.Passes.{fixed, made, seen, IsPassOf, IsSamePass}
+use Rattle.turnstile.specs.Passes.{number, fixed, made, seen, IsPassOf, IsSamePass}
 use Rattle.fan_in.specs.Desks.{BookedState}
 use Rattle.fan_in.specs.declared.fixed_part.FixedPart.{FixedPart}
 use Rattle.fan_in.specs.declared.outcome.Outcome.{Outcome}
 use Rattle.fan_in.specs.declared.outcome.Outcome.TheVariants.{Done, Fault, Full}
 use Rattle.fan_in.specs.Gathering.{IsBack, NamesOneOf}
+use Rattle.fan_in.specs.Offers.{MayOffer}
 
 -- an outcome before the feed has ended: each entry was taken, or one of so many shards was full, or memory ran out for one
 abbrev pub IsHalfway : ℕ → Outcome → Type 0
@@ -37,6 +39,12 @@ module _ {g : Ghosts BookedState Entry FixedPart} where
     pub whole : outcome ≡ Done → made pass ≡ wanted
     pub full : outcome ≡ Full k → length (seen pass) ≡ JOURNAL_MAX
     pub lacks : outcome ≡ Full k → length (made pass) < length wanted
+
+  -- a pass may hand in an entry: its desk may be offered it, and it is the pass of the entry's source, whose end it hasn't made
+  pub record MayHandIn (entry : Entry) (pass : Pass BookedState Entry FixedPart g) : Type 0 where
+    pub may : IfSome (fixed pass) (MayOffer entry)
+    pub own_source : number pass ≡ entry.source + 1
+    pub running : has_ended entry.source (made pass) ≡ false
 
   -- one pass stands at each of at most 16 desks, in their order
   pub record StandAt (desks : List (Turnstile BookedState Entry FixedPart)) (passes : List (Pass BookedState Entry FixedPart g)) : Type 0 where
@@ -61,13 +69,14 @@ module _ {g : Ghosts BookedState Entry FixedPart} where
   TakesMore shards entry (Full shard) outcome old new = (outcome ≡ Full shard) × (new ≡ old)
   TakesMore shards entry (Fault fault) outcome old new = (outcome ≡ Fault fault) × (new ≡ old)
 
-  -- a feed that wasn't read yet, and passes that made nothing yet, of desks that know its source
+  -- a feed that wasn't read yet, and passes that made nothing yet, of desks that know its source: the passes of this source
   pub record IsReady (start : FeedView) (outcome : Outcome) (passes : List (Pass BookedState Entry FixedPart g)) : Type 0 where
     pub running : start.ended ≡ false
     pub unanswered : start.answered ≡ None
     pub unread : start.gave ≡ []
     pub done : outcome ≡ Done
     pub known : All (λ p. IfSome (fixed p) (λ f. start.source < f.sources)) passes
+    pub own_source : All (λ p. number p ≡ start.source + 1) passes
     pub blank : All (λ p. made p ≡ []) passes
 
   -- the same feed and passes, which stand at these desks

@@ -4,8 +4,7 @@ ghost use Rattle.fan_in.specs.Floors.{IsZero, known_in};
 ghost use Rattle.fan_in.specs.Closings.{AreClosed, EndAt, IsClosed};
 ghost use Rattle.fan_in.specs.Closings.{IsColumn, IsStandingOf, LoseLast, SettlesLast};
 
-use crate::booked::Booked;
-use crate::desk::Desk;
+use crate::by_source::{BySource, SourceDesk};
 use crate::floor::Floor;
 use crate::plan::Plan;
 use shard_core::Shard;
@@ -49,9 +48,9 @@ pub(crate) fn close_all<R: Wait>(
 fn close_desk<R: Wait>(
     rt: &R,
     alloc: Global,
-    desk: Desk,
-    zero: Pass<Booked>,
-    rows: &mut [Vec<Pass<Booked>>],
+    desk: SourceDesk,
+    zero: Pass<BySource>,
+    rows: &mut [Vec<Pass<BySource>>],
 ) -> Result<Shard, NoMemory>
     requires zero { IsZero desk (fixed zero) (length rows.old) zero }
     requires rows { EndAt desk (fixed zero) rows.old }
@@ -69,9 +68,9 @@ fn close_desk<R: Wait>(
 // Pass zero, and the last pass of each row.
 fn column_of(
     alloc: Global,
-    zero: Pass<Booked>,
-    rows: &mut [Vec<Pass<Booked>>],
-) -> Result<Vec<Pass<Booked>>, NoMemory>
+    zero: Pass<BySource>,
+    rows: &mut [Vec<Pass<BySource>>],
+) -> Result<Vec<Pass<BySource>>, NoMemory>
     requires some { All (λ row. 0 < length row.items) rows.old }
     ensures column { IfOk result (λ column. IsColumn zero rows.old column.items) }
     ensures rows { OnOk result (LoseLast rows.old rows.new) }

@@ -23,7 +23,7 @@ impl<L> Call<Booked> for OfferTurn<'_, '_, L> {
 
     type Reply = Result<Applied, ApplyFault>;
 
-    ghost may_run = { λ call fixed. MayOffer call.entry.now fixed };
+    ghost may_run = { λ call fixed number. MayOffer call.entry.now fixed };
 
     ghost does = { λ call before after number reply.
         Books call.entry.now before after number reply };

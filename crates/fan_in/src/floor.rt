@@ -3,8 +3,7 @@ ghost use Rattle.std.specs.Prelude.{IfOk, OnOk};
 ghost use Rattle.turnstile.specs.Passes.{number, room, fixed, made, born, IsPassOf};
 ghost use Rattle.fan_in.specs.Floors.{GainSeats, IsFloorOf, IsZero};
 
-use crate::booked::Booked;
-use crate::desk::Desk;
+use crate::by_source::{BySource, SourceDesk};
 use crate::plan::Plan;
 use shard_core::Shard;
 use std::alloc::Global;
@@ -14,9 +13,9 @@ use turnstile::{Pass, Turnstile};
 // The desks of all shards, pass zero of each, and for each source a row of passes, one of each desk.
 #[derive(Drop)]
 pub(crate) struct Floor {
-    pub(crate) desks: Vec<Desk>,
-    pub(crate) zeros: Vec<Pass<Booked>>,
-    pub(crate) rows: Vec<Vec<Pass<Booked>>>,
+    pub(crate) desks: Vec<SourceDesk>,
+    pub(crate) zeros: Vec<Pass<BySource>>,
+    pub(crate) rows: Vec<Vec<Pass<BySource>>>,
 }
 
 // Opens a desk for each shard, with a pass for each source.
@@ -36,7 +35,7 @@ pub(crate) fn open_floor(alloc: Global, plan: &Plan) -> Result<Floor, NoMemory>
 }
 
 // A row for each source, with no pass yet.
-fn empty_rows(alloc: Global, sources: u16) -> Result<Vec<Vec<Pass<Booked>>>, NoMemory>
+fn empty_rows(alloc: Global, sources: u16) -> Result<Vec<Vec<Pass<BySource>>>, NoMemory>
     ensures many { IfOk result (λ rows. length rows.items ≡ sources) }
     ensures none { IfOk result (λ rows. All (λ row. row.items ≡ []) rows.items) }
 {
@@ -55,7 +54,7 @@ fn open_desk(alloc: Global, plan: &Plan, floor: &mut Floor) -> Result<(), NoMemo
     ensures open { OnOk result (IsFloorOf plan.now floor.new) }
 {
     let shard = Shard::new(alloc, plan.defs.copy(alloc)?, plan.sources)?;
-    let (desk, mut zero) = Turnstile::new(alloc, Booked::new(alloc, shard))?;
+    let (desk, mut zero) = Turnstile::new(alloc, BySource::new(alloc, shard))?;
     hand_passes(&desk, &mut zero, floor.rows.as_mut_slice())?;
     floor.desks.push(desk)?;
     floor.zeros.push(zero)?;
@@ -64,9 +63,9 @@ fn open_desk(alloc: Global, plan: &Plan, floor: &mut Floor) -> Result<(), NoMemo
 
 // Makes a pass for each source, with the number one above the source's.
 fn hand_passes(
-    desk: &Desk,
-    zero: &mut Pass<Booked>,
-    rows: &mut [Vec<Pass<Booked>>],
+    desk: &SourceDesk,
+    zero: &mut Pass<BySource>,
+    rows: &mut [Vec<Pass<BySource>>],
 ) -> Result<(), NoMemory>
     requires own { IsPassOf desk.now zero.old }
     requires first { (number zero.old ≡ 0) × (made zero.old ≡ []) × (born zero.old ≡ []) }

@@ -1,11 +1,10 @@
-ghost use Rattle.std.specs.Prelude.{◌++◌, [], ◌∷◌, All, IfSome, length};
+ghost use Rattle.std.specs.Prelude.{◌++◌, [], ◌∷◌, All, length};
 ghost use Rattle.stream_base.specs.Model.Routes.{routed};
-ghost use Rattle.turnstile.specs.Passes.{fixed, made, IsPassOf, IsSamePass};
-ghost use Rattle.fan_in.specs.Offers.{MayOffer};
-ghost use Rattle.fan_in.specs.Reading.{AreSame, HasMade, HaveTaken, IsAbout, IsHalfway, StandAt};
+ghost use Rattle.turnstile.specs.Passes.{made, IsPassOf, IsSamePass};
+ghost use Rattle.fan_in.specs.Reading.{AreSame, HasMade, HaveTaken, IsAbout, IsHalfway};
+ghost use Rattle.fan_in.specs.Reading.{MayHandIn, StandAt};
 
-use crate::booked::Booked;
-use crate::desk::Desk;
+use crate::by_source::{BySource, SourceDesk};
 use crate::gated::offer_gated;
 use crate::outcome::Outcome;
 use crate::place::Place;
@@ -21,12 +20,12 @@ use turnstile::Pass;
 pub(crate) fn hand_out<G: Gate, R: Threads + Wait>(
     rt: &R,
     gate: &G,
-    desks: &[Desk],
-    passes: &mut [Pass<Booked>],
+    desks: &[SourceDesk],
+    passes: &mut [Pass<BySource>],
     entry: &Entry,
 ) -> Outcome
     requires stand { StandAt desks.now passes.old }
-    requires may { All (λ p. IfSome (fixed p) (MayOffer entry.now)) passes.old }
+    requires may { All (MayHandIn entry.now) passes.old }
     ensures same { AreSame passes.old passes.new }
     ensures halfway { IsHalfway (length desks.now) result }
     ensures made { HaveTaken (length desks.now) entry.now result passes.old passes.new }
@@ -50,13 +49,13 @@ pub(crate) fn hand_out<G: Gate, R: Threads + Wait>(
 fn offer_at<G: Gate, R: Threads + Wait>(
     rt: &R,
     gate: &G,
-    desk: &Desk,
-    pass: &mut Pass<Booked>,
+    desk: &SourceDesk,
+    pass: &mut Pass<BySource>,
     place: Place,
     entry: &Entry,
 ) -> Outcome
     requires own { IsPassOf desk.now pass.old }
-    requires may { IfSome (fixed pass.old) (MayOffer entry.now) }
+    requires may { MayHandIn entry.now pass.old }
     ensures same { IsSamePass pass.old pass.new }
     ensures about { IsAbout place.shard result }
     ensures made { HasMade (made pass.old ++ routed place.shards place.shard (entry.now ∷ []))
@@ -69,8 +68,8 @@ fn offer_at<G: Gate, R: Threads + Wait>(
     match offer_gated(rt, gate, desk, pass, place.shard, entry) {
         Ok(_) => Outcome::Done,
         Err(ApplyFault::Full) => Outcome::Full { shard: place.shard },
-        // The source can't have ended here: its end is the last entry that its feed gives, and no
-        // other pass makes entries of it. So `Ended` is answered as want of memory, which is free.
-        Err(ApplyFault::Ended | ApplyFault::NoMemory) => Outcome::Fault(FeedFault::NoMemory),
+        // This pass alone makes entries of the source, and hasn't made its end.
+        Err(ApplyFault::Ended) => unreachable!(),
+        Err(ApplyFault::NoMemory) => Outcome::Fault(FeedFault::NoMemory),
     }
 }

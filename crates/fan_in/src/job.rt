@@ -1,4 +1,4 @@
-use crate::booked::Booked;
+use crate::by_source::BySource;
 use crate::outcome::Outcome;
 use turnstile::Pass;
 
@@ -6,5 +6,5 @@ use turnstile::Pass;
 pub(crate) struct Job<F> {
     pub(crate) feed: F,
     pub(crate) outcome: Outcome,
-    pub(crate) passes: Vec<Pass<Booked>>,
+    pub(crate) passes: Vec<Pass<BySource>>,
 }

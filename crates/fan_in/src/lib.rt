@@ -14,6 +14,7 @@
 #![tactic(auto)]
 
 mod booked;
+mod by_source;
 mod closing;
 mod desk;
 mod fixed_part;

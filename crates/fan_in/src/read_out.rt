@@ -2,8 +2,7 @@ ghost use Rattle.std.specs.Prelude.{◌≡◌, ◌<◌, ℕ, length, slice_index
 ghost use Rattle.fan_in.specs.Reading.{AreReadyAt, WasRead};
 ghost use Rattle.fan_in.specs.Works.{HasRoom};
 
-use crate::booked::Booked;
-use crate::desk::Desk;
+use crate::by_source::{BySource, SourceDesk};
 use crate::gathered::FeedEnd;
 use crate::side_by_side::read_all;
 use crate::work::{Work, fill, take_apart};
@@ -17,11 +16,11 @@ use turnstile::Pass;
 pub(crate) fn read_out<F: Feed + Send, G: Gate, R: Threads + Wait + Sync>(
     rt: &R,
     gate: &G,
-    desks: &[Desk],
+    desks: &[SourceDesk],
     work: Work<F>,
     feeds: Vec<F>,
-    rows: Vec<Vec<Pass<Booked>>>,
-) -> (Vec<FeedEnd<F>>, Vec<Vec<Pass<Booked>>>)
+    rows: Vec<Vec<Pass<BySource>>>,
+) -> (Vec<FeedEnd<F>>, Vec<Vec<Pass<BySource>>>)
     requires ready { AreReadyAt F.state desks.now feeds.items rows.items }
     requires room { HasRoom (length feeds.items) work }
     ensures many_ends { length result.0.items ≡ length feeds.items }

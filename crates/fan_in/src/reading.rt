@@ -1,9 +1,8 @@
-ghost use Rattle.std.specs.Prelude.{◌≡◌, All, IfSome, length};
-ghost use Rattle.turnstile.specs.Passes.{fixed};
-ghost use Rattle.fan_in.specs.Offers.{MayOffer};
-ghost use Rattle.fan_in.specs.Reading.{AreSame, IsReadyAt, StandAt, TakesMore, WasRead};
+ghost use Rattle.std.specs.Prelude.{◌≡◌, All, length};
+ghost use Rattle.fan_in.specs.Reading.{AreSame, IsReadyAt, MayHandIn, StandAt, TakesMore};
+ghost use Rattle.fan_in.specs.Reading.{WasRead};
 
-use crate::desk::Desk;
+use crate::by_source::SourceDesk;
 use crate::hand_out::hand_out;
 use crate::job::Job;
 use crate::outcome::Outcome;
@@ -17,7 +16,7 @@ use stream_base::Entry;
 pub(crate) fn read_feed<F: Feed, G: Gate, R: Threads + Wait>(
     rt: &R,
     gate: &G,
-    desks: &[Desk],
+    desks: &[SourceDesk],
     job: &mut Job<F>,
 )
     requires ready { IsReadyAt desks.now (F.state job.old.feed) job.old.outcome
@@ -43,12 +42,12 @@ pub(crate) fn read_feed<F: Feed, G: Gate, R: Threads + Wait>(
 fn take_entry<F: Feed, G: Gate, R: Threads + Wait>(
     rt: &R,
     gate: &G,
-    desks: &[Desk],
+    desks: &[SourceDesk],
     job: &mut Job<F>,
     entry: &Entry,
 )
     requires stand { StandAt desks.now job.old.passes.items }
-    requires may { All (λ p. IfSome (fixed p) (MayOffer entry.now)) job.old.passes.items }
+    requires may { All (MayHandIn entry.now) job.old.passes.items }
     ensures feed { job.new.feed ≡ job.old.feed }
     ensures same { AreSame job.old.passes.items job.new.passes.items }
     ensures taken { TakesMore (length desks.now) entry.now job.old.outcome job.new.outcome

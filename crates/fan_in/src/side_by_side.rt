@@ -1,7 +1,7 @@
 ghost use Rattle.std.specs.Prelude.{◌≡◌, ◌≤◌, ◌<◌, ℕ, All, length, slice_index_or};
 ghost use Rattle.fan_in.specs.Reading.{IsReadyAt, WasRead};
 
-use crate::desk::Desk;
+use crate::by_source::SourceDesk;
 use crate::job::Job;
 use crate::reading::read_feed;
 use outside::Gate;
@@ -14,7 +14,7 @@ use std::thread::Threads;
 pub(crate) fn read_all<F: Feed + Send, G: Gate, R: Threads + Wait + Sync>(
     rt: &R,
     gate: &G,
-    desks: &[Desk],
+    desks: &[SourceDesk],
     jobs: &mut [Job<F>],
 )
     requires some { 1 ≤ length jobs.old }

@@ -3,7 +3,7 @@ ghost use Rattle.fan_in.specs.Gathering.{AreSameFeeds};
 ghost use Rattle.fan_in.specs.Works.{HasRoom, IsReserved, without_shards};
 ghost use Rattle.fan_in.specs.declared.outcome.Outcome.TheVariants.{Done};
 
-use crate::booked::Booked;
+use crate::by_source::BySource;
 use crate::gathered::FeedEnd;
 use crate::job::Job;
 use crate::outcome::Outcome;
@@ -16,7 +16,7 @@ use turnstile::Pass;
 pub(crate) struct Work<F> {
     pub(crate) jobs: Vec<Job<F>>,
     pub(crate) ends: Vec<FeedEnd<F>>,
-    pub(crate) rows: Vec<Vec<Pass<Booked>>>,
+    pub(crate) rows: Vec<Vec<Pass<BySource>>>,
 }
 
 // Room for so many jobs.
@@ -35,7 +35,7 @@ pub(crate) fn make_room<F>(alloc: Global, many: usize) -> Result<Work<F>, NoMemo
 }
 
 // Makes a job of each feed and its row of passes.
-pub(crate) fn fill<F>(jobs: &mut Vec<Job<F>>, mut feeds: Vec<F>, mut rows: Vec<Vec<Pass<Booked>>>)
+pub(crate) fn fill<F>(jobs: &mut Vec<Job<F>>, mut feeds: Vec<F>, mut rows: Vec<Vec<Pass<BySource>>>)
     requires room { IsReserved (length feeds.items) jobs.old }
     requires one_each { length rows.items ≡ length feeds.items }
     ensures many { length jobs.new.items ≡ length feeds.items }
@@ -60,7 +60,7 @@ pub(crate) fn fill<F>(jobs: &mut Vec<Job<F>>, mut feeds: Vec<F>, mut rows: Vec<V
 pub(crate) fn take_apart<F>(
     mut jobs: Vec<Job<F>>,
     ends: &mut Vec<FeedEnd<F>>,
-    rows: &mut Vec<Vec<Pass<Booked>>>,
+    rows: &mut Vec<Vec<Pass<BySource>>>,
 )
     requires ends { IsReserved (length jobs.items) ends.old }
     requires rows { IsReserved (length jobs.items) rows.old }

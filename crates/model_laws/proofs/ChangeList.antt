@@ -127,7 +127,7 @@ same_tuples_positions (x ∷ xs) (y ∷ ys) h =
     let rest : map (λ x. x.position) xs ≡ map (λ y. y.position) ys = same_tuples_positions xs ys both.1 in
     λ i. first i ∷ rest i
 
-positions_same_tuples : (xs ys : List Kept) → map (λ x. x.position) xs ≡ map (λ y. y.position) ys → are_same_tuples xs ys ≡ true
+pub positions_same_tuples : (xs ys : List Kept) → map (λ x. x.position) xs ≡ map (λ y. y.position) ys → are_same_tuples xs ys ≡ true
 positions_same_tuples [] [] h = refl
 positions_same_tuples [] (y ∷ ys) h = cc
 positions_same_tuples (x ∷ xs) [] h = cc

@@ -32,7 +32,7 @@ use Rattle.stream_base.specs.Model.What.{is_late, is_progress, key_in, mark_in, 
 use Rattle.stream_base.specs.Model.Changes.{moment_of, standing_at, changes_between, changes_of_key, changes_after}
 use Rattle.stream_base.specs.Laws.{RiseByStart, AreInOrder, by_place, IsCausedBy, completions, completions_after, is_timed}
 use Rattle.stream_base.proofs.Rising.{none_in_nil, Contains-cons_cases, below_tail, not_below_itself, Contains-head, key_rising_is_sorted, sorted_cons, sorted_nil}
-use Rattle.stream_base.proofs.Growing.{kept_of_tuple, kept_of_other, marks_of_other, keys_of_push}
+use Rattle.stream_base.proofs.Growing.{kept_of_tuple, kept_of_other, marks_of_other, keys_of_push, kept_of_late, marks_of_late}
 use Rattle.model_laws.proofs.WatermarkFacts.{water_of_same, water_rises}
 use Rattle.stream_base.proofs.Members.{flat_map_members, flat_map_has}
 use Rattle.stream_base.proofs.Spans.{standing_of_tumbling_put, standing_of_sliding_put}
@@ -216,6 +216,22 @@ changes_of_keyed d sources before e of limits h on_time =
         let same : moment_of d sources key (before ++ e ∷ []) ≡ moment_of d sources key before = λ i. record { kept = kept i; marks = marks i; water = water i } in
         ap (changes_between d.windows key (moment_of d sources key before)) same
         ∙ no_changes_at_rest d.windows key (moment_of d sources key before) limits.kinds (kept_times_do_not_fall d.lateness sources key before)
+
+-- ---- an entry that is late
+late_is_no_progress : (lateness water : ℕ) (what : What) → is_late lateness water what ≡ true → is_progress what ≡ false
+late_is_no_progress lateness water (Tuple key time value) h = refl
+late_is_no_progress lateness water (Mark key time) h = refl
+late_is_no_progress lateness water (Water time) h = absurd (false≢true h)
+late_is_no_progress lateness water Idle h = absurd (false≢true h)
+late_is_no_progress lateness water End h = absurd (false≢true h)
+
+-- it leaves what is kept, and the watermark
+pub moment_of_late : (d : Definitions) (sources : ℕ) (key : List ℕ) (before : List Entry) (e : Entry) → is_late d.lateness (water_of sources before) e.what ≡ true → moment_of d sources key (before ++ e ∷ []) ≡ moment_of d sources key before
+moment_of_late d sources key before e late = λ i. record {
+  kept = kept_of_late d.lateness sources key before e late i;
+  marks = marks_of_late d.lateness sources key before e late i;
+  water = water_of_same sources before e (late_is_no_progress d.lateness (water_of sources before) e.what late) i;
+}
 
 -- ---- a tuple at or after the watermark
 standing_of_timed_put : (kind : Kind) (kept : List Kept) (marks : List ℕ) (water : ℕ) (x : Kept) → IsKindWithin kind → is_timed kind ≡ true → water ≤ x.time → standing_of kind (put_in_order kept x) marks water ≡ standing_of kind kept marks water

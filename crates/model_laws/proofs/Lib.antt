@@ -12,3 +12,8 @@ pub mod Positions
 pub mod CutLaws
 pub mod PiecesBetween
 pub mod StandingRows
+pub mod Places
+pub mod Choosing
+pub mod RowChanges
+pub mod Finding
+pub mod RowCounts

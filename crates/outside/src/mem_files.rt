@@ -1,9 +1,9 @@
-ghost use Rattle.std.specs.Prelude.{◌≡◌, ◌≢◌, ◌≤◌, ◌++◌, ◌∷◌, [], ℕ, List, map, length, IfOk, OnOk, OnErr};
+ghost use Rattle.std.specs.Prelude.{◌≡◌, ◌≢◌, ◌≤◌, ◌++◌, ◌∷◌, [], ℕ, List, Some, map, length, true, false, IfOk, OnOk, OnErr};
 ghost use Rattle.outside.specs.Outside.{Came, back, nothing_read, out, refused, unasked, with_came};
 ghost use Rattle.outside.specs.FileLogs.{asked_of, came_of};
 ghost use Rattle.std.specs.List.{find};
 ghost use Rattle.std.specs.Option.{option_map, option_copied};
-ghost use Rattle.outside.specs.Memory.{bytes_under, is_named};
+ghost use Rattle.outside.specs.Memory.{IsOpened, bytes_under, can_open, is_named};
 ghost use Rattle.outside.specs.MemFile.{filed};
 
 use crate::file_log::FileLog;
@@ -47,7 +47,25 @@ impl<'a> Files for MemFiles<'a> {
 
     ghost came = { λ s. came_of s.log };
 
-    fn open_file(&mut self, name: &str) -> Result<MemSource<'a>, Failed> {
+    fn open_file(&mut self, name: &str) -> Result<MemSource<'a>, Failed>
+        ensures asked { asked_of self.new.log ≡ asked_of self.old.log ++ name.now ∷ [] }
+        ensures fresh { IfOk result (λ source.
+            source.reads ≡ nothing_read (length (asked_of self.old.log))) }
+        ensures content { IfOk result (λ source.
+            Some source.whole ≡ bytes_under (map filed self.old.files.now) name.now) }
+        ensures out { OnOk result (came_of self.new.log (length (asked_of self.old.log)) ≡ out) }
+        ensures refused { OnErr result (came_of self.new.log (length (asked_of self.old.log)) ≡ refused) }
+        ensures others { (i : ℕ) → i ≢ length (asked_of self.old.log)
+            → came_of self.new.log i ≡ came_of self.old.log i }
+        ensures same { (which : List ℕ) → bytes_under (map filed self.new.files.now) which
+            ≡ bytes_under (map filed self.old.files.now) which }
+        ensures opens { OnOk result (can_open (map filed self.old.files.now) name.now ≡ true) }
+        ensures refuses { OnErr result (can_open (map filed self.old.files.now) name.now ≡ false) }
+        ensures source { IfOk result (λ source. IsOpened (map filed self.old.files.now) name.now
+            self.old.piece source) }
+        ensures files { self.new.files.now ≡ self.old.files.now }
+        ensures piece { self.new.piece ≡ self.old.piece }
+    {
         match first_named(self.files, name) {
             Some(file) if !file.refuse => {
                 let log = self.log.opened(name);

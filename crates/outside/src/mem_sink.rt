@@ -1,5 +1,6 @@
-ghost use Rattle.std.specs.Prelude.{◌≡◌, ◌≤◌, ◌<◌, IfOk, []};
-ghost use Rattle.outside.specs.Memory.{MemSinkState};
+ghost use Rattle.std.specs.Prelude.{◌≡◌, ◌≤◌, ◌<◌, ◌++◌, ◌-◌, [], take, length, true, false, IfOk, OnOk, OnErr};
+ghost use Rattle.outside.specs.Outside.{Rose};
+ghost use Rattle.outside.specs.Memory.{MemSinkState, handed_over, must_fail, next_call};
 
 use crate::sink::Sink;
 use crate::source::Failed;
@@ -75,7 +76,24 @@ impl Sink for MemSink {
 
     ghost faults = { λ s. s.faults };
 
-    fn write(&mut self, bytes: &[u8]) -> Result<usize, Failed> {
+    fn write(&mut self, bytes: &[u8]) -> Result<usize, Failed>
+        ensures within { IfOk result (λ n. n ≤ length bytes.now) }
+        ensures some { 0 < length bytes.now → IfOk result (λ n. 1 ≤ n) }
+        ensures appended { IfOk result (λ n. self.new.bytes ≡ self.old.bytes ++ take n bytes.now) }
+        ensures quiet { OnOk result (self.new.faults ≡ self.old.faults) }
+        ensures failed { OnErr result (Rose self.old.faults self.new.faults) }
+        ensures kept { OnErr result (self.new.bytes ≡ self.old.bytes) }
+        ensures never_falls { self.old.faults ≤ self.new.faults }
+        ensures works { OnOk result (must_fail self.old bytes.now ≡ false) }
+        ensures fails { OnErr result (must_fail self.old bytes.now ≡ true) }
+        ensures amount { IfOk result (λ n.
+            n ≡ handed_over self.old.piece (length bytes.now) self.old.room) }
+        ensures room { IfOk result (λ n. self.new.room ≡ self.old.room - n) }
+        ensures room_kept { OnErr result (self.new.room ≡ self.old.room) }
+        ensures counted { self.new.calls ≡ next_call self.old.calls }
+        ensures failing { self.new.failing ≡ self.old.failing }
+        ensures piece { self.new.piece ≡ self.old.piece }
+    {
         let full = self.room == 0 && !bytes.is_empty();
         let fails = full || self.failing.contains(&self.calls);
         self.calls = self.calls.saturating_add(1);

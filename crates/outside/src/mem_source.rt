@@ -1,7 +1,7 @@
-ghost use Rattle.std.specs.Prelude.{◌≡◌, ◌≤◌, ◌++◌, ℕ, [], None, Some, take, length};
-ghost use Rattle.outside.specs.Outside.{nothing_read, with_read, KeepsWord};
+ghost use Rattle.std.specs.Prelude.{◌≡◌, ◌≤◌, ◌++◌, ℕ, [], None, Some, take, drop, length, true, false, IfOk, IfSome, OnOk, OnErr};
+ghost use Rattle.outside.specs.Outside.{HasFailed, nothing_read, with_read, KeepsWord};
 ghost use Rattle.outside.specs.ReadLogs.{reads_of};
-ghost use Rattle.outside.specs.Memory.{MemSourceState};
+ghost use Rattle.outside.specs.Memory.{MemSourceState, handed_over, is_told_to_fail, next_call};
 
 use crate::read_log::ReadLog;
 use crate::source::{Failed, Source};
@@ -114,7 +114,24 @@ impl Source for MemSource<'_> {
 
     ghost told = { λ s. Some s.whole };
 
-    fn read(&mut self, buf: &mut [u8]) -> Result<usize, Failed> {
+    fn read(&mut self, buf: &mut [u8]) -> Result<usize, Failed>
+        ensures within { IfOk result (λ n. n ≤ length buf.old) }
+        ensures gave { IfOk result (λ n. self.new.reads
+            ≡ with_read (length buf.old) (take n buf.new) self.old.reads) }
+        ensures failed { OnErr result (HasFailed self.old.reads self.new.reads) }
+        ensures told { self.new.whole ≡ self.old.whole }
+        ensures word { OnOk result (KeepsWord self.new.reads self.new.whole) }
+        ensures works { OnOk result (is_told_to_fail self.old.failing self.old.calls ≡ false) }
+        ensures fails { OnErr result (is_told_to_fail self.old.failing self.old.calls ≡ true) }
+        ensures amount { IfOk result (λ n.
+            n ≡ handed_over self.old.piece (length buf.old) (length self.old.left)) }
+        ensures front { IfOk result (λ n. buf.new ≡ take n self.old.left ++ drop n buf.old) }
+        ensures left { IfOk result (λ n. self.new.left ≡ drop n self.old.left) }
+        ensures kept { OnErr result (self.new.left ≡ self.old.left) }
+        ensures counted { self.new.calls ≡ next_call self.old.calls }
+        ensures failing { self.new.failing ≡ self.old.failing }
+        ensures piece { self.new.piece ≡ self.old.piece }
+    {
         let fails = self.failing.contains(&self.calls);
         self.calls = self.calls.saturating_add(1);
         if fails {

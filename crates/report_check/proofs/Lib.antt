@@ -1,5 +1,4 @@
 mod Following
-mod Fronts
 mod SortedPlaces
 mod Telling
 mod Judging

@@ -27,40 +27,6 @@ put_last (Ok done) journals e n old new l h was is =
     ∙ put_at_last journals e old (subst (λ m. 0 < m) l h)
 put_last (Err fault) journals e n old new l h was is = tt
 
--- the line of a header with this number
-abbrev header : ℕ → List ℕ
-header number = line_of (codes "shard" ∷ decimal number ∷ [])
-
-spelled_true : (line : List ℕ) (m : ℕ) → m < 2 ^ 64 → bytes_eq (header m) (line ++ 10 ∷ []) ≡ true → is_header line ≡ true
-spelled_true line m h t = (is_header-exact line).1 (m, h, bytes_eq_true (header m) (line ++ 10 ∷ []) t)
-
-within : (line : List ℕ) (m : ℕ) (b c : Bool) → ltb (number_in (after_word line)) (2 ^ 64) ≡ b → bytes_eq (header m) (line ++ 10 ∷ []) ≡ c
-    → m ≡ min (number_in (after_word line)) (2 ^ 64 - 1) → bytes_eq (header m) (line ++ 10 ∷ []) ≡ is_header line
-within line m b true s t e =
-    let small : m < 2 ^ 64 = omega arith in
-    t ∙ sym (spelled_true line m small t)
-within line m true false s t e =
-    let same : m ≡ number_in (after_word line) = grind (arith, nat_tests) in
-    ap (λ n. bytes_eq (header n) (line ++ 10 ∷ [])) same ∙ sym (and_true (bytes_eq (header (number_in (after_word line))) (line ++ 10 ∷ [])) (ltb (number_in (after_word line)) (2 ^ 64)) s)
-  where
-    and_true : (a b : Bool) → b ≡ true → (a && b) ≡ a
-    and_true true b e = e
-    and_true false b e = refl
-within line m false false s t e = t ∙ sym (and_false (bytes_eq (header (number_in (after_word line))) (line ++ 10 ∷ [])) (ltb (number_in (after_word line)) (2 ^ 64)) s)
-  where
-    and_false : (a b : Bool) → b ≡ false → (a && b) ≡ false
-    and_false true b e = e
-    and_false false b e = refl
-
--- a line is a header exactly where the number in it, up to the greatest of 64 bits, spells it
-pub header_by_number : (line : List ℕ) (m : ℕ) → m ≡ min (number_in (after_word line)) (2 ^ 64 - 1) → bytes_eq (header m) (line ++ 10 ∷ []) ≡ is_header line
-header_by_number line m e = within line m (ltb (number_in (after_word line)) (2 ^ 64)) (bytes_eq (header m) (line ++ 10 ∷ [])) refl refl e
-
--- an answer that is one test is an equal one
-pub if_ok : {E : Type 0} (r : Result Bool E) {a b : Bool} → a ≡ b → IfOk r (λ yes. yes ≡ a) → IfOk r (λ yes. yes ≡ b)
-if_ok (Ok is) e h = h ∙ e
-if_ok (Err fault) e h = tt
-
 -- the line of an entry adds it to the last journal
 pub after_entry : (journals : List (List Entry)) (line : List ℕ) (e : Entry) → is_header line ≡ false → entry_in line ≡ Some e → after_line journals line ≡ with_entry journals e
 after_entry journals line e header found = λ i. cond (header i) (journals ++ [] ∷ []) (option_map_or (with_entry journals) (found i) journals)

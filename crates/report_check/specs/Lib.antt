@@ -1,7 +1,6 @@
 pub mod Apart
 pub mod Findings
 pub mod Examples
-pub mod Told
 pub mod Waters
 pub mod Readable
 pub mod Held

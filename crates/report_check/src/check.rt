@@ -3,10 +3,10 @@ ghost use Rattle.std.specs.Prelude.{◌≤◌, length, IfOk};
 ghost use Rattle.report_check.specs.Findings.{IsFinding, lists_of};
 
 use crate::finding::Finding;
+use crate::form::form_of_text;
 use crate::judge::judge;
 use crate::read::journals_of;
 use crate::tell::put_report;
-use crate::told::Told;
 use agg_laws::Steps;
 use std::alloc::Global;
 use stream_base::{Defs, Entry, NoMemory};
@@ -28,7 +28,7 @@ pub fn check_report<L>(
 {
     let journals = journals_of(alloc, report)?;
     let mut told = Vec::new(alloc);
-    let form = Told::of_text(report);
+    let form = form_of_text(report);
     let count = sources.len() as u16;
     put_report(alloc, form, defs, count, &journals, &mut told, steps)?;
     judge(alloc, shards, sources, report, &told, &journals)

@@ -10,12 +10,10 @@
 #![tactic(auto)]
 
 mod apart;
-mod change_line;
 mod check;
-mod entry_line;
 pub mod examples;
 mod finding;
-mod guess;
+mod form;
 mod inserting;
 mod journal;
 mod judge;
@@ -23,16 +21,12 @@ mod key_lists;
 pub mod laws;
 mod ledger;
 mod moves;
-mod numbers;
-mod pieces;
 mod read;
 mod routes;
 mod same;
 mod step;
 mod tell;
-mod told;
 mod waters;
-mod words;
 
 pub use check::check_report;
 pub use finding::Finding;

@@ -2,16 +2,13 @@
 ghost use Rattle.std.specs.Prelude.{◌≡◌, ◌++◌, ◌∷◌, [], OnOk, codes, decimal};
 ghost use Rattle.stream_base.specs.Model.Text.{changes_under, journal_lines, line_of, report_of, shard_lines};
 ghost use Rattle.report_check.specs.Readable.{IsReadable};
-ghost use Rattle.report_check.specs.Told.{form_of};
+ghost use Rattle.report_lines.specs.Told.{form_of};
 
-use crate::change_line::put_changes;
-use crate::entry_line::put_entry;
 use crate::journal::Journal;
 use crate::ledger::Ledger;
-use crate::pieces::put_pieces;
-use crate::told::Told;
 use agg_laws::Steps;
 use itoa::Buffer;
+use report_lines::{Told, put_changes, put_entry, put_pieces};
 use std::alloc::Global;
 use stream_base::{Defs, Entry, NoMemory};
 

@@ -1,4 +1,6 @@
+use crate::runs::{DEFS, ends, file};
 use outside::{Failed, MemSink, Sink};
+use scotty_run::Status;
 use std::test::Fail;
 use stream_base::{Def, Defs, Func, KeyFault, KeyText, Kind, LimitFault};
 
@@ -45,4 +47,24 @@ fn definitions_are_refused_at_their_first_limit(rt: HostRuntime) -> Result<(), F
     let copy = defs.copy(rt.alloc())?;
     assert_eq!(rt; copy.windows(), defs.windows());
     Ok(())
+}
+
+#[test]
+fn the_first_file_of_a_name_is_read(rt: HostRuntime) -> Result<(), Fail> {
+    let records = b"t,1,5,a\nt,4,7,a\nw,10\n";
+    let report = "shard 0
+j 0 t 1 5 a
+j 0 t 4 7 a
+j 0 w 10
++ 0 0 10 2 12 a
+j 0 e
+end
+";
+    let files = [
+        file(rt.alloc(), "s", records, Vec::new(rt.alloc()))?,
+        file(rt.alloc(), "d", DEFS.as_bytes(), Vec::new(rt.alloc()))?,
+        file(rt.alloc(), "s", b"q,1\n", Vec::new(rt.alloc()))?,
+    ];
+    let words = ["run", "d", "1", "turns", "s"];
+    ends(&rt, rt.alloc(), &words, &files, Status::Done, report)
 }

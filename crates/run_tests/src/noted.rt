@@ -2,7 +2,6 @@
 ghost use Rattle.std.specs.Prelude.{◌≡◌};
 
 use crate::runs::{DEFS, sink_of, words_of};
-use crate::sources::times;
 use outside::{Failed, Files, MemFile, MemFiles, OpenGate, Source};
 use scotty_run::{Status, scotty};
 use std::alloc::{AllocError, Global};
@@ -189,6 +188,17 @@ fn ends_over<F: Files + Drop, R: Abort + Threads + Wait + Sync>(
     assert_eq!(rt; files.asked.as_str(), case.asked);
     assert_eq!(rt; files.fates.as_slice(), case.fates, "{text}");
     Ok(())
+}
+
+// How often the line stands in the text.
+fn times(text: &str, line: &str) -> usize {
+    let mut many = 0usize;
+    for told in text.lines() {
+        if told == line {
+            many = many.saturating_add(1);
+        }
+    }
+    many
 }
 
 const TWO: [&str; 6] = ["run", "d", "1", "turns", "s0", "s1"];

@@ -8,21 +8,6 @@ use std::thread::Threads;
 
 pub const DEFS: &str = "[[window]]\nkind = \"tumbling\"\nlength = 10\nfunc = \"sum\"\n";
 
-pub const ROWS: &str = "t,1,5,a\nt,4,7,a\nw,10\n";
-
-pub const REPORT: &str = "shard 0
-j 0 t 1 5 a
-j 0 t 4 7 a
-j 0 w 10
-+ 0 0 10 2 12 a
-j 0 e
-end
-";
-
-pub const RUN: [&str; 5] = ["run", "d", "1", "turns", "s"];
-
-pub const RUN2: [&str; 5] = ["run2", "d", "1", "turns", "s"];
-
 pub fn words_of(alloc: Global, words: &[&str]) -> Result<Vec<String>, AllocError> {
     let mut all = Vec::new(alloc);
     for word in words {
@@ -44,14 +29,6 @@ pub fn file(
         failing,
         refuse: false,
     })
-}
-
-// The files of a run: definitions, and one source.
-pub fn files_of(alloc: Global, defs: &str, rows: &str) -> Result<[MemFile; 2], AllocError> {
-    Ok([
-        file(alloc, "d", defs.as_bytes(), Vec::new(alloc))?,
-        file(alloc, "s", rows.as_bytes(), Vec::new(alloc))?,
-    ])
 }
 
 // A sink with room for these many bytes, which takes eight a write.
@@ -84,47 +61,5 @@ pub fn ends<R: Abort + Threads + Wait + Sync>(
     let ended = run(rt, alloc, words, files, &mut sink)?;
     assert_eq!(rt; str::from_utf8(sink.bytes())?, text);
     assert_eq!(rt; ended, status, "{text}");
-    Ok(())
-}
-
-// These words, with these definitions and records, end with this status and have written this text.
-pub fn answers<R: Abort + Threads + Wait + Sync>(
-    rt: &R,
-    alloc: Global,
-    words: &[&str],
-    defs: &str,
-    rows: &str,
-    status: Status,
-    text: &str,
-) -> Result<(), Fail> {
-    let files = files_of(alloc, defs, rows)?;
-    ends(rt, alloc, words, &files, status, text)
-}
-
-// Definitions and records, and the report of a run over them.
-pub struct Case {
-    pub defs: &'static str,
-    pub rows: &'static str,
-    pub report: &'static str,
-}
-
-// These words write the report of each case.
-pub fn reports<R: Abort + Threads + Wait + Sync>(
-    rt: &R,
-    alloc: Global,
-    words: &[&str],
-    cases: &[Case],
-) -> Result<(), Fail> {
-    for case in cases {
-        answers(
-            rt,
-            alloc,
-            words,
-            case.defs,
-            case.rows,
-            Status::Done,
-            case.report,
-        )?;
-    }
     Ok(())
 }

@@ -19,12 +19,6 @@ use Rattle.scotty_run.specs.Causes.{AreDefinitionsRead, AreRefused, StopsAtBytes
 use Rattle.scotty_run.specs.Judging.{IsReportRead, StopsAtReport, report_fault}
 use Rattle.scotty_run.specs.Outside.{Asks, Opens, all_read, came_at}
 
-long_is_refused : (bytes : List ℕ) → BYTES_MAX < length bytes → reading_of bytes ≡ Err Long
-unfolding reading_of
-long_is_refused bytes h =
-    let long : leb (length bytes) BYTES_MAX ≡ false = grind (arith, nat_tests) in
-    rw long refl
-
 -- a fault is in the bytes, or memory ran out
 pub in_bytes_or_memory : (bytes : List ℕ) (cause : DefsFault) → (¬ (cause ≡ NoRoom) → reading_of bytes ≡ Err cause) → (reading_of bytes ≡ Err cause) ⊎ (cause ≡ NoRoom)
 in_bytes_or_memory bytes Long h = inl (h (λ e. cc))
@@ -76,14 +70,14 @@ module _ (name : List ℕ) (opens : Opens) (asked : Asks (name ∷ []) opens) (r
         in_bytes b whole h = subst (StopsAtDefs name opens) (sym h.1) (asked, cause h.2)
           where
             cause : (reading_of b ≡ Err h.0) ⊎ (h.0 ≡ NoRoom) → AreRefused opens h.0
-            cause (inl e) = inl (reads, came, (ap (λ (r : Reads). reading_of r.given) whole ∙ e, inl (ap (λ (r : Reads). r.ended) whole)))
-            cause (inr e) = inr e
+            cause (inl e) = inl (reads, came, (ap (λ (r : Reads). r.ended) whole, ap (λ (r : Reads). reading_of r.given) whole ∙ e))
+            cause (inr e) = inr (inr e)
 
         by : (x : Result (Vec ℕ Global) WholeFault) → IfOk x (λ b. reads ≡ all_read (length opens.before + 0) b.items) → (IsErrOf x WholeTooLong → BYTES_MAX < length reads.given) → (IsErrOf x WholeRead → 0 < reads.faults)
             → StopsAtReading x fault → StopsAtDefs name opens fault
         by (Ok b) whole long failed h = in_bytes b.items whole h
         by (Err WholeRead) whole long failed h = subst (StopsAtDefs name opens) (sym h) (refl, asked, (reads, came, failed refl))
-        by (Err WholeTooLong) whole long failed h = subst (StopsAtDefs name opens) (sym h) (asked, inl (reads, came, (long_is_refused reads.given (long refl), inr refl)))
+        by (Err WholeTooLong) whole long failed h = subst (StopsAtDefs name opens) (sym h) (asked, inr (inl (refl, (reads, came, long refl))))
         by (Err WholeMemory) whole long failed h = subst (StopsAtDefs name opens) (sym h) tt
 
   module _ (so : IsReadSo SOURCE_MAX (length opens.before + 0) read reads) where

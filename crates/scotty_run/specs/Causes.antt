@@ -11,8 +11,11 @@ use Rattle.stream_base.specs.declared.limits.TheConstants.{JOURNAL_MAX}
 use Rattle.shard_core.specs.Shard.{IsJournal, Sharded}
 use Rattle.source_feed.specs.FeedView.{given_then}
 use Rattle.source_feed.specs.FileFeedState.{source_stream}
-use Rattle.source_feed.specs.Stream.{Refusal, Stream, bad_record, too_long}
+use Rattle.source_feed.specs.Stream.{Stream, bad_record}
+use Rattle.source_feed.specs.declared.row_why.RowWhy.{RowWhy}
+use Rattle.source_feed.specs.declared.whole.TheConstants.{SOURCE_MAX}
 use Rattle.window_defs.specs.Reading.{reading_of}
+use Rattle.window_defs.specs.declared.read.TheConstants.{BYTES_MAX}
 use Rattle.window_defs.specs.declared.defs_fault.DefsFault.{DefsFault}
 use Rattle.window_defs.specs.declared.defs_fault.DefsFault.TheVariants.{Long}
 use Rattle.window_defs.specs.declared.defs_fault.DefsFault.TheVariants.{NoMemory as NoRoom}
@@ -32,9 +35,12 @@ pub record AreDefinitionsRead (opens : Opens) (d : Definitions) : Type 0 where
   pub whole : WasReadWhole opens 0 bytes
   pub spelled : reading_of bytes ≡ Ok d
 
--- what the first file gave is refused as definitions: all its bytes, or one byte more than definitions may have; or memory ran out
+-- what the first file gave is refused as definitions: all its bytes, or more than definitions may have; or memory ran out
 abbrev pub AreRefused : Opens → DefsFault → Type 0
-AreRefused opens cause = CameBack opens 0 (λ reads. (reading_of reads.given ≡ Err cause) × ((reads.ended ≡ true) ⊎ (cause ≡ Long))) ⊎ (cause ≡ NoRoom)
+AreRefused opens cause =
+    CameBack opens 0 (λ reads. (reads.ended ≡ true) × (reading_of reads.given ≡ Err cause))
+    ⊎ ((cause ≡ Long) × CameBack opens 0 (λ reads. BYTES_MAX < length reads.given))
+    ⊎ (cause ≡ NoRoom)
 
 -- why the definitions stop a run, of which they alone were opened: they can't be opened, or they can't be read, or they are refused
 abbrev pub StopsAtDefs : List ℕ → Opens → Fault → Type 0
@@ -84,9 +90,10 @@ pub record IsInTrouble (names : List (List ℕ)) (d : Definitions) (opens : Open
   pub below : (i : ℕ) → i < source → (entries : List Entry) × IsSourceRead opens d i entries
   pub read : CameBack opens source P
 
--- what was read is refused so, as the source of this number
-abbrev pub IsRefusedSo : Definitions → ℕ → Refusal → Reads → Type 0
-IsRefusedSo d source refusal reads = (stream_at d source reads.given).refusal ≡ Some refusal
+-- all of the source of this number was read, and the record of this number is refused in it, for this
+pub record IsRefusedAt (d : Definitions) (source number : ℕ) (why : RowWhy) (reads : Reads) : Type 0 where
+  pub ended : reads.ended ≡ true
+  pub refused : (stream_at d source reads.given).refusal ≡ Some (bad_record number why)
 
 -- all sources were read whole and none is refused, and more of their entries go to this shard than a journal holds
 pub record IsOverfull (names : List (List ℕ)) (shards : ℕ) (d : Definitions) (opens : Opens) (k : ℕ) : Type 0 where
@@ -101,11 +108,10 @@ StopsAtSources names shards d opens Usage = ⊥
 StopsAtSources names shards d opens (Defs cause) = ⊥
 StopsAtSources names shards d opens (Unopened None) = ⊥
 StopsAtSources names shards d opens (Unopened (Some source)) = IsUnopened names opens source
-StopsAtSources names shards d opens (Row source number why) =
-    IsInTrouble names d opens source (λ reads. (reads.ended ≡ true) × IsRefusedSo d source (bad_record number why) reads)
+StopsAtSources names shards d opens (Row source number why) = IsInTrouble names d opens source (IsRefusedAt d source number why)
 StopsAtSources names shards d opens (Read None) = ⊥
 StopsAtSources names shards d opens (Read (Some source)) = IsInTrouble names d opens source HasFailedRead
-StopsAtSources names shards d opens (FullSource source) = IsInTrouble names d opens source (IsRefusedSo d source too_long)
+StopsAtSources names shards d opens (FullSource source) = IsInTrouble names d opens source (λ reads. SOURCE_MAX < length reads.given)
 StopsAtSources names shards d opens (FullShard k) = IsOverfull names shards d opens k
 StopsAtSources names shards d opens ReportOpen = ⊥
 StopsAtSources names shards d opens ReportRead = ⊥

@@ -19,10 +19,13 @@ mod way;
 mod words;
 
 pub use command::scotty;
+pub use definitions::read_definitions;
 pub use in_memory::report_is_of_what_files_tell;
-pub use status::Status;
+pub use opening::{close_feeds, open_sources};
+pub use settling::fault_of;
+pub use status::{Status, status_of};
 pub use way::Way;
 pub use words::{
-    CheckWords, MadeWords, RunWords, check_of, commands_are_told_apart_by_their_words, made_of,
-    run_of,
+    CheckWords, MadeWords, RunWords, are_names, check_of, commands_are_told_apart_by_their_words,
+    is_name, made_of, number_within, run_of, says,
 };

@@ -186,21 +186,22 @@ fn are_sources(words: &[String]) -> bool
     !words.is_empty() && words.len() <= 16 && are_names(words)
 }
 
-fn are_names(words: &[String]) -> bool
+/// Whether all words are names.
+pub fn are_names(words: &[String]) -> bool
     ensures { IsTrue result ↔ All IsName (map string_bytes words.now) }
 {
     words.iter().all(|word| is_name(word.as_str()))
 }
 
-// Whether the word is this text.
-fn says(word: &str, text: &str) -> bool
+/// Whether the word is this text.
+pub fn says(word: &str, text: &str) -> bool
     ensures { IsTrue result ↔ (word.now ≡ text.now) }
 {
     word == text
 }
 
-// Any nonempty word, also one that begins with `-`.
-fn is_name(word: &str) -> bool
+/// Any nonempty word, also one that begins with `-`, is a name.
+pub fn is_name(word: &str) -> bool
     ensures { IsTrue result ↔ IsName word.now }
 {
     !word.is_empty()
@@ -220,8 +221,8 @@ fn way_of(word: &str) -> Option<Way>
     None
 }
 
-// The number within these bounds that the word spells: decimal, with no sign and no leading zero.
-fn number_within(word: &str, least: u64, most: u64) -> Option<u64>
+/// The number within these bounds that the word spells: decimal, with no sign and no leading zero.
+pub fn number_within(word: &str, least: u64, most: u64) -> Option<u64>
     ensures spelled { IfSome result (λ n. word.now ≡ decimal n) }
     ensures within { IfSome result (λ n. (least ≤ n) × (n ≤ most)) }
     ensures none { IfNone result (¬ (IsNumberWithin least most word.now)) }

@@ -41,7 +41,7 @@ impl Call<Pairs> for Append {
 
     type Reply = Result<(), AllocError>;
 
-    ghost may_run = { λ call fixed. Unit {0} };
+    ghost may_run = { λ call fixed number. Unit {0} };
 
     ghost does = { λ call before after number reply.
         IfOk reply (λ _. after.items.items ≡ before.items.items ++ (number, call.value) ∷ []) };
@@ -62,7 +62,7 @@ pub struct WaitFor<'a> {
 impl Call<Pairs> for WaitFor<'_> {
     type Reply = bool;
 
-    ghost may_run = { λ call fixed. Unit {0} };
+    ghost may_run = { λ call fixed number. Unit {0} };
 
     ghost does = { λ call before after number reply. after.items.items ≡ before.items.items };
 

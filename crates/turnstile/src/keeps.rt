@@ -22,15 +22,15 @@ pub trait Call<T: Keeps> {
     /// What the caller is told.
     type Reply;
 
-    // What the call asks of the fixed part.
-    ghost may_run: { Self → T.Fixed → Type 0 };
+    // What the call asks of the fixed part, and of the number of the pass that runs it.
+    ghost may_run: { Self → T.Fixed → ℕ → Type 0 };
 
     // Of the call, the value before and after, the number of the pass, and the reply.
     ghost does: { Self → T → T → ℕ → Self.Reply → Type 0 };
 
     /// Runs once, on the value under the lock, for the pass with this number.
     fn run(self, value: &mut T, number: u64) -> Self::Reply
-        requires { may_run self (T.fixed value.old) }
+        requires { may_run self (T.fixed value.old) number }
         ensures fixed { T.fixed value.new ≡ T.fixed value.old }
         ensures items { AddsAtMostOne number (T.items value.old) (T.items value.new) }
         ensures relation { does self value.old value.new number result };

@@ -1,7 +1,7 @@
 ghost use Rattle.std.specs.Prelude.{◌≡◌, ℕ, [], ◌∷◌, Some, IfSome};
 ghost use Rattle.turnstile.specs.declared.view.Stage.TheVariants.{Serving};
 ghost use Rattle.turnstile.specs.History.{AddsAtMostOne};
-ghost use Rattle.turnstile.specs.Passes.{fixed, IsPassOf, IsSamePass, IsTurn};
+ghost use Rattle.turnstile.specs.Passes.{number, fixed, IsPassOf, IsSamePass, IsTurn};
 ghost use Rattle.turnstile.specs.Steps.{as_pass, at_stage, Fits};
 
 use crate::keeps::{Call, Keeps};
@@ -17,7 +17,7 @@ impl<T: Keeps> Turnstile<T> {
     /// they drew their tickets.
     pub fn turn<R: Wait, C: Call<T>>(&self, rt: &R, pass: &mut Pass<T>, call: C) -> C::Reply
         requires own { IsPassOf self.now pass.old }
-        requires may { IfSome (fixed pass.old) (C.may_run call) }
+        requires may { IfSome (fixed pass.old) (λ f. C.may_run call f (number pass.old)) }
         ensures same { IsSamePass pass.old pass.new }
         ensures turn { IsTurn (C.does call) pass.old pass.new result }
     {
@@ -53,7 +53,8 @@ impl<T: Keeps> Turnstile<T> {
     // Runs the call on the value, which the pass has.
     fn serve<C: Call<T>>(&self, place: &mut Place<T>, number: u64, call: C) -> C::Reply
         requires own { place.old.table_id ≡ self.now.table.shared.table_id }
-        requires taken { (x : T) × (place.old.me.1 ≡ (0, x) ∷ []) × C.may_run call (T.fixed x) }
+        requires taken { (x : T) × (place.old.me.1 ≡ (0, x) ∷ [])
+            × C.may_run call (T.fixed x) number }
         ensures own { place.new.table_id ≡ place.old.table_id }
         ensures ran { (x y : T) × (place.old.me.1 ≡ (0, x) ∷ [])
             × (place.new.me ≡ (place.old.me.0, (0, y) ∷ [])) × (T.fixed y ≡ T.fixed x)

@@ -1,11 +1,15 @@
-use Rattle.fan_in.proofs.Desks.{offered_of, refused_of}
+use Rattle.fan_in.proofs.Desks.{booked_of, ended_of, offered_of, refused_of}
 use Rattle.fan_in.proofs.gated.offer_gated.Goals as goal
 
 pub returns : goal.returns
-returns g c = record {
-  answered = record {
-    same = c.turn.ensures.same;
-    offered = offered_of _ _ _ _ c.turn.ensures.turn;
-    refused = refused_of _ _ _ _ c.turn.ensures.turn;
-  };
-}
+returns g c =
+    let entry = c.args.entry.now in
+    let turn = booked_of entry c.args.pass.now c.turn.new.pass c.turn.result c.turn.ensures.turn in
+    record {
+      answered = record {
+        same = c.turn.ensures.same;
+        offered = offered_of entry c.args.pass.now c.turn.new.pass c.turn.result turn;
+        refused = refused_of entry c.args.pass.now c.turn.new.pass c.turn.result turn;
+      };
+      ended = ended_of entry c.args.pass.now c.turn.new.pass c.turn.result c.turn.ensures.turn c.requires.own_source;
+    }

@@ -1,4 +1,4 @@
-use Rattle.fan_in.proofs.Midway.{begin, fault_of, last, more, still_at}
+use Rattle.fan_in.proofs.Midway.{begin, fault_of, last, may_hand_in, more, still_at}
 use Rattle.fan_in.proofs.reading.read_feed.Goals as goal
 
 pub entries-init : goal.entries-init
@@ -6,6 +6,9 @@ entries-init g c = (tt, tt, begin _ _ _ _ _ c.requires.ready.ready)
 
 pub take_entry-requires-clause-stand : goal.take_entry-requires-clause-stand
 take_entry-requires-clause-stand g c κs within = still_at _ _ _ c.requires.ready.stand c.entries.invariant.2.same
+
+pub take_entry-requires-clause-may : goal.take_entry-requires-clause-may
+take_entry-requires-clause-may g c κs within = may_hand_in _ _ _ _ _ _ _ _ _ _ _ c.requires.ready.ready c.entries.invariant.2 (rw c.in-Ok-Some.field-0-is at c.in-Ok-Some.ensures.gives)
 
 pub entries-preserved : goal.entries-preserved
 entries-preserved g c =

@@ -3,7 +3,7 @@ use Rattle.std.proofs.Common.{◌∙◌, length, ap}
 use Rattle.std.specs.Prelude.{nat_lt}
 use Rattle.std.specs.Option.{unwrap_or}
 use Rattle.stream_base.specs.declared.kept.Kept.{Kept}
-use Rattle.report_check.proofs.Fronts.{first_or_end}
+use Rattle.report_lines.proofs.Fronts.{first_or_end}
 use Rattle.report_check.proofs.inserting.place_of.Goals as goal
 
 pub returns-clause-value : goal.returns-clause-value

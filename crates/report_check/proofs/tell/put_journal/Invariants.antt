@@ -4,7 +4,7 @@ use Rattle.stream_base.specs.declared.entry.Entry.{Entry}
 use Rattle.stream_base.specs.Limits.{Definitions}
 use Rattle.stream_base.specs.Model.Text.{Form, changes_under, journal_lines}
 use Rattle.report_check.specs.Ledgers.{IsLedger}
-use Rattle.report_check.specs.Told.{form_of}
+use Rattle.report_lines.specs.Told.{form_of}
 use Rattle.report_check.specs.declared.ledger.Ledger.{Ledger}
 use Rattle.report_check.proofs.tell.put_journal.Given as goal
 

@@ -1,7 +1,7 @@
 -- The lines of the shards so far, with those that are left, are all.
 use Rattle.std.proofs.Common.{◌≡◌, ◌++◌, drop}
 use Rattle.stream_base.specs.Model.Text.{changes_under, shard_lines}
-use Rattle.report_check.specs.Told.{form_of}
+use Rattle.report_lines.specs.Told.{form_of}
 use Rattle.report_check.proofs.tell.put_shards.Given as goal
 
 abbrev pub invariant-loop-shard : goal.invariant-loop-shard

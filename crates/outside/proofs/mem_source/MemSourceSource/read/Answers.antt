@@ -1,7 +1,6 @@
 -- What is left stands behind what was given.
 use Rattle.std.proofs.Common.{arith}
 use Rattle.std.proofs.lemmas.Grind.{common_steps}
-use Rattle.outside.specs.Outside.{KeepsWord}
 use Rattle.outside.proofs.mem_source.MemSourceSource.read.Goals as goal
 
 pub returns-clause-word : goal.returns-clause-word

@@ -1,0 +1,5 @@
+mod Told
+mod Causes
+pub mod RunOnce
+pub mod CheckOnce
+pub mod MadeOnce

@@ -1,0 +1,43 @@
+-- The answer to a command: its status, and what was written.
+use Rattle.std.specs.Prelude.{◌≡◌, ℕ, List}
+use Rattle.emission_text.specs.Sending.{Appends, Fails}
+use Rattle.emission_text.specs.declared.fault.Fault.TheVariants as stop
+use Rattle.scotty_run.specs.declared.status.Status.{Status}
+use Rattle.scotty_run.specs.declared.status.Status.TheVariants.{Done, Usage, BadDefs, OpenFault, BadRow, ReadFault, Full, NoMemory, WriteFault, Unlawful}
+use Rattle.part_run.specs.Faults.{SaysPart, part_status}
+use Rattle.part_run.specs.declared.part_fault.PartFault.{PartFault}
+use Rattle.part_run.specs.declared.part_fault.PartFault.TheVariants.{Run}
+
+-- `taken` says which bytes a sink took so far, and `faults` how many writes failed; `IsText` says what a command is to write, and `Stops` why it doesn't
+module _ {K : Type 0} (taken : K → List ℕ) (faults : K → ℕ) (IsText : List ℕ → Type 0) (Stops : PartFault → Type 0) where
+  -- the text was written whole
+  pub record IsWritten (old new : K) : Type 0 where
+    pub text : List ℕ
+    pub text_is : IsText text
+    pub went_out : Appends taken faults text old new
+
+  -- or a write of it failed
+  pub record IsCutOff (old new : K) : Type 0 where
+    pub text : List ℕ
+    pub text_is : IsText text
+    pub failed : Fails taken faults text old new
+
+  -- a fault of this status, which has its cause, and its line
+  pub record IsStopped (status : Status) (old new : K) : Type 0 where
+    pub answered : PartFault
+    pub status_is : part_status answered ≡ status
+    pub cause_is : Stops answered
+    pub said : SaysPart taken faults answered old new
+
+  -- the answer to a command: its text, or a fault; with two exceptions: a write failed, or memory ran out
+  abbrev pub IsAnswer : K → K → Status → Type 0
+  IsAnswer old new Done = IsWritten old new
+  IsAnswer old new WriteFault = IsCutOff old new
+  IsAnswer old new NoMemory = SaysPart taken faults (Run stop.NoMemory) old new
+  IsAnswer old new Usage = ⊥
+  IsAnswer old new BadDefs = IsStopped BadDefs old new
+  IsAnswer old new OpenFault = IsStopped OpenFault old new
+  IsAnswer old new BadRow = IsStopped BadRow old new
+  IsAnswer old new ReadFault = IsStopped ReadFault old new
+  IsAnswer old new Full = IsStopped Full old new
+  IsAnswer old new Unlawful = IsStopped Unlawful old new

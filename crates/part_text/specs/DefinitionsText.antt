@@ -1,0 +1,52 @@
+-- Definitions of windows, written out as TOML.
+use Rattle.std.specs.Prelude.{◌≡◌, ◌++◌, ℕ, List, [], ◌∷◌, codes, decimal}
+use Rattle.std.specs.List.{flat_map}
+use Rattle.stream_base.specs.Limits.{Definitions}
+use Rattle.stream_base.specs.declared.def.Def.{Def}
+use Rattle.stream_base.specs.declared.kind.Kind.{Kind}
+use Rattle.stream_base.specs.declared.kind.Kind.TheVariants.{Tumbling, Sliding, Session, Marks, Events}
+use Rattle.stream_base.specs.declared.func.Func.{Func}
+use Rattle.stream_base.specs.declared.func.Func.TheVariants.{Count, Sum, Min, Max, Mean, First, Last, Rises, Trace}
+
+-- the word of a function
+abbrev pub func_word : Func → List ℕ
+func_word Count = codes "count"
+func_word Sum = codes "sum"
+func_word Min = codes "min"
+func_word Max = codes "max"
+func_word Mean = codes "mean"
+func_word First = codes "first"
+func_word Last = codes "last"
+func_word Rises = codes "rises"
+func_word Trace = codes "trace"
+
+-- pieces of text, one behind the other
+abbrev pub pieces : List (List ℕ) → List ℕ
+pieces texts = flat_map (λ text. text) texts
+
+-- the lines of a kind
+abbrev pub kind_text : Kind → List ℕ
+kind_text (Tumbling length) = pieces (codes "kind = \"tumbling\"\nlength = " ∷ decimal length ∷ codes "\n" ∷ [])
+kind_text (Sliding length slide) = pieces (codes "kind = \"sliding\"\nlength = " ∷ decimal length ∷ codes "\nslide = " ∷ decimal slide ∷ codes "\n" ∷ [])
+kind_text (Session gap) = pieces (codes "kind = \"session\"\ngap = " ∷ decimal gap ∷ codes "\n" ∷ [])
+kind_text Marks = pieces (codes "kind = \"marks\"\n" ∷ [])
+kind_text (Events count) = pieces (codes "kind = \"events\"\ncount = " ∷ decimal count ∷ codes "\n" ∷ [])
+
+-- the lines of a window
+abbrev pub window_text : Def → List ℕ
+window_text w = codes "\n[[window]]\n" ++ (kind_text w.kind ++ pieces (codes "func = \"" ∷ func_word w.func ∷ codes "\"\n" ∷ []))
+
+-- the lines of the three numbers
+abbrev pub numbers_text : ℕ → ℕ → ℕ → List ℕ
+numbers_text lateness every disorder =
+    pieces (codes "lateness = " ∷ decimal lateness ∷ codes "\nevery = " ∷ decimal every ∷ codes "\ndisorder = " ∷ decimal disorder ∷ codes "\n" ∷ [])
+
+-- definitions as a TOML document
+abbrev pub definitions_text : Definitions → List ℕ
+definitions_text d = numbers_text d.lateness d.every d.disorder ++ flat_map window_text d.windows
+
+-- definitions have these three numbers
+pub record HasNumbers (lateness every disorder : ℕ) (d : Definitions) : Type 0 where
+  pub lateness_is : d.lateness ≡ lateness
+  pub every_is : d.every ≡ every
+  pub disorder_is : d.disorder ≡ disorder

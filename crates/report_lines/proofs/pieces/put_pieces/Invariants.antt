@@ -1,0 +1,9 @@
+-- The text so far, and then the pieces that are left, is the text with all of them.
+use Rattle.std.proofs.Common.{◌≡◌, ◌++◌, drop}
+use Rattle.std.specs.List.{flat_map}
+use Rattle.report_lines.proofs.pieces.put_pieces.Given as goal
+
+abbrev pub invariant-loop-piece : goal.invariant-loop-piece
+invariant-loop-piece l =
+    l.out.items ++ flat_map (λ piece. piece.now) (drop l.piece-index l.pieces)
+    ≡ l.fn.out.items ++ flat_map (λ piece. piece.now) l.pieces

@@ -1,0 +1,3 @@
+pub mod SourceFacts
+pub mod TextFacts
+pub mod ChangeFacts

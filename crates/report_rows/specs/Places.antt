@@ -1,0 +1,9 @@
+-- The place of a line, as the definition has it.
+use Rattle.row_laws.specs.Told.{Place as Where, behind, first, inside}
+use Rattle.report_rows.specs.declared.place.Place.{Place}
+use Rattle.report_rows.specs.declared.place.Place.TheVariants.{First, Inside, Behind}
+
+abbrev pub place_of : Place → Where
+place_of First = first
+place_of (Inside full) = inside full
+place_of Behind = behind

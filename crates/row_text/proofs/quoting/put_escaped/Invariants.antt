@@ -1,0 +1,8 @@
+-- The bytes so far, with those that are left, are all.
+use Rattle.std.proofs.Common.{◌≡◌, ◌++◌, drop}
+use Rattle.std.specs.List.{flat_map}
+use Rattle.row_text.specs.Lines.{csv_byte}
+use Rattle.row_text.proofs.quoting.put_escaped.Given as goal
+
+abbrev pub invariant-loop-byte : goal.invariant-loop-byte
+invariant-loop-byte l = l.out.items ++ flat_map csv_byte (drop l.byte-index l.bytes) ≡ l.fn.out.items ++ flat_map csv_byte l.bytes
