@@ -2,6 +2,7 @@ pub mod Desks
 pub mod BookedView
 pub mod Offers
 pub mod Gathering
+pub mod Routing
 pub mod Reading
 pub mod Floors
 pub mod Closings

@@ -3,11 +3,12 @@ ghost use Rattle.stream_base.specs.Model.Routes.{routed};
 ghost use Rattle.turnstile.specs.Passes.{made, IsPassOf, IsSamePass};
 ghost use Rattle.fan_in.specs.Reading.{AreSame, HasMade, HaveTaken, IsAbout, IsHalfway};
 ghost use Rattle.fan_in.specs.Reading.{MayHandIn, StandAt};
+ghost use Rattle.fan_in.specs.Routing.{IsOnlyShard};
 
 use crate::by_source::{BySource, SourceDesk};
 use crate::gated::offer_gated;
 use crate::outcome::Outcome;
-use crate::place::Place;
+use crate::place::{Place, only_shard};
 use outside::Gate;
 use shard_core::ApplyFault;
 use source_feed::FeedFault;
@@ -31,12 +32,13 @@ pub(crate) fn hand_out<G: Gate, R: Threads + Wait>(
     ensures made { HaveTaken (length desks.now) entry.now result passes.old passes.new }
 {
     let shards = desks.len() as u16;
+    let only = only_shard(&entry.what, shards);
     for k in 0..desks.len() {
         let place = Place {
             shard: k as u16,
             shards,
         };
-        let outcome = offer_at(rt, gate, &desks[k], &mut passes[k], place, entry);
+        let outcome = offer_at(rt, gate, &desks[k], &mut passes[k], place, only, entry);
         match outcome {
             Outcome::Done => {}
             Outcome::Fault(_) | Outcome::Full { .. } => return outcome,
@@ -45,23 +47,26 @@ pub(crate) fn hand_out<G: Gate, R: Threads + Wait>(
     Outcome::Done
 }
 
-// Offers an entry to one desk, if it goes to its shard. The gate is passed with the source before.
+// Offers an entry to one desk, if it goes to its shard, by the one shard to which it goes. The gate
+// is passed with the source before.
 fn offer_at<G: Gate, R: Threads + Wait>(
     rt: &R,
     gate: &G,
     desk: &SourceDesk,
     pass: &mut Pass<BySource>,
     place: Place,
+    only: Option<u16>,
     entry: &Entry,
 ) -> Outcome
     requires own { IsPassOf desk.now pass.old }
+    requires only { IsOnlyShard place.shards entry.now.what only }
     requires may { MayHandIn entry.now pass.old }
     ensures same { IsSamePass pass.old pass.new }
     ensures about { IsAbout place.shard result }
     ensures made { HasMade (made pass.old ++ routed place.shards place.shard (entry.now ∷ []))
         place.shard result pass.new }
 {
-    if !place.goes_to(&entry.what) {
+    if !place.takes(only) {
         return Outcome::Done;
     }
     gate.pass(entry.source);

@@ -7,9 +7,12 @@ use mail_lane::{Mail, Receiver};
 use outside::Gate;
 use std::sync::Wait;
 use std::sync::atomic::{AtomicU64, Ordering};
-use std::thread;
 use std::thread::Threads;
+use std::time::Duration;
 use stream_base::Entry;
+
+// How long an owner sleeps that found its lane empty, in microseconds.
+const NAP: u64 = 50;
 
 // The work on one shard: the receiver of its lane, and its owner.
 #[derive(Drop)]
@@ -35,8 +38,13 @@ pub(crate) fn own_lane<G: Gate, R: Threads + Wait>(
         match mail.take(rt, &mut job.receiver) {
             Some(entry) => job.owner.take_in(rt, gate, &entry),
             None if all_ended => return,
-            None => thread::yield_now(),
+            None => nap(rt),
         }
     }
     unreachable!()
+}
+
+// Sleeps for a while. Nobody wakes this sleep: it ends by its time.
+fn nap<R: Wait>(rt: &R) {
+    AtomicU64::new(0).park_timeout(rt, 0, Duration::from_micros(NAP));
 }

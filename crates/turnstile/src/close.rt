@@ -9,9 +9,9 @@ ghost use Rattle.turnstile.specs.Passes.{number, fixed, seen, made, known, numbe
 use crate::ends::{PassEnd, Unclosed};
 use crate::keeps::Keeps;
 use crate::pass::{Pass, Place};
+use crate::patience::Patience;
 use crate::plays::{Draw, Enter, Joined, Reach};
 use crate::turnstile::{SERVING, TICKET, Turnstile};
-use crossbeam_utils::Backoff;
 use std::alloc::{AllocError, Global};
 use std::sync::Wait;
 
@@ -78,12 +78,12 @@ impl<T: Keeps> Turnstile<T> {
             ≡ (at_stage (Reached ticket) place.old.me.0, [])) }
     {
         let ticket = self.table.shared.fetch_add::<Draw<T>>(place, TICKET, 1);
-        let backoff = Backoff::new();
+        let mut patience = Patience::new();
         for _ in rt.forever() {
             if self.table.shared.load::<Reach>(place, SERVING) == ticket {
                 return;
             }
-            backoff.snooze();
+            patience.wait(rt);
         }
         unreachable!()
     }

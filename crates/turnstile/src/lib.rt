@@ -60,6 +60,7 @@ mod ends;
 mod keeps;
 mod meets;
 mod pass;
+mod patience;
 mod plays;
 mod splits;
 mod turns;
