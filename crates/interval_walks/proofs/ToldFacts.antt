@@ -1,5 +1,5 @@
 -- The complete intervals that hold a time, one after another.
-use Rattle.std.proofs.Common.{◌≡◌, ◌∙◌, ℕ, zero, suc, ◌+◌, ◌-◌, ◌*◌, ◌/◌, ◌<◌, ◌≤◌, cond, Option, List, [], ◌∷◌, ◌++◌, length, get_or, map, ap, sym, refl, arith, inl, inr, append_assoc}
+use Rattle.std.proofs.Common.{◌≡◌, ◌∙◌, ℕ, zero, suc, ◌+◌, ◌-◌, ◌*◌, ◌/◌, ◌<◌, ◌≤◌, false, cond, Option, List, [], ◌∷◌, ◌++◌, length, get_or, map, ap, sym, refl, arith, inl, inr, append_assoc}
 use Rattle.std.specs.Prelude.{◌⊎◌, min, nat_le, nat_lt}
 use Rattle.std.specs.List.{filter, range_with_len}
 use Rattle.std.proofs.lemmas.Bool.{cases_lt, le-leb, le-ltb, lt-leb, lt-ltb}
@@ -9,7 +9,11 @@ use Rattle.std.proofs.lemmas.Nat.{le-div}
 use Rattle.std.proofs.Math.Nat.{div-mul-le_self}
 use Rattle.stream_base.specs.declared.change.Change.{Change}
 use Rattle.stream_base.specs.declared.former.Former.{Former}
+use Rattle.stream_base.specs.Model.Windows.{starts_holding}
+use Rattle.stream_base.proofs.Distinct.{All_from_members}
+use Rattle.stream_base.proofs.Filters.{filter_none}
 use Rattle.stream_base.proofs.Members.{filter_map_of, filter_same}
+use Rattle.stream_base.proofs.Spans.{starts_holding_members}
 use Rattle.interval_walks.specs.Told.{complete_starts, ended, starts_from, told_late}
 
 -- ---- their starts are multiples in a row
@@ -60,6 +64,15 @@ starts_are length slide time water moves =
     ∙ ap (map (λ k. k * slide)) (filter_same (λ k. nat_le (k * slide + length) water) (λ k. nat_lt k (ended length slide water)) (range_with_len ((time + slide - length) / slide) (time / slide + 1 - (time + slide - length) / slide)) (λ k c. has_ended length slide water k moves))
     ∙ ap (map (λ k. k * slide)) (upto (ended length slide water) ((time + slide - length) / slide) (time / slide + 1 - (time + slide - length) / slide))
     ∙ ap (λ n. map (λ k. k * slide) (range_with_len ((time + slide - length) / slide) n)) e
+
+-- where the watermark hasn't passed a time, none that holds it has ended
+pub none_complete : (long slide time water : ℕ) → 1 ≤ slide → slide ≤ long → water ≤ time → complete_starts long slide time water ≡ []
+none_complete long slide time water moves overlaps early =
+    filter_none (λ low. nat_le (low + long) water) (starts_holding long slide time)
+    (All_from_members (λ low. nat_le (low + long) water ≡ false) (starts_holding long slide time)
+    (λ low c.
+    let held : (k : ℕ) × (low ≡ k * slide) × (low ≤ time) × (time < low + long) = starts_holding_members long slide moves overlaps time low c in
+    lt-leb (low + long) water (omega (arith, held.3))))
 
 range_length : (a n : ℕ) → length (range_with_len a n) ≡ n
 range_length a zero = refl

@@ -23,6 +23,8 @@ pub struct Complete {
     pub count: u64,
 }
 
+/// The complete intervals that hold a time. Where the watermark hasn't passed it there are none, and
+/// nothing is divided.
 pub fn complete_at(span: &Span, time: u64, water: u64) -> Complete
     requires time { time ≤ TIME_MAX }
     requires water { water ≤ FINAL }
@@ -33,6 +35,9 @@ pub fn complete_at(span: &Span, time: u64, water: u64) -> Complete
     ensures within { (k : ℕ) → k < result.count
         → (result.first + k) * span.now.slide ≤ time }
 {
+    if water <= time {
+        return Complete { first: 0, count: 0 };
+    }
     let first = (time + span.slide).saturating_sub(span.length) / span.slide;
     let holding = time / span.slide + 1;
     Complete {

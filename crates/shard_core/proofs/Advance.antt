@@ -40,7 +40,7 @@ use Rattle.stream_base.proofs.Growing.{kept_of_late, marks_of_late}
 use Rattle.shard_core.specs.declared.keys.KeyTable.{KeyTable}
 use Rattle.shard_core.specs.declared.slot.Slot.{Slot}
 use Rattle.shard_core.specs.Engines.{AreApart, AreCurrent, AreMovable, AreSameSlots, IsCurrent, IsMovedSlot, IsQuiet, IsSameOutside, StandsIn, due_places, moves_of, place_of}
-use Rattle.shard_core.proofs.Moves.{changes_since, map_none, no_changes_of_none, no_rows_of_none, rows_since, same_for_keys}
+use Rattle.shard_core.proofs.Moves.{changes_since, map_none, no_changes_of_none, same_for_keys}
 use Rattle.shard_core.proofs.Places.{IsSameFor, alike, one_key, still_current}
 
 -- ---- definitions
@@ -417,25 +417,3 @@ late_leaves_water lateness sources journal e late = water_of_same sources journa
     no_word water (Water time) l = cc
     no_word water Idle l = cc
     no_word water End l = cc
-
--- ---- what stands
-module _ {K : Type 0} (key_of : K → List ℕ) (fits : Definitions → List Kept → List ℕ → ℕ → K → Type 0) (next_position : K → ℕ) (d : Definitions) (sources : ℕ) (journal : List Entry) where
-  -- what stands of a key stands under the watermark of its state
-  pub rows_of_slot : (limits : AreWithinLimits d) (key : List ℕ) (slot : Slot K) (due : ℕ) → IsCurrent key_of fits next_position d sources journal key slot due
-      → rows_at d.windows (key_of slot.state) (moment (kept_of d.lateness sources key journal) (marks_of d.lateness sources key journal) slot.water) ≡ rows_at d.windows key (moment_of d sources key journal)
-  rows_of_slot limits key slot due c =
-      ap (λ k. rows_at d.windows k (moment (kept_of d.lateness sources key journal) (marks_of d.lateness sources key journal) slot.water)) c.of_key
-      ∙ sym (rows_since d.windows key (kept_of d.lateness sources key journal) (marks_of d.lateness sources key journal) limits.kinds (kept_times_do_not_fall d.lateness sources key journal) slot.water (water_of sources journal) c.past (quiet_so_far key_of fits next_position d sources journal limits key slot due c))
-
-  -- the rows of the keys in the table are those of all keys
-  pub rows_of_table : (t : KeyTable K) → AreCurrent key_of fits next_position d sources journal t
-      → flat_map (λ key. rows_at d.windows key (moment_of d sources key journal)) (map (λ (e : List ℕ × ℕ). e.0) t.index) ≡ standing_rows d sources journal
-  unfolding standing_rows
-  rows_of_table t c =
-      same_for_keys (λ key. rows_at d.windows key (moment_of d sources key journal)) (map (λ (e : List ℕ × ℕ). e.0) t.index) (keys_of journal) c.in_order (keys_in_order journal)
-      (λ key m out. no_rows_of_none d.windows key (moment_of d sources key journal) (nothing_kept d.lateness sources key journal out))
-      (λ key m out. no_rows_of_none d.windows key (moment_of d sources key journal) (c.nothing_kept key (no_place key out (place_of t key) refl)))
-    where
-      no_place : (key : List ℕ) → (Contains (map (λ (e : List ℕ × ℕ). e.0) t.index) key → ⊥) → (o : Option ℕ) → place_of t key ≡ o → place_of t key ≡ None
-      no_place key out None at = at
-      no_place key out (Some p) at = absurd (out (map_has (λ (e : List ℕ × ℕ). e.0) t.index (key, p) (is_entry key_of fits next_position d sources journal t c key p at)))

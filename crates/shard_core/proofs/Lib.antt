@@ -7,5 +7,6 @@ pub mod Moves
 pub mod Loops
 pub mod Advance
 pub mod FlatFacts
+pub mod StandingFacts
 pub mod Shards
 pub mod Costs

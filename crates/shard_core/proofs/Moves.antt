@@ -17,7 +17,7 @@ use Rattle.stream_base.specs.Laws.{RiseByStart, becomes_complete, completions}
 use Rattle.stream_base.specs.Model.Changes.{Moment, changes_between, row_of, rows_at, standing_at}
 use Rattle.stream_base.specs.Model.Windows.{Instance, instances_of, is_complete}
 use Rattle.model_laws.proofs.Absent.{is_key_or_not, no_instances}
-use Rattle.stream_base.proofs.ChangeFacts.{changes_at_water, flat_map_none, flat_map_same, no_changes}
+use Rattle.stream_base.proofs.ChangeFacts.{changes_at_water, flat_map_same, no_changes}
 use Rattle.stream_base.proofs.Distinct.{by_start_total}
 use Rattle.stream_base.proofs.Members.{filter_has, filter_members, filter_same}
 use Rattle.stream_base.proofs.Rising.{sorted_nil, none_in_nil, Contains-cons_cases, same_members_same_list}
@@ -50,15 +50,7 @@ still_open w mid i l none =
     (λ e. leb-false i.bound mid e)
     (and_cases (nat_lt w i.bound) (nat_le i.bound mid) none)
 
--- so it is complete there exactly where it was so before
-complete_since : (w mid : ℕ) (i : Instance) → w ≤ mid → becomes_complete w mid i ≡ false → is_complete mid i ≡ is_complete w i
-complete_since w mid i le none =
-    ⊎_elim
-    (λ l. lt-leb i.bound mid (still_open w mid i l none) ∙ sym (lt-leb i.bound w l))
-    (λ l. le-leb i.bound mid (omega arith) ∙ sym (le-leb i.bound w l))
-    (cases_lt w i.bound)
-
--- and becomes complete after it exactly where it does so from before
+-- so it becomes complete after it exactly where it does so from before
 becomes_since : (w mid new : ℕ) (i : Instance) → w ≤ mid → becomes_complete w mid i ≡ false → becomes_complete mid new i ≡ becomes_complete w new i
 becomes_since w mid new i le none =
     ap (λ b. b && nat_le i.bound new)
@@ -85,12 +77,6 @@ module _ (windows : List Def) (key : List ℕ) (kept : List Kept) (marks : List 
       (λ n c. ap (map (λ i. New (row_of n.0 key (n.1).func i))) (filter_same (becomes_complete mid new) (becomes_complete w new) (instances_of (n.1).kind kept marks) (λ i d. becomes_since w mid new i le (none_becomes n c i d))))
       ∙ sym (changes_at_water windows key kept marks w new within in_order (omega arith))
 
-  -- and what stands is the same under either
-  pub rows_since : rows_at windows key (moment kept marks mid) ≡ rows_at windows key (moment kept marks w)
-  rows_since =
-      flat_map_same (λ n. map (row_of n.0 key (n.1).func) (standing_at n.1 (moment kept marks mid))) (λ n. map (row_of n.0 key (n.1).func) (standing_at n.1 (moment kept marks w))) (enumerate_from 0 windows)
-      (λ n c. ap (map (row_of n.0 key (n.1).func)) (filter_same (is_complete mid) (is_complete w) (instances_of (n.1).kind kept marks) (λ i d. complete_since w mid i le (none_becomes n c i d))))
-
 -- ---- a key of which nothing is kept
 nothing_at : (def : Def) (m : Moment) → m.kept ≡ [] → standing_at def m ≡ []
 nothing_at def m none = ap (λ k. filter (is_complete m.water) (instances_of def.kind k m.marks)) none ∙ ap (filter (is_complete m.water)) (no_instances def.kind m.marks)
@@ -100,9 +86,6 @@ no_changes_of_none windows key old new a b =
     no_changes windows key old new
     (λ def c. subst RiseByStart (sym (nothing_at def old a)) (sorted_nil by_start_total))
     (λ def c. nothing_at def old a ∙ sym (nothing_at def new b))
-
-pub no_rows_of_none : (windows : List Def) (key : List ℕ) (m : Moment) → m.kept ≡ [] → rows_at windows key m ≡ []
-no_rows_of_none windows key m none = flat_map_none (λ n. map (row_of n.0 key (n.1).func) (standing_at n.1 m)) (enumerate_from 0 windows) (λ n c. ap (map (row_of n.0 key (n.1).func)) (nothing_at n.1 m none))
 
 -- ---- keys
 abbrev is_some_of : {Y : Type 0} → List Y → Bool

@@ -6,5 +6,4 @@ pub mod Placed
 pub mod Applying
 pub mod Engines
 pub mod Flat
-pub mod Replays
 pub mod Costs

@@ -1,4 +1,4 @@
-ghost use Rattle.std.specs.Prelude.{◌≡◌, ◌+◌, [], ℕ, List, IfOk, OnOk, OnErr, None, Some, length, nat_le, slice_index, if◌then◌else◌};
+ghost use Rattle.std.specs.Prelude.{◌≡◌, ◌+◌, [], ℕ, List, IfOk, OnOk, OnErr, IsTrue, None, Some, length, nat_le, slice_index, if◌then◌else◌};
 ghost use Rattle.std.specs.BTreeMap.{is_at};
 ghost use Rattle.std.specs.Cmp.Lexicographic.{slice_cmp};
 ghost use Rattle.std.specs.List.{filter};
@@ -6,6 +6,7 @@ ghost use Rattle.std.specs.Map.{values_of};
 ghost use Rattle.std.specs.Ordering.{nat_cmp};
 ghost use Rattle.shard_core.specs.Placed.{AreByKey, place_in};
 
+use crate::hints::{Hints, TRIES};
 use std::alloc::Global;
 use std::collections::BTreeMap;
 use std::marker::Model;
@@ -18,6 +19,8 @@ pub struct KeyIndex {
     index: BTreeMap<KeyText, usize>,
     // The key at each place.
     keys: Vec<KeyText>,
+    // Where a key is looked for first.
+    hints: Hints,
 }
 
 impl Model for KeyIndex {
@@ -38,20 +41,40 @@ impl KeyIndex {
         KeyIndex {
             index: BTreeMap::new(alloc),
             keys: Vec::new(alloc),
+            hints: Hints::new(alloc),
         }
-    }
-
-    pub fn by_key(&self) -> &BTreeMap<KeyText, usize>
-        ensures { (result.now).entries ≡ self.now }
-    {
-        &self.index
     }
 
     // The place of a key, if it has one.
     pub fn get(&self, key: &KeyText) -> Option<usize>
         ensures { result ≡ place_in self.now key.now }
     {
-        self.index.get(key).copied()
+        match self.hinted(key) {
+            Some(place) => Some(place),
+            None => self.index.get(key).copied(),
+        }
+    }
+
+    // The place of a key, where a hint leads to it.
+    fn hinted(&self, key: &KeyText) -> Option<usize>
+        ensures { (p : ℕ) → result ≡ Some p → place_in self.now key.now ≡ Some p }
+    {
+        let first = self.hints.first(key);
+        for step in 0..TRIES {
+            match self.hints.get(first.wrapping_add(step)) {
+                Some(place) if self.lies_at(place, key) => return Some(place),
+                Some(_) => {}
+                None => return None,
+            }
+        }
+        None
+    }
+
+    // Whether a key lies at a place.
+    fn lies_at(&self, place: usize, key: &KeyText) -> bool
+        ensures { IsTrue result → place_in self.now key.now ≡ Some place }
+    {
+        place < self.keys.len() && self.keys[place] == *key
     }
 
     // Gives a key that has no place the next one, or does nothing.
@@ -66,9 +89,11 @@ impl KeyIndex {
         ensures refused { OnErr result (self.new ≡ self.old) }
     {
         let place = self.keys.len();
+        self.hints.reserve(&self.keys)?;
         self.keys.reserve(1)?;
         self.index.insert(*key, place)?;
         self.keys.push_reserved(*key);
+        self.hints.note(key, place);
         Ok(place)
     }
 

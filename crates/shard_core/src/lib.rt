@@ -1,8 +1,8 @@
 //! One shard: a journal of entries, and under each entry the changes of the results that it causes.
 //!
 //! *From* routed entries *to* their changes. *Stands on* the base crate, the table of watermarks, an
-//! engine for the windows of one key, of which it knows the contract alone, and the plain engine, by
-//! which it replays a journal to tell what stands. *Promise*: for the shard's own journal, the
+//! engine for the windows of one key, of which it knows the contract alone, and rows that are kept
+//! up by changes, by which it tells what stands. *Promise*: for the shard's own journal, the
 //! changes at each position are those of the definitions, whatever entries are applied, and a
 //! refused entry changes nothing. A tuple or mark that isn't late takes no more steps than the
 //! engine bounds for its key, and a late or refused entry takes none.
@@ -20,12 +20,13 @@ use window_parts::WindowPart;
 
 mod applied;
 mod dues;
+mod hints;
 mod intake;
 mod key_index;
 mod keys;
 mod moving;
 mod past;
-mod replay;
+mod rows;
 mod shard;
 mod slices;
 mod slot;

@@ -53,14 +53,6 @@ impl Past {
         })
     }
 
-    // The past of the same shard before its first entry.
-    pub fn beginning(&self, alloc: Global) -> Result<Past, NoMemory>
-        ensures same { IfOk result (λ past. IsSameShard self.now past) }
-        ensures journal { IfOk result (λ past. past.journal ≡ []) }
-    {
-        Past::new(alloc, self.defs.copy(alloc)?, self.sources)
-    }
-
     pub fn defs(&self) -> &Defs
         ensures value { result.now ≡ self.now.defs }
         ensures limits { AreWithinLimits self.now.defs }

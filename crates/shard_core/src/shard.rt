@@ -11,7 +11,7 @@ ghost use Rattle.shard_core.specs.Work.{IsMarkWithin, IsTupleWithin};
 use crate::applied::{Applied, ApplyFault};
 use crate::keys::KeyTable;
 use crate::past::Past;
-use crate::replay::Replay;
+use crate::rows::rows_behind;
 use agg_laws::Steps;
 use key_windows::KeyWindows;
 use std::alloc::Global;
@@ -141,16 +141,14 @@ impl<K: KeyWindows> KeyedShard<K> {
 
     /// The rows of all that stands, by key, window, start and end.
     ///
-    /// It replays the journal: the state of a key need not have its settled tuples any more, but their
-    /// rows stand, so all entries are taken in once more, by keys that keep every tuple in plain
-    /// lists. That takes the time of applying the journal to a shard over the plain engine, and a
-    /// second journal's memory and those lists' while it runs. The shard itself stays as it is.
-    pub fn standing<L>(&self, steps: &mut Steps<L>) -> Result<Vec<Row>, NoMemory>
+    /// The changes lead there: each is taken in once more, in rows in their order. So it takes the
+    /// memory of what stands, whatever the journal, and no step. The shard itself stays as it is.
+    pub fn standing<L>(&self, _steps: &mut Steps<L>) -> Result<Vec<Row>, NoMemory>
         ensures { IfOk result (λ rows. rows.items
             ≡ standing_rows self.now.defs self.now.sources self.now.journal) }
     {
-        let replay = Replay::of(self.alloc, &self.past, steps)?;
-        replay.standing(self.alloc, steps)
+        let rows = rows_behind(self.alloc, &self.changes)?;
+        rows.rows(self.alloc)
     }
 
     /// How many slices a key has: the maximal stretches of its unsettled tuples with no cut between

@@ -1,9 +1,17 @@
--- The starts are multiples in a row.
+-- None has ended where the watermark hasn't passed the time, and else the starts are multiples in a row.
 use Rattle.std.proofs.Common.{◌∙◌, ◌-◌, ◌/◌, ap, length, sym}
 use Rattle.std.specs.Prelude.{min}
 use Rattle.interval_walks.specs.Told.{starts_from}
-use Rattle.interval_walks.proofs.ToldFacts.{starts_are, starts_length}
+use Rattle.interval_walks.proofs.ToldFacts.{none_complete, starts_are, starts_in_time, starts_length}
 use Rattle.interval_walks.proofs.late.complete_at.Goals as goal
+
+pub returns-then-water-time-clause-starts : goal.returns-then-water-time-clause-starts
+returns-then-water-time-clause-starts c =
+    let span = c.args.span.now in
+    none_complete span.length span.slide c.args.time c.args.water span.within.moves span.within.overlaps c.if-water-time.true
+
+pub returns-then-water-time-clause-number : goal.returns-then-water-time-clause-number
+returns-then-water-time-clause-number c = sym (ap length (returns-then-water-time-clause-starts c))
 
 pub returns-clause-starts : goal.returns-clause-starts
 returns-clause-starts c =
@@ -16,3 +24,9 @@ returns-clause-starts c =
 
 pub returns-clause-number : goal.returns-clause-number
 returns-clause-number c = sym (ap length (returns-clause-starts c) ∙ starts_length c.args.span.now.slide _ _)
+
+pub returns-clause-within : goal.returns-clause-within
+returns-clause-within c k below =
+    let slide = c.args.span.now.slide in
+    let first = c.saturating_sub.result / slide in
+    starts_in_time slide first c.saturating_sub-2.result c.args.time c.ended.result k (c.saturating_sub-2.ensures ∙ ap (λ n. n - first) c.min.ensures) below

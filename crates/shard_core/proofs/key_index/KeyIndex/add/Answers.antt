@@ -15,7 +15,7 @@ invariant_of-self-2 c =
     let key = c.args.key.now in
     let absent : place_in entries key ≡ None = subst (λ (es : List (List ℕ × ℕ)). place_in es key ≡ None) (sym c.self.view_is) c.requires in
     let at : c.len-place.result ≡ length keys = omega arith in
-    subst (λ (ks : List (List ℕ)). ArePlaced (c.insert.new.self).entries ks) (sym (c.push_reserved.ensures.items ∙ ap (λ l. l ++ key ∷ []) c.reserve.ensures.items))
+    subst (λ (ks : List (List ℕ)). ArePlaced (c.insert.new.self).entries ks) (sym (c.push_reserved.ensures.items ∙ ap (λ l. l ++ key ∷ []) c.reserve-2.ensures.items))
     (placed_more entries (c.insert.new.self).entries keys key c.self.invariant absent
     (λ q. c.in_ok-insert.ensures.updates.0 q ∙ ap (λ n. cond (is_at (slice_cmp nat_cmp key) q) (Some n) (place_in entries q)) at)
     c.insert.ensures.ordered
