@@ -4,8 +4,8 @@ ghost use Rattle.stream_base.specs.declared.limits.TheConstants.{JOURNAL_MAX};
 ghost use Rattle.stream_base.specs.Model.Changes.{changes_at, standing_rows};
 ghost use Rattle.stream_base.specs.Model.Watermark.{has_ended};
 ghost use Rattle.shard_core.specs.Applying.{Applies};
-ghost use Rattle.shard_core.specs.Flat.{start_at};
-ghost use Rattle.shard_core.specs.Shard.{AreSources, IsJournal, IsKnown, IsNext, slices_after};
+ghost use Rattle.shard_core.specs.Flat.{joined, start_at};
+ghost use Rattle.shard_core.specs.Shard.{AreSources, IsJournal, IsKnown, IsNext, changes_behind, slices_after};
 ghost use Rattle.shard_core.specs.Work.{IsMarkWithin, IsTupleWithin};
 
 use crate::applied::{Applied, ApplyFault};
@@ -137,6 +137,14 @@ impl<K: KeyWindows> KeyedShard<K> {
         ensures { result.now ≡ changes_at self.now.defs self.now.sources self.now.journal position }
     {
         part_of(&self.changes, &self.ends, position as usize)
+    }
+
+    /// How many changes stand under all entries.
+    pub fn change_count(&self) -> u64
+        ensures { result ≡ length (joined
+            (changes_behind self.now.defs self.now.sources [] self.now.journal)) }
+    {
+        self.changes.len() as u64
     }
 
     /// The rows of all that stands, by key, window, start and end.
