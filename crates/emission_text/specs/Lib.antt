@@ -5,3 +5,4 @@ pub mod DefsFaults
 pub mod Faults
 pub mod Findings
 pub mod Summary
+pub mod Lines

@@ -6,6 +6,7 @@ ghost use Rattle.emission_text.specs.Rows.{former_end, row_front};
 ghost use Rattle.emission_text.specs.Report.{form_of};
 ghost use Rattle.emission_text.specs.Sending.{Puts};
 
+use crate::line::Line;
 use crate::pending::Pending;
 use crate::pieces::put_pieces;
 use crate::report_form::ReportForm;
@@ -158,18 +159,17 @@ fn put_row_front<K: Sink>(
     ensures { Puts K.taken K.faults (row_front sign.now row.now)
         out.old out.new sink.old sink.new result }
 {
-    let mut window = Buffer::new();
-    let mut start = Buffer::new();
-    let mut end = Buffer::new();
-    let mut number = Buffer::new();
-    let window = window.format(row.window).as_bytes();
-    let low = start.format(row.low).as_bytes();
-    let high = end_piece(row.high, &mut end);
-    let number = number.format(row.number).as_bytes();
-    let pieces: [&[u8]; 10] = [
-        sign, b" ", window, b" ", low, b" ", high, b" ", number, b" ",
-    ];
-    put_pieces(&pieces, out, sink)
+    let mut line = Line::new();
+    line.byte(b' ');
+    line.number(row.number);
+    line.byte(b' ');
+    line.end(row.high);
+    line.byte(b' ');
+    line.number(row.low);
+    line.byte(b' ');
+    line.number(u64::from(row.window));
+    line.byte(b' ');
+    put_pieces(&[sign, line.text()], out, sink)
 }
 
 // Puts the end of a row's line: its value as shown, and its key.

@@ -11,6 +11,7 @@ mod entry_line;
 mod fault;
 mod fault_line;
 mod finding_line;
+mod line;
 mod pending;
 mod pieces;
 mod report;
