@@ -1,0 +1,8 @@
+pub mod Showing
+pub mod ReadMore
+pub mod Opening
+pub mod Authors
+pub mod TurnFacts
+pub mod NextFacts
+pub mod EndFacts
+pub mod WatchFacts
