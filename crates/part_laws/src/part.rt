@@ -31,3 +31,14 @@ pub fn part_is_a_source_of_the_routed_entries()
           refusal = None;
         } }
 {}
+
+/// Under whatever number a source is read, its parts are the same, and it is refused or isn't. So a
+/// part may be written of the source alone, and read as the source of its number among several.
+pub fn part_is_the_same_under_any_number()
+    ensures refused { (one other every disorder : ℕ) (bytes : List ℕ)
+        → (stream_of one every disorder bytes).refusal
+        ≡ (stream_of other every disorder bytes).refusal }
+    ensures part { (shards k one other every disorder : ℕ) (bytes : List ℕ)
+        → part_text shards k (stream_of one every disorder bytes).entries
+        ≡ part_text shards k (stream_of other every disorder bytes).entries }
+{}

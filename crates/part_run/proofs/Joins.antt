@@ -11,7 +11,7 @@ use Rattle.report_join.specs.declared.join_why.JoinWhy.TheVariants.{Shape, Entry
 use Rattle.emission_text.specs.declared.fault.Fault.{Fault}
 use Rattle.emission_text.specs.declared.fault.Fault.TheVariants.{Usage, NoMemory}
 use Rattle.scotty_run.specs.Outside.{Opens}
-use Rattle.part_run.specs.Joining.{AreShardReports, AreTexts, IsFirstWrong, IsJoinOf, IsJoinOfFiles, IsWrongAt, StopsAtReports, StopsAtTexts, StopsJoin, WrongAt, report_fault}
+use Rattle.part_run.specs.Joining.{AreShardReports, AreTexts, IsFirstWrong, IsFormOf, IsJoinOf, IsJoinOfFiles, IsWrongAt, StopsAtReports, StopsAtTexts, StopsJoin, WrongAt, report_fault}
 use Rattle.part_run.specs.declared.part_fault.PartFault.{PartFault}
 use Rattle.part_run.specs.declared.part_fault.PartFault.TheVariants.{Run, LongPart, UnreadDefs, NotReport, Misplaced}
 
@@ -62,23 +62,25 @@ wrong_at second texts i inside below (Misplaced report number) h =
     subst (λ (k : ℕ). WrongAt second texts (Misplaced k number)) (sym h.0) record { inside = inside; below = below; found = h.1 }
 
 -- what is wrong with the texts of files stops a join
-pub stops_join : (names : List (List ℕ)) (opens : Opens) (texts : List (List ℕ)) (second : Bool) → AreTexts names opens texts → (fault : PartFault) → WrongAt second texts fault → StopsJoin names opens fault
-stops_join names opens texts second read (Run fault) h = subst (StopsAtReports names opens) (sym h) tt
-stops_join names opens texts second read LongPart h = h
-stops_join names opens texts second read UnreadDefs h = h
-stops_join names opens texts second read (NotReport report) h = record { texts = texts; read = read; second = second; wrong = h }
-stops_join names opens texts second read (Misplaced report number) h = record { texts = texts; read = read; second = second; wrong = h }
+pub stops_join : (names : List (List ℕ)) (opens : Opens) (texts : List (List ℕ)) (second : Bool) → IsFormOf second texts → AreTexts names opens texts → (fault : PartFault) → WrongAt second texts fault
+    → StopsJoin names opens fault
+stops_join names opens texts second form read (Run fault) h = subst (StopsAtReports names opens) (sym h) tt
+stops_join names opens texts second form read LongPart h = h
+stops_join names opens texts second form read UnreadDefs h = h
+stops_join names opens texts second form read (NotReport report) h = record { texts = texts; read = read; second = second; form = form; wrong = h }
+stops_join names opens texts second form read (Misplaced report number) h =
+    record { texts = texts; read = read; second = second; form = form; wrong = h }
 
 -- a join of texts is one of the files that gave them
 pub join_of_files : (names : List (List ℕ)) (opens : Opens) (texts : List (List ℕ)) → AreTexts names opens texts → (text : List ℕ) → IsJoinOf texts text → IsJoinOfFiles names opens text
 join_of_files names opens texts read text join = record { texts = texts; read = read; join = join }
 
 pub stops_files : (names : List (List ℕ)) (opens : Opens) (texts : List (List ℕ)) → AreTexts names opens texts → (fault : PartFault) → StopsAtTexts texts fault → StopsJoin names opens fault
-stops_files names opens texts read fault h = stops_join names opens texts h.0 read fault h.1
+stops_files names opens texts read fault h = stops_join names opens texts h.0 h.1 read fault h.2
 
 -- no text says that the words of the command are wrong
 pub no_usage_in : (texts : List (List ℕ)) → StopsAtTexts texts (Run Usage) → ⊥
-no_usage_in texts h = wrong h.1
+no_usage_in texts h = wrong h.2
   where
     wrong : Usage ≡ NoMemory → ⊥
     wrong e = cc

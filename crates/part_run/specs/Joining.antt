@@ -1,5 +1,5 @@
 -- What the files of a join give, and why they stop it.
-use Rattle.std.specs.Prelude.{◌≡◌, ◌<◌, ◌+◌, ◌⊎◌, ℕ, Bool, List, [], ◌∷◌, length, take, Option, None, Some, slice_index_or, ⊤}
+use Rattle.std.specs.Prelude.{◌≡◌, ◌<◌, ◌+◌, ◌++◌, ◌⊎◌, ◌↔◌, ℕ, Bool, List, [], ◌∷◌, codes, length, take, Option, None, Some, slice_index_or, IsTrue, ⊤}
 use Rattle.outside.specs.Outside.{refused}
 use Rattle.source_feed.specs.declared.whole.TheConstants.{SOURCE_MAX}
 use Rattle.part_laws.specs.Joined.{joined}
@@ -76,9 +76,18 @@ abbrev pub AreShardReports : Bool → ℕ → List (List ℕ) → ℕ → Type 0
 AreShardReports second shards texts number =
     (i : ℕ) → i < number → IsJudged (form_told second) shards i (slice_index_or texts i []) None
 
+-- a text begins as a report in the second form does
+abbrev pub BeginsSecond : List ℕ → Type 0
+BeginsSecond text = (later : List ℕ) × (text ≡ codes "report 2\n" ++ later)
+
+-- the form of texts that are joined is that of the first: the second where it begins so, and else the first
+abbrev pub IsFormOf : Bool → List (List ℕ) → Type 0
+IsFormOf second texts = IsTrue second ↔ BeginsSecond (slice_index_or texts 0 [])
+
 -- the text is that of all these reports of one shard each, joined
 pub record IsJoinOf (texts : List (List ℕ)) (text : List ℕ) : Type 0 where
   pub second : Bool
+  pub form : IsFormOf second texts
   pub reports : AreShardReports second (length texts) texts (length texts)
   pub text_is : text ≡ joined (form_told second) texts
 
@@ -119,13 +128,14 @@ WrongAt second texts (Misplaced report number) = IsFirstWrong second texts repor
 
 -- why these texts aren't joined
 abbrev pub StopsAtTexts : List (List ℕ) → PartFault → Type 0
-StopsAtTexts texts fault = (second : Bool) × WrongAt second texts fault
+StopsAtTexts texts fault = (second : Bool) × IsFormOf second texts × WrongAt second texts fault
 
 -- all reports were read, and one isn't what it is to be
 pub record IsWrongOfFiles (names : List (List ℕ)) (opens : Opens) (report : ℕ) (why : JoinWhy) : Type 0 where
   pub texts : List (List ℕ)
   pub read : AreTexts names opens texts
   pub second : Bool
+  pub form : IsFormOf second texts
   pub wrong : IsFirstWrong second texts report why
 
 -- why reports aren't joined

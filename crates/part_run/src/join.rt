@@ -6,7 +6,7 @@ ghost use Rattle.report_join.specs.ShardReports.{IsJudged, form_told};
 ghost use Rattle.emission_text.specs.Sending.{Appends, Fails, Puts, Writes};
 ghost use Rattle.scotty_run.specs.Outside.{OpensInOrder, opens_of};
 ghost use Rattle.part_run.specs.Answer.{IsAnswer};
-ghost use Rattle.part_run.specs.Joining.{AreShardReports, IsJoinOf, IsJoinOfFiles, IsWrongAt, StopsAtTexts, StopsJoin, WrongAt, report_fault};
+ghost use Rattle.part_run.specs.Joining.{AreShardReports, IsFormOf, IsJoinOf, IsJoinOfFiles, IsWrongAt, StopsAtTexts, StopsJoin, WrongAt, report_fault};
 
 use crate::part_fault::PartFault;
 use crate::printing::print_fault;
@@ -46,11 +46,19 @@ fn join_texts<K: Sink>(alloc: Global, texts: &[Vec<u8>], sink: &mut K) -> Status
     ensures { IsAnswer K.taken K.faults (IsJoinOf (lists_of texts.now))
         (StopsAtTexts (lists_of texts.now)) sink.old sink.new result }
 {
-    let second = is_second_form(&texts[0]);
+    let second = tells_second_form(texts);
     match judge_all(alloc, second, texts) {
         Err(fault) => print_fault(&fault, sink),
         Ok(()) => print_joined(second, texts, sink),
     }
+}
+
+// Whether the form of all these is the second: that of the first of them.
+fn tells_second_form(texts: &[Vec<u8>]) -> bool
+    requires { 1 ≤ length texts.now }
+    ensures { IsFormOf result (lists_of texts.now) }
+{
+    is_second_form(&texts[0])
 }
 
 // Whether each text is the report of the shard of its place: the first fault, where one isn't.

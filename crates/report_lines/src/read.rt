@@ -1,5 +1,5 @@
 //! What a line of a report is: it is spelled again and compared.
-ghost use Rattle.std.specs.Prelude.{◌≡◌, ◌++◌, ◌∷◌, [], IfOk, IfSome, true};
+ghost use Rattle.std.specs.Prelude.{◌≡◌, ◌++◌, ◌∷◌, [], ℕ, List, codes, IfOk, IfSome, IsTrue, true, ◌↔◌};
 ghost use Rattle.std.specs.Str.{bytes_eq};
 ghost use Rattle.stream_base.specs.Model.Text.{entry_line};
 ghost use Rattle.stream_base.specs.Model.Journals.{entry_in, is_entry_within, is_header};
@@ -13,8 +13,31 @@ use itoa::Buffer;
 use std::alloc::Global;
 use stream_base::{Entry, NoMemory};
 
-/// Whether a line is the header of a shard.
+/// Whether a line is the header of a shard. Most lines show by their first byte that they are none.
 pub fn is_header(alloc: Global, line: &[u8]) -> Result<bool, NoMemory>
+    ensures { IfOk result (λ yes. yes ≡ is_header line.now) }
+{
+    if begins_as_header(line) {
+        spells_header(alloc, line)
+    } else {
+        Ok(false)
+    }
+}
+
+fn begins_as_header(line: &[u8]) -> bool
+    ensures { IsTrue result ↔ ((later : List ℕ) × (line.now ≡ codes "s" ++ later)) }
+{
+    line.starts_with(b"s")
+}
+
+fn begins_as_entry(line: &[u8]) -> bool
+    ensures { IsTrue result ↔ ((later : List ℕ) × (line.now ≡ codes "j" ++ later)) }
+{
+    line.starts_with(b"j")
+}
+
+// Whether a line is spelled as the header of the number in it.
+fn spells_header(alloc: Global, line: &[u8]) -> Result<bool, NoMemory>
     ensures { IfOk result (λ yes. yes ≡ is_header line.now) }
 {
     let (_word, digits) = split_word(line);
@@ -25,8 +48,21 @@ pub fn is_header(alloc: Global, line: &[u8]) -> Result<bool, NoMemory>
     is_line(alloc, line, &spelled)
 }
 
-/// The entry whose journal line a line is, if it is one.
+/// The entry whose journal line a line is, if it is one. The lines of changes show by their first byte
+/// that they are none.
 pub fn entry_in(alloc: Global, line: &[u8]) -> Result<Option<Entry>, NoMemory>
+    ensures value { IfOk result (λ found. found ≡ entry_in line.now) }
+    ensures within { IfOk result (λ found. IfSome found (λ e. is_entry_within e ≡ true)) }
+{
+    if begins_as_entry(line) {
+        spelled_entry(alloc, line)
+    } else {
+        Ok(None)
+    }
+}
+
+// The entry that a line spells, if it spells one.
+fn spelled_entry(alloc: Global, line: &[u8]) -> Result<Option<Entry>, NoMemory>
     ensures value { IfOk result (λ found. found ≡ entry_in line.now) }
     ensures within { IfOk result (λ found. IfSome found (λ e. is_entry_within e ≡ true)) }
 {

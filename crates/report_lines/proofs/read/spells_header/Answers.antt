@@ -5,7 +5,7 @@ use Rattle.std.specs.Str.{bytes_eq}
 use Rattle.stream_base.specs.Model.Text.{line_of}
 use Rattle.stream_base.specs.Model.Journals.{after_word, number_in}
 use Rattle.report_lines.proofs.Reading.{header_by_number, if_ok}
-use Rattle.report_lines.proofs.read.is_header.Goals as goal
+use Rattle.report_lines.proofs.read.spells_header.Goals as goal
 
 pub returns : goal.returns
 returns c =
