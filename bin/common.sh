@@ -3,6 +3,9 @@
 # The programs of dist/: crates of crates.txt that have a main, and that a proof builds.
 programs="scotty_cli scotty_rows scotty_part"
 
+# The program that bench/refusals runs beside them. It isn't handed in.
+tried="refused_calls"
+
 fail() {
     echo "scotty: $1" >&2
     exit 70
