@@ -8,8 +8,8 @@
 //! # The rule of the board
 //!
 //! What readers see is a board: a course, which is the definitions and the sources, and the tally
-//! of some of its entries. A view of a place is the board that was seen there last, or none yet. The
-//! rule holds between any two steps:
+//! of some of its entries. A view of a place is the board that was seen there last, or none yet.
+//! The rule holds between any two steps:
 //!
 //! - The board shows a tally of its own course.
 //! - It is later than each board that was seen: of the same course, and of no fewer entries.
