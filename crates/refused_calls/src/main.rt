@@ -9,9 +9,13 @@
 
 mod alike;
 mod apply;
+mod desk;
 mod difference;
+mod full;
 mod gathers;
 mod history;
+mod look;
+mod mail;
 mod row;
 mod said;
 mod shards;

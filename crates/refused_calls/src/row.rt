@@ -1,6 +1,9 @@
 //! The rows by their names.
+use crate::desk::desk;
+use crate::full::full;
 use crate::gathers::{gathers, made};
 use crate::history::{EVENTS, MARKS, SESSIONS, TUMBLING, TWO_KEYS};
+use crate::mail::mail;
 use crate::shards::{one_shard, two_shards};
 use crate::trouble::Trouble;
 use crate::way::Way;
@@ -22,6 +25,9 @@ pub fn run_row<R: Print + Threads + Wait + Sync, K: Sink>(
         "marks" => one_shard(rt, alloc, &MARKS, sink),
         "events" => one_shard(rt, alloc, &EVENTS, sink),
         "two-shards" => two_shards(rt, alloc, &TWO_KEYS, sink),
+        "desk" => desk(rt, alloc, sink),
+        "full" => full(rt, alloc),
+        "mail" => mail(rt, alloc),
         "gathers" => gathers(rt, alloc, sink),
         "made-turns" => made(rt, alloc, Way::Turns, sink),
         "made-mail" => made(rt, alloc, Way::Mail, sink),
