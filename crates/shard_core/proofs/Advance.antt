@@ -4,7 +4,7 @@ use Rattle.std.specs.Prelude.{EachIndex, nat_le}
 use Rattle.std.specs.Map.{values_of}
 use Rattle.std.specs.Cmp.{eq_by_cmp_equiv}
 use Rattle.std.specs.Cmp.Lexicographic.{slice_cmp}
-use Rattle.std.specs.List.{All, AllPairs, Contains, enumerate_from, filter, flat_map}
+use Rattle.std.specs.List.{AllPairs, Contains, enumerate_from, filter, flat_map}
 use Rattle.std.specs.List.Sorted.{IsStrictlySortedBy}
 use Rattle.std.specs.Ordering.{nat_cmp}
 use Rattle.std.specs.declared.cmp.Ordering.TheVariants.{Less}
@@ -139,10 +139,6 @@ module _ {K : Type 0} (key_of : K → List ℕ) (fits : Definitions → List Kep
 
 -- ---- the places that are due
 -- where nothing passes, nothing is left
-pub none_passes : (p : ℕ → Bool) (xs : List ℕ) → ((x : ℕ) → Contains xs x → p x ≡ false) → [] ≡ filter p xs
-none_passes p [] h = refl
-none_passes p (x ∷ xs) h = none_passes p xs (λ y c. h y (Contains-tail x xs y c)) ∙ ap (λ b. cond b (x ∷ filter p xs) (filter p xs)) (sym (h x (Contains-head x xs)))
-
 pub filter_of_map : {X Y : Type 0} (f : X → Y) (p : Y → Bool) (xs : List X) → filter p (map f xs) ≡ map f (filter (λ x. p (f x)) xs)
 filter_of_map f p [] = refl
 filter_of_map f p (x ∷ xs) = by (p (f x)) (filter_of_map f p xs)
@@ -197,12 +193,6 @@ module _ {K : Type 0} (key_of : K → List ℕ) (fits : Definitions → List Kep
 
   pub is_entry : (key : List ℕ) (p : ℕ) → place_of t key ≡ Some p → Contains t.index (key, p)
   is_entry key p at = Contains-from_lookup (tells_apart exact_bytes) key p t.index at
-
-  pub values_within : All (λ p. p < length t.dues.items) (values_of t.index)
-  values_within = All_from_members (λ p. p < length t.dues.items) (values_of t.index)
-      (λ p m. let e : (f : List ℕ × ℕ) × Contains t.index f × (f.1 ≡ p) = map_members (λ (f : List ℕ × ℕ). f.1) t.index p m in
-      let within : (e.0).1 < length t.slots.items = c.placed (e.0).0 (e.0).1 (has_place (e.0).0 (e.0).1 e.1) in
-      omega (arith, c.aligned, e.2))
 
   module _ (new : ℕ) where
     -- a place that is due is that of a key

@@ -8,7 +8,7 @@ use Rattle.std.specs.List.{Contains, filter}
 use Rattle.std.specs.Ordering.{is_eq, nat_cmp, ordering_reverse}
 use Rattle.std.specs.declared.cmp.Ordering.TheVariants.{Less}
 use Rattle.std.proofs.lemmas.Bool.{cases_lt, le-leb, lt-leb, lt-ltb}
-use Rattle.std.proofs.lemmas.Bool.Decides.{eqb_tells, nat_tests}
+use Rattle.std.proofs.lemmas.Bool.Decides.{nat_tests}
 use Rattle.std.proofs.lemmas.Cmp.{nat_list_cmp_total}
 use Rattle.std.proofs.lemmas.List.{get_or_append_left, get_or_default, get_or_push}
 use Rattle.std.proofs.lemmas.Map.Entries.{lookup-filter-values, option_filter}
@@ -18,6 +18,7 @@ use Rattle.std.proofs.lemmas.Map.Views.{Contains-from_lookup, lookup-from_Contai
 use Rattle.stream_base.proofs.Members.{map_has}
 use Rattle.stream_base.proofs.Rising.{below_tail, none_in_nil, not_below_itself, Contains-cons_cases, Contains-head, Contains-tail}
 use Rattle.shard_core.specs.Placed.{AreByKey, ArePlaced, place_in}
+use Rattle.shard_core.specs.Reached.{NoneReached}
 use Rattle.shard_core.proofs.Advance.{keys_of_filtered}
 use Rattle.shard_core.proofs.Places.{same_key, some_is}
 
@@ -133,20 +134,23 @@ module _ (entries : List (List ℕ × ℕ)) (dues : List ℕ) (water : ℕ) wher
         let same : nat_lt p i ≡ nat_lt p (i + 1) = grind (arith, nat_tests) in
         ap (λ b. cond (b && nat_le (get_or dues p 0) water) (Some p) None) same
 
-    pub due_passed : water < get_or dues i 0 → AreDueBefore (i + 1) due
-    due_passed later q = so_far q ∙ by (place_in entries q)
+    -- up to a place before which no more are reached, the same entries are due
+    pub due_passed : (upto : ℕ) → i ≤ upto → length keys ≡ length dues → NoneReached dues water i upto → AreDueBefore upto due
+    due_passed upto more as_many none q = so_far q ∙ by (place_in entries q) refl
       where
-        by : (o : Option ℕ) → option_filter (is_due_before i) o ≡ option_filter (is_due_before (i + 1)) o
-        by None = refl
-        by (Some p) = ⊎_elim (λ e. here e.1) (λ e. further q (Some p) (λ n is same. e.1 (some_is p n is ∙ same))) (eqb_tells p i)
-          where
-            here : p ≡ i → option_filter (is_due_before i) (Some p) ≡ option_filter (is_due_before (i + 1)) (Some p)
-            here e =
-                let no : nat_le (get_or dues p 0) water ≡ false = lt-leb (get_or dues p 0) water (subst (λ n. water < get_or dues n 0) (sym e) later) in
-                (λ j. cond (nat_lt p i && no j) (Some p) None)
-                ∙ (λ j. cond (and_false (nat_lt p i) j) (Some p) None)
-                ∙ sym (λ j. cond (and_false (nat_lt p (i + 1)) j) (Some p) None)
-                ∙ sym (λ j. cond (nat_lt p (i + 1) && no j) (Some p) None)
+        same : (p : ℕ) → p < length keys → is_due_before i p ≡ is_due_before upto p
+        same p l = ⊎_elim
+            (λ (early : p < i). let first : nat_lt p i ≡ nat_lt p upto = grind (arith, nat_tests) in ap (λ b. b && nat_le (get_or dues p 0) water) first)
+            (λ (late : i ≤ p). ⊎_elim
+            (λ (before : p < upto). let no : nat_le (get_or dues p 0) water ≡ false = lt-leb (get_or dues p 0) water (none p late before (omega arith)) in
+            (λ j. nat_lt p i && no j) ∙ and_false (nat_lt p i) ∙ sym (and_false (nat_lt p upto)) ∙ sym (λ j. nat_lt p upto && no j))
+            (λ (behind : upto ≤ p). let last : nat_lt p i ≡ nat_lt p upto = grind (arith, nat_tests) in ap (λ b. b && nat_le (get_or dues p 0) water) last)
+            (cases_lt p upto))
+            (cases_lt p i)
+
+        by : (o : Option ℕ) → place_in entries q ≡ o → option_filter (is_due_before i) o ≡ option_filter (is_due_before upto) o
+        by None at = refl
+        by (Some p) at = ap (λ b. cond b (Some p) None) (same p (a.within q p at))
 
     pub due_taken : (longer : List (List ℕ × ℕ)) (x : List ℕ) → i < length keys → get_or dues i 0 ≤ water
         → ((q : List ℕ) → place_in longer q ≡ cond (is_at (slice_cmp nat_cmp (get_or keys i x)) q) (Some i) (place_in due q))

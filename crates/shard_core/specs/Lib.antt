@@ -3,6 +3,7 @@ pub mod Work
 pub mod Recorded
 pub mod Past
 pub mod Placed
+pub mod Reached
 pub mod Applying
 pub mod Engines
 pub mod Flat

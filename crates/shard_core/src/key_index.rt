@@ -6,6 +6,7 @@ ghost use Rattle.std.specs.Map.{values_of};
 ghost use Rattle.std.specs.Ordering.{nat_cmp};
 ghost use Rattle.shard_core.specs.Placed.{AreByKey, place_in};
 
+use crate::dues::Dues;
 use crate::hints::{Hints, TRIES};
 use std::alloc::Global;
 use std::collections::BTreeMap;
@@ -98,10 +99,10 @@ impl KeyIndex {
     }
 
     // The places whose due numbers a watermark reaches, by the bytes of their keys.
-    pub fn due(&self, alloc: Global, dues: &[u64], water: u64) -> Result<Vec<usize>, NoMemory>
-        requires { length dues.now ≡ length self.now }
+    pub fn due(&self, alloc: Global, dues: &Dues, water: u64) -> Result<Vec<usize>, NoMemory>
+        requires { length dues.now.items ≡ length self.now }
         ensures { IfOk result (λ places. places.items
-            ≡ filter (λ p. nat_le (slice_index dues.now p) water) (values_of self.now)) }
+            ≡ filter (λ p. nat_le (slice_index dues.now.items p) water) (values_of self.now)) }
     {
         let due = self.due_by_key(alloc, dues, water)?;
         let mut places = Vec::new(alloc);
@@ -111,23 +112,23 @@ impl KeyIndex {
         Ok(places)
     }
 
-    // The same with their keys. Only what is due is looked at by its key: the due numbers of all
-    // keys lie side by side, and are read through in place.
+    // The same with their keys. Only what is due is looked at by its key, and what lies between is
+    // passed over.
     fn due_by_key(
         &self,
         alloc: Global,
-        dues: &[u64],
+        dues: &Dues,
         water: u64,
     ) -> Result<BTreeMap<KeyText, usize>, NoMemory>
-        requires { length dues.now ≡ length self.now }
+        requires { length dues.now.items ≡ length self.now }
         ensures { IfOk result (λ due. due.entries
-            ≡ filter (λ e. nat_le (slice_index dues.now e.1) water) self.now) }
+            ≡ filter (λ e. nat_le (slice_index dues.now.items e.1) water) self.now) }
     {
         let mut due = BTreeMap::new(alloc);
-        for place in 0..dues.len() {
-            if dues[place] <= water {
-                due.insert(self.keys[place], place)?;
-            }
+        let mut from = 0;
+        while let Some(place) = dues.next_reached(from, water) {
+            due.insert(self.keys[place], place)?;
+            from = place + 1;
         }
         Ok(due)
     }

@@ -1,6 +1,5 @@
-ghost use Rattle.std.specs.Prelude.{◌≡◌, ◌≤◌, ◌<◌, ◌+◌, ◌-◌, ◌++◌, ◌∷◌, [], ℕ, List, true, IfOk, OnOk, length, All, EachIndex, sum_by, vec_len, vec_capacity, slice_index, slice_index_or};
+ghost use Rattle.std.specs.Prelude.{◌≡◌, ◌≤◌, ◌<◌, ◌+◌, ◌-◌, ◌++◌, ◌∷◌, [], ℕ, List, true, IfOk, OnOk, length, EachIndex, sum_by, vec_len, vec_capacity, slice_index, slice_index_or};
 ghost use Rattle.std.specs.List.{HoldsAt, flat_map};
-ghost use Rattle.std.specs.Map.{values_of};
 ghost use Rattle.key_parts.specs.Work.{AddsAtMost};
 ghost use Rattle.key_windows.specs.Calls.{IsWater, changes_by_move};
 ghost use Rattle.stream_base.specs.declared.kept.Kept.{Kept};
@@ -47,14 +46,10 @@ impl<K: KeyWindows> KeyTable<K> {
 
     // The places of the states that are due at a watermark, by the bytes of their keys.
     fn due_places(&self, alloc: Global, water: u64) -> Result<Vec<usize>, NoMemory>
-        requires places { All (λ p. p < length self.now.dues.items) (values_of self.now.index) }
-        requires counted { length self.now.dues.items ≡ length self.now.index }
+        requires { length self.now.dues.items ≡ length self.now.index }
         ensures { IfOk result (λ places. places.items ≡ due_places self.now water) }
     {
-        if self.dues.none_reached(water) {
-            return Ok(Vec::new(alloc));
-        }
-        self.index.due(alloc, self.dues.as_slice(), water)
+        self.index.due(alloc, &self.dues, water)
     }
 
     // Makes room for the move of the state at a place, and answers for how many changes.

@@ -2,5 +2,5 @@
 use Rattle.std.proofs.Common.{◌≤◌, ◌<◌, ℕ, get_or}
 use Rattle.shard_core.proofs.dues.least_of.Given as goal
 
-abbrev pub invariant-loop-number : goal.invariant-loop-number
-invariant-loop-number l = (j : ℕ) → j < l.number-index → l.least ≤ get_or l.numbers j 0
+abbrev pub invariant-loop-at : goal.invariant-loop-at
+invariant-loop-at l = (p : ℕ) → l.first ≤ p → p < l.at → l.least ≤ get_or l.numbers p 0

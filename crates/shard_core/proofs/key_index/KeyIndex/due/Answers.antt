@@ -13,7 +13,7 @@ loop-place-init c =
     let all : c.into_iter-place-iterator.result ≡ values_of (c.in_ok-due.due).entries = c.into_iter-place-iterator.ensures.into_iter_gives ∙ c.values-place-items.ensures.rest in
     (λ i. c.new-places.ensures.items i ++ all i)
     ∙ ap values_of c.in_ok-due.ensures
-    ∙ sym (filter_of_map (λ (e : List ℕ × ℕ). e.1) (λ p. nat_le (get_or c.args.dues.now p 0) c.args.water) c.args.self.now)
+    ∙ sym (filter_of_map (λ (e : List ℕ × ℕ). e.1) (λ p. nat_le (get_or c.args.dues.now.items p 0) c.args.water) c.args.self.now)
 
 pub loop-place-preserved : goal.loop-place-preserved
 loop-place-preserved c =

@@ -6,4 +6,4 @@ use Rattle.std.specs.Map.{values_of}
 use Rattle.shard_core.proofs.key_index.KeyIndex.due.Given as goal
 
 abbrev pub invariant-loop-place : goal.invariant-loop-place
-invariant-loop-place l = l.places.items ++ l.place-iterator ≡ filter (λ p. nat_le (get_or l.dues p 0) l.water) (values_of l.self)
+invariant-loop-place l = l.places.items ++ l.place-iterator ≡ filter (λ p. nat_le (get_or l.dues.items p 0) l.water) (values_of l.self)

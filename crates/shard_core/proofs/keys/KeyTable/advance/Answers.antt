@@ -6,17 +6,12 @@ use Rattle.stream_base.specs.Model.Watermark.{water_of}
 use Rattle.model_laws.proofs.WatermarkFacts.{water_rises}
 use Rattle.shard_core.specs.declared.keys.KeyTable.{KeyTable}
 use Rattle.shard_core.specs.Engines.{AreCurrent, due_places}
-use Rattle.shard_core.proofs.Advance.{appended, due_movable, moved_table, same_table, values_within}
+use Rattle.shard_core.proofs.Advance.{appended, due_movable, moved_table, same_table}
 use Rattle.shard_core.proofs.Places.{on_err}
 use Rattle.shard_core.proofs.keys.KeyTable.advance.Goals as goal
 
-pub due_places-requires-clause-counted : goal.due_places-requires-clause-counted
-due_places-requires-clause-counted g c = c.requires.current.aligned ∙ c.requires.current.counted
-
-pub due_places-requires-clause-places : goal.due_places-requires-clause-places
-due_places-requires-clause-places g c =
-    let past = c.args.past.now in
-    values_within g.K.KeyWindows.key_of g.K.KeyWindows.fits g.K.KeyWindows.next_position past.defs past.sources past.journal c.args.self.now c.requires.current
+pub due_places-requires : goal.due_places-requires
+due_places-requires g c = c.requires.current.aligned ∙ c.requires.current.counted
 
 pub reserve_moves-requires : goal.reserve_moves-requires
 reserve_moves-requires g c =
