@@ -1,16 +1,17 @@
 -- The part of the only source of a command.
-use Rattle.std.proofs.Common.{◌≡◌, ◌∙◌, ◌<◌, ◌≤◌, ◌⊎◌, ℕ, List, [], ◌∷◌, length, Result, Ok, Err, inl, inr, refl, sym, subst, arith}
+use Rattle.std.proofs.Common.{◌≡◌, ◌∙◌, ◌<◌, ◌≤◌, ◌⊎◌, ℕ, List, [], ◌∷◌, length, Option, None, Some, Result, Ok, Err, inl, inr, refl, sym, subst, arith}
 use Rattle.std.specs.Prelude.{IfErr, IfOk, Vec}
 use Rattle.std.specs.declared.alloc.Global.{Global}
 use Rattle.stream_base.specs.Limits.{Definitions}
 use Rattle.stream_base.specs.declared.entry.Entry.{Entry}
 use Rattle.source_feed.specs.FeedView.{FeedView}
+use Rattle.source_feed.specs.declared.whole.TheConstants.{SOURCE_MAX}
 use Rattle.emission_text.specs.declared.fault.Fault.TheVariants.{Usage}
 use Rattle.scotty_run.specs.Causes.{AreDefinitionsRead, StopsAtDefs}
 use Rattle.scotty_run.specs.Outside.{Opens}
 use Rattle.scotty_run.specs.Reading.{IsFresh, IsSameFeed}
 use Rattle.part_text.specs.Parting.{IsNew, IsSameSource}
-use Rattle.part_run.specs.Parting.{AreDefsOfFile, SpellsParts, StopsAtPart, StopsBehindDefs, StopsDefs, StopsSpelling}
+use Rattle.part_run.specs.Parting.{AreDefsOfFile, HoldsPartOfFiles, IsPartOfFiles, IsShortPart, SpellsParts, StopsAtPart, StopsBehindDefs, StopsDefs, StopsPart, StopsSpelling}
 use Rattle.part_run.specs.declared.part_fault.PartFault.{PartFault}
 use Rattle.part_run.specs.declared.part_fault.PartFault.TheVariants.{Run, LongPart, UnreadDefs, NotReport, Misplaced}
 use Rattle.part_run.specs.Words.{Part}
@@ -47,3 +48,14 @@ new_feed feed h = record { running = h.running; unanswered = h.unanswered; blank
 
 pub same_feed : (old new : FeedView) → IsSameSource old new → IsSameFeed old new
 same_feed old new h = record { source = h.source; origin = h.origin }
+
+-- a part of which all is held is no longer than a source may be
+pub short_of_files : (p : Part) (opens : Opens) (held : List ℕ) → HoldsPartOfFiles p opens (Some held) → IsShortPart p opens held
+short_of_files p opens held h = record {
+  part = subst (IsPartOfFiles p opens) (sym h.held_is.0) h.part;
+  short = subst (λ (bytes : List ℕ). length bytes ≤ SOURCE_MAX) (sym h.held_is.0) h.held_is.1;
+}
+
+-- and one of which nothing is held is longer
+pub long_of_files : (p : Part) (opens : Opens) → HoldsPartOfFiles p opens None → StopsPart p opens LongPart
+long_of_files p opens h = (h.bytes, h.part, h.held_is)

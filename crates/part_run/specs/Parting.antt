@@ -1,5 +1,5 @@
 -- What the files of a part give, and why they stop it; and the same of the definitions of parts.
-use Rattle.std.specs.Prelude.{◌≡◌, ◌≤◌, ◌<◌, ◌⊎◌, ℕ, List, [], ◌∷◌, length, Ok}
+use Rattle.std.specs.Prelude.{◌≡◌, ◌≤◌, ◌<◌, ◌⊎◌, ℕ, List, [], ◌∷◌, length, Option, Ok}
 use Rattle.stream_base.specs.Limits.{Definitions}
 use Rattle.stream_base.specs.declared.entry.Entry.{Entry}
 use Rattle.source_feed.specs.declared.whole.TheConstants.{SOURCE_MAX}
@@ -7,6 +7,7 @@ use Rattle.window_defs.specs.Reading.{reading_of}
 use Rattle.part_laws.specs.Joined.{part_definitions}
 use Rattle.part_laws.specs.Parts.{part_text}
 use Rattle.part_text.specs.DefinitionsText.{definitions_text}
+use Rattle.part_text.specs.Holding.{IsHeld}
 use Rattle.emission_text.specs.declared.fault.Fault.{Fault}
 use Rattle.emission_text.specs.declared.fault.Fault.TheVariants.{NoMemory}
 use Rattle.scotty_run.specs.Causes.{AreAllRead, AreDefinitionsRead, StopsAtDefs, StopsAtSources}
@@ -31,6 +32,17 @@ pub record IsPartOfFiles (p : Part) (opens : Opens) (bytes : List ℕ) : Type 0 
 pub record IsShortPart (p : Part) (opens : Opens) (bytes : List ℕ) : Type 0 where
   pub part : IsPartOfFiles p opens bytes
   pub short : length bytes ≤ SOURCE_MAX
+
+-- what is held of the part of the one source of these names, and the same by the definitions
+pub record HoldsPartIn (names : List (List ℕ)) (d : Definitions) (shards k : ℕ) (opens : Opens) (held : Option (List ℕ)) : Type 0 where
+  pub bytes : List ℕ
+  pub part : IsPartIn names d shards k opens bytes
+  pub held_is : IsHeld bytes held
+
+pub record HoldsPartOfFiles (p : Part) (opens : Opens) (held : Option (List ℕ)) : Type 0 where
+  pub bytes : List ℕ
+  pub part : IsPartOfFiles p opens bytes
+  pub held_is : IsHeld bytes held
 
 -- the definitions were accepted, and the source stops the part
 pub record StopsBehindDefs (p : Part) (opens : Opens) (fault : Fault) : Type 0 where

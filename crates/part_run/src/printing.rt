@@ -4,6 +4,7 @@ ghost use Rattle.emission_text.specs.Sending.{Appends, Fails, Puts, Writes};
 ghost use Rattle.part_run.specs.Faults.{SaysPart, part_fault_line, part_status};
 
 use crate::part_fault::PartFault;
+use byte_pieces::Pieces;
 use emission_text::{Pending, SinkFault, put_numbered, put_pieces, write_fault};
 use itoa::Buffer;
 use outside::Sink;
@@ -29,6 +30,36 @@ fn write_text<K: Sink>(text: &[u8], sink: &mut K) -> Result<(), SinkFault>
     let mut out = Pending::new();
     out.add(text, sink)?;
     out.flush(sink)
+}
+
+/// Writes bytes that are held in pieces, each of which is freed behind its write.
+pub fn print_pieces<K: Sink>(pieces: Pieces, sink: &mut K) -> Status
+    ensures either { (result ≡ Status.Done) ⊎ (result ≡ Status.WriteFault) }
+    ensures done { result ≡ Status.Done → Appends K.taken K.faults pieces sink.old sink.new }
+    ensures failed { result ≡ Status.WriteFault
+        → Fails K.taken K.faults pieces sink.old sink.new }
+{
+    match write_pieces(pieces, sink) {
+        Ok(()) => Status::Done,
+        Err(_) => Status::WriteFault,
+    }
+}
+
+fn write_pieces<K: Sink>(pieces: Pieces, sink: &mut K) -> Result<(), SinkFault>
+    ensures { Writes K.taken K.faults pieces sink.old sink.new result }
+{
+    let mut out = Pending::new();
+    add_pieces(pieces, &mut out, sink)?;
+    out.flush(sink)
+}
+
+fn add_pieces<K: Sink>(mut pieces: Pieces, out: &mut Pending, sink: &mut K) -> Result<(), SinkFault>
+    ensures { Puts K.taken K.faults pieces out.old out.new sink.old sink.new result }
+{
+    'pieces: while let Some(piece) = pieces.next_piece() {
+        out.add(&piece, sink)?;
+    }
+    Ok(())
 }
 
 /// Writes the line of a fault, and answers its status.

@@ -1,4 +1,5 @@
-use crate::cases::{Case, hold};
+use crate::cases::{Case, file, hold, run};
+use outside::MemSink;
 use scotty_run::Status;
 use std::test::Fail;
 
@@ -61,4 +62,23 @@ const CASES: [Case; 7] = [
 #[test]
 fn parts_definitions_and_joined_reports_are_written(rt: HostRuntime) -> Result<(), Fail> {
     hold(&rt, rt.alloc(), &CASES)
+}
+
+// Each record goes to the shard, as it would be written. A piece of a part has 262,144 bytes.
+#[test]
+fn a_part_of_many_pieces_is_the_source_where_all_goes_to_the_shard(
+    rt: HostRuntime,
+) -> Result<(), Fail> {
+    let alloc = rt.alloc();
+    let mut source = String::new(alloc);
+    for _ in 0..40_000 {
+        source.push_str("t,1,5,\"a,b\"\n")?;
+    }
+    let defs = "[[window]]\nkind = \"marks\"\nfunc = \"count\"\n";
+    let files = [file(alloc, "d", defs)?, file(alloc, "s", source.as_str())?];
+    let mut sink = MemSink::new(alloc, 600_000, Vec::new(alloc), 100_000)?;
+    let ended = run(alloc, &["part", "d", "1", "0", "s"], &files, &mut sink)?;
+    assert_eq!(rt; ended, Status::Done);
+    assert_eq!(rt; sink.bytes(), source.as_bytes());
+    Ok(())
 }

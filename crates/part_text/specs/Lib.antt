@@ -1,2 +1,4 @@
-pub mod Parting
 pub mod DefinitionsText
+pub mod Holding
+pub mod Parting
+pub mod Writing

@@ -2,7 +2,7 @@
 //! under which it is read.
 //!
 //! *From* a source's feed and its definitions *to* CSV and TOML. *Stands on* `source_feed` for feeds and
-//! for where entries go, on `csv` for records, on `window_defs` for definitions files, and on
+//! for where entries go, on `byte_pieces` for what is held of a part, on `csv` for records, on `window_defs` for definitions files, and on
 //! `part_laws` for the definition of a part. *Promise*: exactly the bytes of the definitions; the
 //! definitions of a part are read back as such.
 #![tactic(auto)]
@@ -11,6 +11,7 @@ mod defs_text;
 mod defs_text_fault;
 mod event;
 mod feed_part;
+mod held_part;
 mod part;
 
 pub use defs_text::part_defs_bytes;

@@ -2,7 +2,7 @@
 ghost use Rattle.std.specs.Prelude.{◌≡◌, ◌≤◌, IfOk};
 ghost use Rattle.part_laws.specs.Parts.{part_text};
 
-use crate::event::put_own;
+use crate::event::own_bytes;
 use std::alloc::Global;
 use stream_base::{Entry, NoMemory};
 
@@ -18,7 +18,7 @@ pub fn part_bytes(
 {
     let mut bytes = Vec::new(alloc);
     for entry in entries {
-        put_own(alloc, &entry.what, shards, shard, &mut bytes)?;
+        bytes.extend_from_slice(&own_bytes(alloc, &entry.what, shards, shard)?)?;
     }
     Ok(bytes)
 }

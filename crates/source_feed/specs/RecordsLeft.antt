@@ -1,16 +1,14 @@
 -- The records that a reader of bytes in memory has left.
-use Rattle.std.specs.Prelude.{◌≡◌, ◌+◌, ℕ, Bool, true, false, List, [], ◌∷◌, length, Option, Some, option_map, unwrap_or, Vec}
-use Rattle.std.specs.Io.Cursor.{cursor_remaining}
-use Rattle.std.specs.declared.io.impls.Cursor.{Cursor}
+use Rattle.std.specs.Prelude.{◌≡◌, ◌+◌, ℕ, Bool, true, false, List, [], ◌∷◌, length, Option, Some, option_map, unwrap_or}
 use Rattle.csv.specs.Machine.{ends_at_end}
 use Rattle.csv.specs.Reading.{Ready, default_config, reader_config, reader_state, reader_trim, records_from, source_of}
 use Rattle.csv.specs.declared.parser.State.{State}
 use Rattle.csv.specs.declared.reader.Reader.{Reader}
 use Rattle.csv.specs.declared.reader.Trim.TheVariants as trim
 
--- the bytes of a vector that are left behind a cursor
-abbrev pub text_left : {A : Type 0} → Cursor (Vec ℕ A) → Option (List ℕ)
-text_left cursor = cursor_remaining (λ bytes. Some bytes.items) cursor
+-- the bytes that are left for a reader of pieces
+abbrev pub text_left : List ℕ → Option (List ℕ)
+text_left bytes = Some bytes
 
 -- the records of bytes, read from a state
 abbrev pub records_after : State → List ℕ → List (List (List ℕ))

@@ -9,7 +9,7 @@ use crate::feed::Feed;
 use crate::feed_fault::FeedFault;
 use crate::row_fault::RowFault;
 use crate::rows::Rows;
-use crate::whole::{SOURCE_MAX, read_whole};
+use crate::whole::{SOURCE_MAX, read_pieces};
 use outside::Source;
 use std::alloc::Global;
 use std::marker::Model;
@@ -137,7 +137,7 @@ fn read_rows<S: Source>(
     ensures counts { CountsReads None
         (S.reads source.old).faults result (S.reads source.new).faults }
 {
-    let bytes = read_whole(alloc, source, SOURCE_MAX)?;
+    let bytes = read_pieces(alloc, source, SOURCE_MAX)?;
     let rows = Rows::new(alloc, bytes, index, every, disorder)?;
     match Box::new(alloc, rows) {
         Ok(rows) => Ok(rows),

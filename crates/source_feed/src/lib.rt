@@ -2,7 +2,8 @@
 //!
 //! *From* the bytes of a source of the outside, or from a seed, *to* the entries that the machine works
 //! on.
-//! *Stands on* `stream_base` for keys, entries and sources, and on `csv` for records. *Promise*: a
+//! *Stands on* `stream_base` for keys, entries and sources, on `byte_pieces` for the bytes that are read,
+//! and on `csv` for records. *Promise*: a
 //! source's entries are those that the definition reads from its bytes, with the watermarks that wake
 //! it or are made and the last end, or those before the first refusal, with its record number and
 //! reason. A generated source's entries are those that the definition deals it, and never refused.
@@ -26,6 +27,7 @@ mod row_fault;
 mod row_why;
 mod rows;
 mod shard;
+mod store;
 mod waiting;
 mod whole;
 mod whole_fault;
@@ -40,5 +42,5 @@ pub use row_fault::RowFault;
 pub use row_why::RowWhy;
 pub use rows::Rows;
 pub use shard::{goes_to, route};
-pub use whole::{SOURCE_MAX, read_whole};
+pub use whole::{SOURCE_MAX, read_pieces, read_whole};
 pub use whole_fault::WholeFault;

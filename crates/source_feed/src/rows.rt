@@ -9,9 +9,9 @@ use crate::pace::Pace;
 use crate::records::reader_of;
 use crate::row_fault::RowFault;
 use crate::waiting::Waiting;
+use byte_pieces::{PieceReader, Pieces};
 use csv::{ByteRecord, Reader};
 use std::alloc::Global;
-use std::io::Cursor;
 use std::marker::Model;
 use stream_base::{Entry, NoMemory, What};
 
@@ -27,7 +27,7 @@ pub enum Stage {
 /// that are made, and its end; or those before the first refused record, and that refusal.
 #[derive(Drop)]
 pub struct Rows {
-    reader: Reader<Cursor<Vec<u8>>>,
+    reader: Reader<PieceReader>,
     fields: ByteRecord,
     number: u64,
     pace: Pace,
@@ -54,7 +54,7 @@ impl Rows {
     /// its next tuple or mark: in front of that stands its greatest watermark again.
     pub fn new(
         alloc: Global,
-        bytes: Vec<u8>,
+        bytes: Pieces,
         source: u16,
         every: u64,
         disorder: u64,
@@ -63,7 +63,7 @@ impl Rows {
           source = source;
           ended = false;
           answered = None;
-          rest = Some (stream_of source every disorder bytes.items);
+          rest = Some (stream_of source every disorder bytes);
         }) }
     {
         let fields = ByteRecord::with_capacity(alloc, 128, 4)?;

@@ -1,6 +1,7 @@
 use crate::counted::CountedSource;
+use byte_pieces::Pieces;
 use source_feed::{
-    Feed, FeedFault, FileFeed, RowFault, RowWhy, Rows, WholeFault, read_whole, route,
+    Feed, FeedFault, FileFeed, RowFault, RowWhy, Rows, WholeFault, read_pieces, read_whole, route,
 };
 use std::alloc::{AllocError, Global};
 use std::str;
@@ -23,9 +24,15 @@ pub fn entry_shown(alloc: Global, entry: &Entry) -> Result<String, AllocError> {
     }
 }
 
+fn pieces_of(alloc: Global, bytes: &[u8]) -> Result<Pieces, AllocError> {
+    let mut pieces = Pieces::new(alloc);
+    pieces.add(bytes)?;
+    Ok(pieces)
+}
+
 // All that the rows of these bytes answer, up to the first answer that isn't an entry.
 fn shown(alloc: Global, bytes: &[u8], every: u64, disorder: u64) -> Result<String, Fail> {
-    let mut rows = Rows::new(alloc, Vec::from_slice(alloc, bytes)?, 0, every, disorder)?;
+    let mut rows = Rows::new(alloc, pieces_of(alloc, bytes)?, 0, every, disorder)?;
     let mut text = String::new(alloc);
     for _ in 0..20 {
         match rows.next() {
@@ -258,8 +265,8 @@ fn takes_keys_of_any_bytes_but_control_characters(rt: HostRuntime) -> Result<(),
         b"\xC3\xA4".as_slice(),
         longest.as_slice(),
     ] {
-        let mut bytes = Vec::from_slice(rt.alloc(), b"t,1,5,".as_slice())?;
-        bytes.extend_from_slice(key)?;
+        let mut bytes = pieces_of(rt.alloc(), b"t,1,5,")?;
+        bytes.add(key)?;
         let mut rows = Rows::new(rt.alloc(), bytes, 3, 0, 0)?;
         let want = Entry {
             source: 3,
@@ -271,8 +278,8 @@ fn takes_keys_of_any_bytes_but_control_characters(rt: HostRuntime) -> Result<(),
         };
         assert_eq!(rt; rows.next()?, Some(want));
     }
-    let mut bytes = Vec::from_slice(rt.alloc(), b"t,1,5,".as_slice())?;
-    bytes.extend_from_slice([b'k'; 65].as_slice())?;
+    let mut bytes = pieces_of(rt.alloc(), b"t,1,5,")?;
+    bytes.add([b'k'; 65].as_slice())?;
     let fault = RowFault::Refused {
         number: 1,
         why: RowWhy::Key,
@@ -288,6 +295,17 @@ fn reads_a_source_whole_up_to_its_limit(rt: HostRuntime) -> Result<(), Fail> {
         let whole = read_whole(rt.alloc(), &mut source, 5);
         assert_eq!(rt; source.into_faults(), 0);
         assert_eq!(rt; whole?.as_slice(), b"12345".as_slice());
+
+        let mut source = CountedSource::new(b"12345", &[], piece);
+        let pieces = read_pieces(rt.alloc(), &mut source, 5);
+        assert_eq!(rt; source.into_faults(), 0);
+        let mut pieces = pieces?;
+        assert_eq!(rt; pieces.len(), 5);
+        let first = pieces.next_piece();
+        assert_eq!(rt;
+            first.unwrap_or(Vec::new(rt.alloc())).as_slice(),
+            b"12345".as_slice()
+        );
 
         let mut source = CountedSource::new(b"123456789", &[], piece);
         let long = read_whole(rt.alloc(), &mut source, 4);

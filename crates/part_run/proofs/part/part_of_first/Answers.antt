@@ -1,8 +1,9 @@
 -- The only feed is read to its end, or up to a fault.
-use Rattle.std.proofs.Common.{◌≡◌, ◌∙◌, ◌<◌, [], length, ap, sym, subst, arith, Err}
+use Rattle.std.proofs.Common.{◌≡◌, ◌∙◌, ◌<◌, ℕ, List, [], length, ap, sym, subst, arith, Err}
 use Rattle.source_feed.specs.FileFeedState.{FileFeedState, feed_view}
 use Rattle.scotty_run.specs.Reading.{IsFresh}
 use Rattle.scotty_run.proofs.Draining.{draining_more, draining_stops, none_drained, same_more}
+use Rattle.part_text.specs.Holding.{IsHeld}
 use Rattle.part_run.proofs.Parting.{new_feed, same_feed}
 use Rattle.part_run.proofs.part.part_of_first.Goals as goal
 
@@ -25,10 +26,15 @@ returns-in-Ok g c =
     let inside : 0 < length feeds = omega (arith, c.requires.one) in
     let same = same_feed (feed_view reads word x) (feed_view reads word new) c.part_of_feed.ensures.same in
     let start = none_drained reads word feeds in
-    let part = c.in-Ok.ensures.part in
+    let holds = c.in-Ok.ensures.part in
+    let part = holds.part in
     record {
       same = same_more reads word feeds feeds [] 0 x new inside c.index_mut.ensures.value same start;
-      drained = (part.entries, (draining_more reads word feeds feeds [] 0 x new inside c.index_mut.ensures.value same start part.entries part.told c.in-Ok.ensures.quiet).drained, part.part);
+      drained = (
+        part.entries,
+        (draining_more reads word feeds feeds [] 0 x new inside c.index_mut.ensures.value same start part.entries part.told c.in-Ok.ensures.quiet).drained,
+        subst (λ (bytes : List ℕ). IsHeld bytes c.in-Ok.held) part.part holds.held_is,
+      );
       trouble = tt;
     }
 

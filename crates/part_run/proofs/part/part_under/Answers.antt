@@ -9,7 +9,8 @@ use Rattle.scotty_run.specs.Reading.{AreDrained}
 use Rattle.scotty_run.proofs.Draining.{fresh, place_at, read_of, stops_of, tells_at}
 use Rattle.scotty_run.proofs.Results.{if_ok}
 use Rattle.scotty_run.proofs.Returned.{came_back, opened_in_order, opening_stops}
-use Rattle.part_run.specs.Parting.{IsPartIn}
+use Rattle.part_text.specs.Holding.{IsHeld}
+use Rattle.part_run.specs.Parting.{HoldsPartIn}
 use Rattle.part_run.proofs.part.part_under.Goals as goal
 
 pub part_of_first-part-requires-clause-fresh : goal.part_of_first-part-requires-clause-fresh
@@ -60,12 +61,16 @@ returns-in-Ok g c =
     rw (← c.command.view_is) record {
       files = opened_in_order f.asked f.came f.told reads word names d (λ x. x.from) feeds drained old mid new opened many place tells closed;
       ok = if_ok read.result
-          (λ bytes. (entries : List Entry) × AreDrained reads word feeds drained (entries ∷ []) × (bytes.items ≡ part_text shards shard entries))
-          (λ bytes. IsPartIn names d shards shard opens bytes.items) read.ensures.drained
-          (λ bytes h. record {
-            entries = h.0;
-            source = read_of reads word base (f.told old) names d feeds opened.unread drained opened.many same opens asked refl came (λ (all : List (List Entry)). all) (λ all. length all) (Ok (h.0 ∷ [])) (λ all. refl) (sym one) h.1;
-            part_is = h.2;
+          (λ held. (entries : List Entry) × AreDrained reads word feeds drained (entries ∷ []) × IsHeld (part_text shards shard entries) held)
+          (HoldsPartIn names d shards shard opens) read.ensures.drained
+          (λ held h. record {
+            bytes = part_text shards shard h.0;
+            part = record {
+              entries = h.0;
+              source = read_of reads word base (f.told old) names d feeds opened.unread drained opened.many same opens asked refl came (λ (all : List (List Entry)). all) (λ all. length all) (Ok (h.0 ∷ [])) (λ all. refl) (sym one) h.1;
+              part_is = refl;
+            };
+            held_is = h.2;
           });
       stopped = stops_of reads word base (f.told old) names d feeds opened.unread drained opened.many same opens asked refl came 0 read.result read.ensures.trouble;
     }

@@ -1,6 +1,5 @@
 -- One entry more, or a fault.
-use Rattle.std.proofs.Common.{◌≡◌, ◌∙◌, Ok, Err, Some, ap}
-use Rattle.std.specs.Prelude.{IfErr}
+use Rattle.std.proofs.Common.{◌∙◌, Ok, ap}
 use Rattle.std.proofs.lemmas.Result.{err_from_is_err_and}
 use Rattle.part_text.specs.Parting.{ShowsRefusal}
 use Rattle.part_text.proofs.Parting.{parting_fails, parting_more}
@@ -10,7 +9,7 @@ pub returns-in_err-entry-clause-refused : goal.returns-in_err-entry-clause-refus
 returns-in_err-entry-clause-refused g c =
     let f = g.F.Feed in
     let shown : ShowsRefusal (f.state c.next.new.self) c.in_err-entry.field-0.0
-    = parting_fails c.args.shards c.args.shard (f.state c.args.feed.now) (f.state c.loop.feed) (f.state c.next.new.self) c.loop.bytes.items (f.faults c.args.feed.now) (f.faults c.loop.feed) (f.faults c.next.new.self)
+    = parting_fails c.args.shards c.args.shard (f.state c.args.feed.now) (f.state c.loop.feed) (f.state c.next.new.self) c.loop.writer (f.faults c.args.feed.now) (f.faults c.loop.feed) (f.faults c.next.new.self)
     c.next.result c.next.ensures.gives c.loop.invariant c.in_err-entry.field-0.0 c.in_err-entry.was in
     let p = err_from_is_err_and c.from_residual.result c.from_residual.ensures.1 in
     rw (p.1, p.2) shown
@@ -18,5 +17,5 @@ returns-in_err-entry-clause-refused g c =
 pub loop-preserved : goal.loop-preserved
 loop-preserved g c =
     let f = g.F.Feed in
-    parting_more c.args.shards c.args.shard (f.state c.args.feed.now) (f.state c.loop.feed) (f.state c.next.new.self) c.loop.bytes.items (f.faults c.args.feed.now) (f.faults c.loop.feed) (f.faults c.next.new.self)
-    c.next.result c.next.ensures.gives c.loop.invariant c.in-Some.entry c.put_own.new.text.items (c.in_ok-entry.was ∙ ap Ok c.in-Some.is) c.next.ensures.counts c.in_ok-put_own-in-Some.ensures
+    parting_more c.args.shards c.args.shard (f.state c.args.feed.now) (f.state c.loop.feed) (f.state c.next.new.self) c.loop.writer (f.faults c.args.feed.now) (f.faults c.loop.feed) (f.faults c.next.new.self)
+    c.next.result c.next.ensures.gives c.loop.invariant c.in-Some.entry c.write_own.new.writer (c.in_ok-entry.was ∙ ap Ok c.in-Some.is) c.next.ensures.counts c.in_ok-write_own-in-Some.ensures

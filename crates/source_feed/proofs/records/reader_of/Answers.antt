@@ -6,4 +6,4 @@ use Rattle.source_feed.proofs.records.reader_of.Goals as goal
 
 pub returns-clause-few : goal.returns-clause-few
 returns-clause-few c =
-    rw (c.from_reader.ensures.state, c.from_reader.ensures.source, c.new-2.ensures.inner, c.new-2.ensures.position) (omega (arith, few_records (strip_bom c.args.bytes.items), strip_bom_short c.args.bytes.items))
+    rw (c.from_reader.ensures.state, c.from_reader.ensures.source, c.new-2.ensures) (omega (arith, few_records (strip_bom c.args.bytes), strip_bom_short c.args.bytes))

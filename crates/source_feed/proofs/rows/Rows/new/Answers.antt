@@ -12,4 +12,4 @@ pub returns : goal.returns
 returns c =
     let state : Stream → FeedState RowFault = λ stream. record { source = c.args.source; ended = false; answered = None; rest = Some stream } in
     rw (c.start.ensures, c.nothing.ensures, c.reader_of.ensures.left)
-    (ap state (stream_alike c.args.source c.args.every c.args.disorder (events_of (records default_config (strip_bom c.args.bytes.items)))))
+    (ap state (stream_alike c.args.source c.args.every c.args.disorder (events_of (records default_config (strip_bom c.args.bytes)))))
