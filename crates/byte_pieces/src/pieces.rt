@@ -45,6 +45,18 @@ impl Pieces {
         }
     }
 
+    /// These bytes, in one piece.
+    pub fn of(alloc: Global, bytes: Vec<u8>) -> Pieces
+        ensures { result ≡ bytes.items }
+    {
+        Pieces {
+            alloc,
+            full: VecDeque::new(alloc),
+            len: bytes.len() as u64,
+            last: bytes,
+        }
+    }
+
     /// How many bytes there are.
     pub fn len(&self) -> u64
         ensures { result ≡ length self.now }

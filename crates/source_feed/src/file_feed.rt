@@ -138,7 +138,7 @@ fn read_rows<S: Source>(
         (S.reads source.old).faults result (S.reads source.new).faults }
 {
     let bytes = read_pieces(alloc, source, SOURCE_MAX)?;
-    let rows = Rows::new(alloc, bytes, index, every, disorder)?;
+    let rows = Rows::of_pieces(alloc, bytes, index, every, disorder)?;
     match Box::new(alloc, rows) {
         Ok(rows) => Ok(rows),
         Err(_) => Err(FeedFault::NoMemory),

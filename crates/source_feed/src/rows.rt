@@ -54,6 +54,24 @@ impl Rows {
     /// its next tuple or mark: in front of that stands its greatest watermark again.
     pub fn new(
         alloc: Global,
+        bytes: Vec<u8>,
+        source: u16,
+        every: u64,
+        disorder: u64,
+    ) -> Result<Rows, NoMemory>
+        ensures { IfOk result (λ rows. rows ≡ record {
+          source = source;
+          ended = false;
+          answered = None;
+          rest = Some (stream_of source every disorder bytes.items);
+        }) }
+    {
+        Rows::of_pieces(alloc, Pieces::of(alloc, bytes), source, every, disorder)
+    }
+
+    /// The same of bytes that are held in pieces, each of which is freed once its records were read.
+    pub fn of_pieces(
+        alloc: Global,
         bytes: Pieces,
         source: u16,
         every: u64,

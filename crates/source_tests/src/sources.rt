@@ -1,5 +1,4 @@
 use crate::counted::CountedSource;
-use byte_pieces::Pieces;
 use source_feed::{
     Feed, FeedFault, FileFeed, RowFault, RowWhy, Rows, WholeFault, read_pieces, read_whole, route,
 };
@@ -24,15 +23,9 @@ pub fn entry_shown(alloc: Global, entry: &Entry) -> Result<String, AllocError> {
     }
 }
 
-fn pieces_of(alloc: Global, bytes: &[u8]) -> Result<Pieces, AllocError> {
-    let mut pieces = Pieces::new(alloc);
-    pieces.add(bytes)?;
-    Ok(pieces)
-}
-
 // All that the rows of these bytes answer, up to the first answer that isn't an entry.
 fn shown(alloc: Global, bytes: &[u8], every: u64, disorder: u64) -> Result<String, Fail> {
-    let mut rows = Rows::new(alloc, pieces_of(alloc, bytes)?, 0, every, disorder)?;
+    let mut rows = Rows::new(alloc, Vec::from_slice(alloc, bytes)?, 0, every, disorder)?;
     let mut text = String::new(alloc);
     for _ in 0..20 {
         match rows.next() {
@@ -265,8 +258,8 @@ fn takes_keys_of_any_bytes_but_control_characters(rt: HostRuntime) -> Result<(),
         b"\xC3\xA4".as_slice(),
         longest.as_slice(),
     ] {
-        let mut bytes = pieces_of(rt.alloc(), b"t,1,5,")?;
-        bytes.add(key)?;
+        let mut bytes = Vec::from_slice(rt.alloc(), b"t,1,5,".as_slice())?;
+        bytes.extend_from_slice(key)?;
         let mut rows = Rows::new(rt.alloc(), bytes, 3, 0, 0)?;
         let want = Entry {
             source: 3,
@@ -278,8 +271,8 @@ fn takes_keys_of_any_bytes_but_control_characters(rt: HostRuntime) -> Result<(),
         };
         assert_eq!(rt; rows.next()?, Some(want));
     }
-    let mut bytes = pieces_of(rt.alloc(), b"t,1,5,")?;
-    bytes.add([b'k'; 65].as_slice())?;
+    let mut bytes = Vec::from_slice(rt.alloc(), b"t,1,5,".as_slice())?;
+    bytes.extend_from_slice([b'k'; 65].as_slice())?;
     let fault = RowFault::Refused {
         number: 1,
         why: RowWhy::Key,

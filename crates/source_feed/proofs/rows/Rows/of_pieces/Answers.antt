@@ -6,7 +6,7 @@ use Rattle.source_feed.specs.FeedState.{FeedState}
 use Rattle.source_feed.specs.Stream.{Stream}
 use Rattle.source_feed.specs.declared.row_fault.RowFault.{RowFault}
 use Rattle.source_feed.proofs.Made.{stream_alike}
-use Rattle.source_feed.proofs.rows.Rows.new.Goals as goal
+use Rattle.source_feed.proofs.rows.Rows.of_pieces.Goals as goal
 
 pub returns : goal.returns
 returns c =
