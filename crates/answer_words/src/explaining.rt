@@ -4,8 +4,8 @@ use crate::report_words::{Judged, put_wrong_journal, put_wrong_line, put_wrong_s
 use crate::said::{Said, said_in};
 use emission_text::Fault;
 use fault_words::{
-    Again, Help, put_defs, put_full_report, put_full_shard, put_full_source, put_memory, put_row,
-    put_unopened, put_unread, put_usage,
+    Again, Help, put_defs, put_full_report, put_full_shard, put_full_source, put_full_watch,
+    put_memory, put_row, put_unopened, put_unread, put_usage,
 };
 use report_check::Finding;
 use std::alloc::Global;
@@ -17,6 +17,8 @@ scotty: the output couldn't be written: is the disk full, or was it closed? What
 ";
 
 // The places of words in a command that reads files.
+const COMMAND: usize = 0;
+
 const DEFS: usize = 1;
 
 const SHARDS: usize = 2;
@@ -68,11 +70,19 @@ fn put_fault<A: Again>(
             put_row(alloc, source_name(words, source), number, why, again, help);
         }
         Fault::FullSource { source } => put_full_source(source_name(words, source), help),
-        Fault::FullShard { shard } => put_full_shard(shard, word_at(words, SHARDS), help),
+        Fault::FullShard { shard } => put_full(words, shard, help),
         Fault::ReportOpen => put_unopened("report", word_at(words, REPORT), again, help),
         Fault::ReportRead => put_unread("report", word_at(words, REPORT), again, help),
         Fault::ReportFull => put_full_report(word_at(words, REPORT), help),
         Fault::NoMemory => put_memory(help),
+    }
+}
+
+// A full shard, by the command: one has no word for the number of shards.
+fn put_full(words: &[String], shard: u16, help: &mut Help) {
+    match word_at(words, COMMAND) {
+        "watch" => put_full_watch(help),
+        _ => put_full_shard(shard, word_at(words, SHARDS), help),
     }
 }
 

@@ -16,7 +16,7 @@ const FILES: [(&str, &str); 3] = [
 ];
 
 // Words, the line that is answered, and what is said of it.
-const SAID: [(&str, &str, &str); 13] = [
+const SAID: [(&str, &str, &str); 20] = [
     (
         "run d 1 turn s",
         "fault usage",
@@ -78,6 +78,41 @@ const SAID: [(&str, &str, &str); 13] = [
         "scotty: the report `r`, shard 0 has entries of more sources than were given: give those that the run had\n",
     ),
     ("run d 1 turns s", "shard 0", ""),
+    (
+        "rum d 1 turns s",
+        "fault usage",
+        "scotty: `rum` is no command: the commands are run, run2, check, made and watch, and --help shows them\n",
+    ),
+    (
+        "watch d 9 0 s",
+        "fault usage",
+        "scotty: `9` is no READERS: it is a number from 1 to 8, with no sign and no leading zero (watch DEFS READERS READS SOURCE..)\n",
+    ),
+    (
+        "watch d 1 1001 s",
+        "fault usage",
+        "scotty: `1001` is no READS: it is a number from 0 to 1000, with no sign and no leading zero (watch DEFS READERS READS SOURCE..)\n",
+    ),
+    (
+        "watch d 8 1000",
+        "fault usage",
+        "scotty: watch needs at least one SOURCE, behind the other words (watch DEFS READERS READS SOURCE..)\n",
+    ),
+    (
+        "watch d 1 0 x s",
+        "fault open 0",
+        "scotty: the source `x` couldn't be opened: there is no such file\n",
+    ),
+    (
+        "watch x 1 0 s",
+        "fault open defs",
+        "scotty: the definitions `x` couldn't be opened: there is no such file\n",
+    ),
+    (
+        "watch d 1 0 s",
+        "fault full shard 0",
+        "scotty: a watch has one shard, and it would have more than 4194304 entries: watch the sources in parts, by their keys or times\n",
+    ),
 ];
 
 #[test]
