@@ -23,9 +23,18 @@ const DEFS: usize = 1;
 
 const SHARDS: usize = 2;
 
+const SHARDS_OF_LAST: usize = 5;
+
 const REPORT: usize = 3;
 
 const SOURCES: usize = 4;
+
+const SOURCES_OF_LAST: usize = 6;
+
+/// How many words of a command that reads files name sources, wherever they begin.
+pub fn source_count(words: &[String]) -> usize {
+    words.len().saturating_sub(sources_at(words))
+}
 
 /// Sentences that help with the line that a command answered: with a fault, or with a finding that the report isn't
 /// lawful. Of any other line nothing is said. Files are looked at once more.
@@ -82,6 +91,7 @@ fn put_fault<A: Again>(
 fn put_full(words: &[String], shard: u16, help: &mut Help) {
     match word_at(words, COMMAND) {
         "watch" => put_full_watch(help),
+        "last" => put_full_shard(shard, word_at(words, SHARDS_OF_LAST), help),
         _ => put_full_shard(shard, word_at(words, SHARDS), help),
     }
 }
@@ -95,7 +105,7 @@ fn put_finding<A: Again, R: Threads>(
     help: &mut Help,
 ) {
     let report = word_at(words, REPORT);
-    let sources = words.len().saturating_sub(SOURCES);
+    let sources = source_count(words);
     match finding {
         Finding::Lawful => {}
         Finding::Text { line } => {
@@ -131,7 +141,15 @@ fn name_at(words: &[String], place: Option<u16>) -> &str {
 }
 
 fn source_name(words: &[String], source: u16) -> &str {
-    word_at(words, SOURCES + source as usize)
+    word_at(words, sources_at(words).saturating_add(source as usize))
+}
+
+// Where the names of sources begin.
+fn sources_at(words: &[String]) -> usize {
+    match word_at(words, COMMAND) {
+        "last" => SOURCES_OF_LAST,
+        _ => SOURCES,
+    }
 }
 
 fn word_at(words: &[String], place: usize) -> &str {

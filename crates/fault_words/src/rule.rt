@@ -1,3 +1,6 @@
+use crate::def_words::{COUNT_MAX, is_func};
+use stream_base::TIME_MAX;
+
 // What is allowed for a word.
 #[derive(Clone, Copy)]
 pub enum Rule {
@@ -8,6 +11,10 @@ pub enum Rule {
     Rows,
     Readers,
     Reads,
+    Many,
+    Period,
+    Func,
+    Lateness,
 }
 
 impl Rule {
@@ -22,6 +29,12 @@ impl Rule {
             Rule::Rows => "it is a number from 1 to 1000000, with no sign and no leading zero",
             Rule::Readers => "it is a number from 1 to 8, with no sign and no leading zero",
             Rule::Reads => "it is a number from 0 to 1000, with no sign and no leading zero",
+            Rule::Many => "it is a number from 1 to 4194304, with no sign and no leading zero",
+            Rule::Period =>
+                "it is a number from 1 to 10^15, in the time unit of the records, with no sign and no leading zero",
+            Rule::Func => "it is one of count, sum, min, max, mean, first, last, rises and trace",
+            Rule::Lateness =>
+                "it is a number from 0 to 10^15, in the time unit of the records, with no sign and no leading zero",
         }
     }
 
@@ -35,6 +48,10 @@ impl Rule {
             Rule::Rows => is_within(word, 1, 1_000_000),
             Rule::Readers => is_within(word, 1, 8),
             Rule::Reads => is_within(word, 0, 1_000),
+            Rule::Many => is_within(word, 1, COUNT_MAX),
+            Rule::Period => is_within(word, 1, TIME_MAX),
+            Rule::Func => is_func(word),
+            Rule::Lateness => is_within(word, 0, TIME_MAX),
         }
     }
 }

@@ -75,3 +75,26 @@ pub const WATCH: [Slot; 3] = [
         rule: Rule::Reads,
     },
 ];
+
+pub const LAST: [Slot; 5] = [
+    Slot {
+        name: "N",
+        rule: Rule::Many,
+    },
+    Slot {
+        name: "PERIOD",
+        rule: Rule::Period,
+    },
+    Slot {
+        name: "FUNC",
+        rule: Rule::Func,
+    },
+    Slot {
+        name: "LATENESS",
+        rule: Rule::Lateness,
+    },
+    Slot {
+        name: "SHARDS",
+        rule: Rule::Few,
+    },
+];

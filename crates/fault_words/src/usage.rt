@@ -1,7 +1,7 @@
 //! What the words of the command line are, and which of them is wrong.
 
 use crate::help::Help;
-use crate::slot::{CHECK, MADE, RUN, Slot, WATCH};
+use crate::slot::{CHECK, LAST, MADE, RUN, Slot, WATCH};
 
 /// What the commands are.
 const USAGE: &str = "\
@@ -9,11 +9,15 @@ usage: bin/scotty COMMAND WORD..
   run DEFS SHARDS FEED SOURCE..        the report of 1 to 16 sources
   run2 DEFS SHARDS FEED SOURCE..       the same, with what stood before each update and retraction
   watch DEFS READERS READS SOURCE..    the report of one shard, and what readers saw of it meanwhile
+  last N PERIOD FUNC LATENESS SHARDS SOURCE..
+                                       what the last N tuples of each key come to, period by period
   check DEFS SHARDS REPORT SOURCE..    whether a report is lawful, by the definitions and the sources
   made SEED ROWS SOURCES SHARDS FEED   a summary of records generated from a seed
 DEFS is a file of window definitions in TOML; each SOURCE is a file of records in CSV, t,TIME,VALUE,KEY.
 SHARDS is 1 to 16, and FEED is turns or mail: the report is lawful in the same way with any of them.
 READERS is 1 to 8, and each of them reads READS times, 0 to 1000, and once more at the end.
+N is 1 to 4194304, PERIOD 1 to 10^15, LATENESS 0 to 10^15, and FUNC one of count, sum, min, max, mean, first,
+last, rises and trace.
 bin/scotty --summary COMMAND .. says on standard error what a run came to, and --version what is run.
 for example: bin/scotty run examples/calls-per-minute.toml 1 turns examples/calls.csv
 README.md says what it is for, and docs/FORMATS.md what the files are.
@@ -36,6 +40,7 @@ fn put_command(command: &str, rest: &[String], help: &mut Help) {
         "run" | "run2" => put_reading(command, &RUN, rest, help),
         "check" => put_reading(command, &CHECK, rest, help),
         "watch" => put_reading(command, &WATCH, rest, help),
+        "last" => put_reading(command, &LAST, rest, help),
         "made" => put_made(rest, help),
         _ => put_unknown(command, help),
     }
@@ -45,7 +50,7 @@ fn put_unknown(command: &str, help: &mut Help) {
     help.say(&["scotty: "]);
     help.quote(command.as_bytes());
     help.say(&[
-        " is no command: the commands are run, run2, check, made and watch, and --help shows them\n",
+        " is no command: the commands are run, run2, check, made, watch and last, and --help shows them\n",
     ]);
 }
 
@@ -126,6 +131,7 @@ fn put_form(command: &str, help: &mut Help) {
         "check" => " DEFS SHARDS REPORT SOURCE..",
         "made" => " SEED ROWS SOURCES SHARDS FEED",
         "watch" => " DEFS READERS READS SOURCE..",
+        "last" => " N PERIOD FUNC LATENESS SHARDS SOURCE..",
         _ => " DEFS SHARDS FEED SOURCE..",
     };
     help.say(&[" (", command, words, ")\n"]);

@@ -47,6 +47,33 @@ fn what_readers_saw_counts_for_nothing(rt: HostRuntime) -> Result<(), Fail> {
     Ok(())
 }
 
+// What the last two tuples of each key come to, period by period: of a watermark, of a late tuple that counts, and of one
+// that is dropped.
+const LAST: &str = "shard 0
+j 0 t 1 1 a
+j 0 t 12 4 a
+j 0 w 20
++ 10 1 1 a
++ 20 2 5 a
+j 0 t 7 8 a
+~ 10 2 9 a
+~ 20 2 12 a
+j 0 t 4 8 a
+x
+j 0 e
+end
+";
+
+const LAST_SAID: &str =
+    "scotty: 4 tuples, 0 marks; 1 dropped (the latest 16 behind the watermark); 2 results, 2 updates, 0 taken back\n";
+
+#[test]
+fn rows_without_a_window_are_tallied(rt: HostRuntime) -> Result<(), Fail> {
+    let (_, tally) = heard_in(rt.alloc(), LAST, 1, 1000)?;
+    assert_eq!(rt; tally.as_str(), LAST_SAID);
+    Ok(())
+}
+
 #[test]
 fn a_report_is_tallied_in_whatever_pieces_it_comes(rt: HostRuntime) -> Result<(), Fail> {
     for piece in [1, 7, 1000] {
