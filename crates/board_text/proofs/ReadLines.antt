@@ -21,8 +21,8 @@ read-line windows reader t =
     ∙ ap (λ text. decimal reader ++ (32 ∷ text)) (sym (counts-line (decimal t.entries) (take windows t.counts))))
 
 -- the lines of readers from a number on are those of the first of them, and then those of the others
-pub readers-more : {X : Type 0} (items : X → List Tally) (windows : ℕ) (lists : List X) (k : ℕ) (list : X) → k < length lists → list ≡ get_or lists k list
-    → readers_lines windows k (map items (drop k lists)) ≡ reader_lines windows k (items list) ++ readers_lines windows (k + 1) (map items (drop (k + 1) lists))
-readers-more items windows lists k list within is =
+pub readers-more : {X : Type 0} (items : X → List Tally) (windows : ℕ) (lists : List X) (k : ℕ) (list : X) (reads : List Tally) → k < length lists → list ≡ get_or lists k list → reads ≡ items list
+    → readers_lines windows k (map items (drop k lists)) ≡ reader_lines windows k reads ++ readers_lines windows (k + 1) (map items (drop (k + 1) lists))
+readers-more items windows lists k list reads within is own =
     at_drop_more (λ rest. readers_lines windows k (map items rest)) lists k list within
-    ∙ ap (λ found. reader_lines windows k (items found) ++ readers_lines windows (k + 1) (map items (drop (k + 1) lists))) (sym is)
+    ∙ ap (λ found. reader_lines windows k found ++ readers_lines windows (k + 1) (map items (drop (k + 1) lists))) (sym (own ∙ ap items is))
