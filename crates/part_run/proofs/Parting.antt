@@ -1,9 +1,8 @@
 -- The part of the only source of a command.
-use Rattle.std.proofs.Common.{◌≡◌, ◌∙◌, ◌<◌, ◌≤◌, ◌⊎◌, ℕ, List, [], ◌∷◌, length, Option, None, Some, Result, Ok, Err, inl, inr, refl, sym, subst, arith}
+use Rattle.std.proofs.Common.{◌≤◌, ℕ, List, length, None, Some, Result, Ok, Err, inl, inr, sym, subst}
 use Rattle.std.specs.Prelude.{IfErr, IfOk, Vec}
 use Rattle.std.specs.declared.alloc.Global.{Global}
 use Rattle.stream_base.specs.Limits.{Definitions}
-use Rattle.stream_base.specs.declared.entry.Entry.{Entry}
 use Rattle.source_feed.specs.FeedView.{FeedView}
 use Rattle.source_feed.specs.declared.whole.TheConstants.{SOURCE_MAX}
 use Rattle.emission_text.specs.declared.fault.Fault.TheVariants.{Usage}
@@ -11,7 +10,7 @@ use Rattle.scotty_run.specs.Causes.{AreDefinitionsRead, StopsAtDefs}
 use Rattle.scotty_run.specs.Outside.{Opens}
 use Rattle.scotty_run.specs.Reading.{IsFresh, IsSameFeed}
 use Rattle.part_text.specs.Parting.{IsNew, IsSameSource}
-use Rattle.part_run.specs.Parting.{AreDefsOfFile, HoldsPartOfFiles, IsPartOfFiles, IsShortPart, SpellsParts, StopsAtPart, StopsBehindDefs, StopsDefs, StopsPart, StopsSpelling}
+use Rattle.part_run.specs.Parting.{AreDefsOfFile, HoldsPartOfFiles, IsPartOfFiles, IsShortPart, SpellsParts, StopsAtPart, StopsDefs, StopsPart, StopsSpelling}
 use Rattle.part_run.specs.declared.part_fault.PartFault.{PartFault}
 use Rattle.part_run.specs.declared.part_fault.PartFault.TheVariants.{Run, LongPart, UnreadDefs, NotReport, Misplaced}
 use Rattle.part_run.specs.Words.{Part}

@@ -1,5 +1,5 @@
 -- The only feed is read to its end, or up to a fault.
-use Rattle.std.proofs.Common.{◌≡◌, ◌∙◌, ◌<◌, ℕ, List, [], length, ap, sym, subst, arith, Err}
+use Rattle.std.proofs.Common.{◌∙◌, ◌<◌, ℕ, List, [], length, ap, sym, subst, arith, Err}
 use Rattle.source_feed.specs.FileFeedState.{FileFeedState, feed_view}
 use Rattle.scotty_run.specs.Reading.{IsFresh}
 use Rattle.scotty_run.proofs.Draining.{draining_more, draining_stops, none_drained, same_more}

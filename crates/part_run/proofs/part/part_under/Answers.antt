@@ -1,9 +1,7 @@
 -- The source is opened, read to its end, and given back.
 use Rattle.std.proofs.Common.{◌≡◌, ◌∙◌, ◌∷◌, [], List, length, map, string_bytes, refl, sym, Ok}
-use Rattle.std.proofs.lemmas.List.{length-map}
 use Rattle.stream_base.specs.declared.entry.Entry.{Entry}
 use Rattle.part_laws.specs.Parts.{part_text}
-use Rattle.scotty_run.specs.Causes.{AreAllRead}
 use Rattle.scotty_run.specs.Outside.{opens_of}
 use Rattle.scotty_run.specs.Reading.{AreDrained}
 use Rattle.scotty_run.proofs.Draining.{fresh, place_at, read_of, stops_of, tells_at}
