@@ -3,6 +3,7 @@ mod Taking
 mod Midway
 mod Opening
 mod Lists
+mod Drained
 mod Columns
 mod Journals
 mod Ending

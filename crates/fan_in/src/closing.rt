@@ -13,8 +13,8 @@ use std::sync::Wait;
 use stream_base::NoMemory;
 use turnstile::Pass;
 
-// Closes all desks, each with all its passes, and hands their shards out in the order of the desks.
-// Where one can't be closed, none is handed out.
+// Closes all desks, from the last one down, each with all its passes, and hands their shards out in
+// the order of the desks. Where one can't be closed, none is handed out.
 pub(crate) fn close_all<R: Wait>(
     rt: &R,
     alloc: Global,
@@ -36,11 +36,12 @@ pub(crate) fn close_all<R: Wait>(
         match zeros.pop() {
             Some(zero) => {
                 let shard = close_desk(rt, alloc, desk, zero, rows.as_mut_slice())?;
-                shards.insert(0, shard)?;
+                shards.push(shard)?;
             }
             None => unreachable!(),
         }
     }
+    shards.reverse();
     Ok(shards)
 }
 

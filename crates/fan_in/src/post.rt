@@ -68,7 +68,7 @@ fn open_lane(alloc: Global, plan: &Plan, number: u16, post: &mut Post) -> Result
 // Hands each row the sender of its source.
 fn hand_outboxes(
     mail: &Mail<Entry>,
-    mut senders: Vec<Sender<Entry>>,
+    senders: Vec<Sender<Entry>>,
     rows: &mut [Vec<Outbox>],
 ) -> Result<(), NoMemory>
     requires senders { AreSendersOf mail.now senders.items }
@@ -78,8 +78,10 @@ fn hand_outboxes(
     ensures rows { OnOk result (GainBoxes mail.now rows.old rows.new) }
 {
     let _lane = mail;
+    let mut senders = senders.into_iter();
     for i in 0..rows.len() {
-        rows[i].push(Outbox::new(senders.remove(0)))?;
+        let sender = senders.next().unwrap();
+        rows[i].push(Outbox::new(sender))?;
     }
     Ok(())
 }

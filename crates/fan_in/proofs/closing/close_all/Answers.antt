@@ -1,4 +1,5 @@
-use Rattle.std.proofs.Common.{◌≡◌, length, arith}
+use Rattle.std.proofs.Common.{◌≡◌, [], ◌∷◌, ap, ◌∙◌, length, reverse, arith}
+use Rattle.std.proofs.lemmas.List.{reverse-append}
 use Rattle.fan_in.proofs.Lists.{written}
 use Rattle.fan_in.proofs.Ending.{all_closed, ends_at, next_closed}
 use Rattle.fan_in.proofs.closing.close_all.Goals as goal
@@ -14,8 +15,10 @@ loop-desk-preserved g c =
     let lose = rw lent at c.in_ok-shard-in-Some-pop.ensures.rows in
     let settles = rw lent at c.in_ok-shard-in-Some-pop.ensures.settled in
     let len : rows.len ≡ length rows.items = omega (arith, rows.ok.0) in
+    let shard = c.in_ok-shard-in-Some-pop.shard in
     let w = written rows.len rows.items c.close_desk.new.rows len lose.many in
-    rw w (next_closed _ _ _ _ _ _ _ _ _ _ _ _ c.loop-desk.invariant c.in-Some.ensures.items c.in-Some-pop.ensures.items c.in_ok-shard-in-Some-pop.shard c.close_desk.new.rows c.in_ok-shard-in-Some-pop.ensures.closed settles lose _ c.in_ok-insert-in-Some-pop.ensures.items)
+    rw w (next_closed _ _ _ _ _ _ _ _ _ _ _ _ c.loop-desk.invariant c.in-Some.ensures.items c.in-Some-pop.ensures.items shard c.close_desk.new.rows c.in_ok-shard-in-Some-pop.ensures.closed settles lose _
+    (ap reverse c.in_ok-push-in-Some-pop.ensures.items ∙ reverse-append c.loop-desk.shards.items (shard ∷ [])))
 
 pub returns-clause-closed : goal.returns-clause-closed
-returns-clause-closed g c = all_closed _ _ _ _ _ _ _ _ c.loop-desk.invariant (let e = c.in_default.ensures.cases in omega (arith, e.0, c.loop-desk.desks.ok.0))
+returns-clause-closed g c = rw c.reverse.ensures.items (all_closed _ _ _ _ _ _ _ _ c.loop-desk.invariant (let e = c.in_default.ensures.cases in omega (arith, e.0, c.loop-desk.desks.ok.0)))
