@@ -1,5 +1,5 @@
 -- What a follower promises of each kind of entry.
-use Rattle.std.proofs.Common.{◌≡◌, ◌∙◌, ℕ, ℤ, ◌+◌, ◌<◌, ◌≤◌, Bool, true, false, cond, List, [], ◌∷◌, ◌++◌, length, ap, sym, refl, subst, Some, Ok, Err}
+use Rattle.std.proofs.Common.{◌≡◌, ◌∙◌, ℕ, ℤ, ◌<◌, true, false, cond, List, [], ◌∷◌, ◌++◌, length, ap, sym, refl, subst, Some, Ok, Err}
 use Rattle.std.proofs.lemmas.List.{append-nil}
 use Rattle.std.specs.Prelude.{Result}
 use Rattle.std.specs.BTreeMap.{is_at}
@@ -18,7 +18,7 @@ use Rattle.stream_base.specs.Model.What.{is_late, is_progress, key_in}
 use Rattle.watermark_table.specs.Watched as table
 use Rattle.tail_windows.specs.Following.{Followed, Follows, IsOfSame, StandsFor, changes_behind, lateness_of, list_of, number_of_sources}
 use Rattle.tail_windows.specs.Samples.{put_sample, sample_at, sample_of, samples_of}
-use Rattle.tail_windows.specs.Tails.{tail_changes_after, tail_changes_between}
+use Rattle.tail_windows.specs.Tails.{tail_changes_between}
 use Rattle.tail_windows.specs.Walks.{HasAppended, moved_changes}
 use Rattle.tail_windows.specs.declared.change.TailChange.{TailChange}
 use Rattle.tail_windows.specs.declared.change.TailChange.TheVariants.{Dropped}

@@ -1,9 +1,9 @@
 -- What a tuple more, and what a move of the watermark, change of a key, as a walk over its samples finds it.
-use Rattle.std.proofs.Common.{◌≡◌, ◌∙◌, ℕ, suc, ◌+◌, ◌-◌, ◌*◌, ◌/◌, ◌<◌, ◌≤◌, Bool, true, false, cond, not, List, [], ◌∷◌, ◌++◌, length, get_or, take, drop, map, ap, ap₂, sym, refl, subst, inl, inr, ⊎_elim, arith, Option, None, Some, length-append, length-take-le, get_or-take}
+use Rattle.std.proofs.Common.{◌≡◌, ◌∙◌, ℕ, suc, ◌+◌, ◌*◌, ◌/◌, ◌<◌, ◌≤◌, Bool, true, false, cond, not, List, [], ◌∷◌, ◌++◌, length, get_or, take, drop, map, ap, ap₂, sym, refl, subst, inl, inr, ⊎_elim, arith, Option, None, Some, length-append, length-take-le, get_or-take}
 use Rattle.std.proofs.Math.Seq.{drop-append_seam}
 use Rattle.std.specs.Prelude.{◌&&◌, ◌⊎◌, filter, insert, nat_le, nat_lt}
 use Rattle.std.specs.List.{All, Contains, cons_option, filter_map, find, position_or_len}
-use Rattle.std.proofs.lemmas.Bool.{false≢true, false_from_ne_true, and_parts, cases_eq, cases_lt, eq-eqb, ne_eqb}
+use Rattle.std.proofs.lemmas.Bool.{false_from_ne_true, and_parts, cases_lt, eq-eqb, ne_eqb}
 use Rattle.std.proofs.lemmas.Bool.Decides.{nat_tests}
 use Rattle.std.proofs.lemmas.List.{get_or_default, length-map, take-append-drop, take-map, drop-map, drop_more}
 use Rattle.std.proofs.lemmas.List.Elements.{All-contains, Contains-append_cases, Contains-append_left, Contains-append_right}
@@ -13,9 +13,9 @@ use Rattle.stream_base.specs.Model.Changes.{are_same_tuples}
 use Rattle.stream_base.specs.Model.Journal.{put_in_order}
 use Rattle.stream_base.proofs.Distinct.{All_from_members}
 use Rattle.stream_base.proofs.Members.{filter_has, filter_map_of, filter_members, map_has, map_members, map_same}
-use Rattle.stream_base.proofs.Rising.{none_in_nil, Contains-at_head, Contains-cons_cases, Contains-head, Contains-tail}
+use Rattle.stream_base.proofs.Rising.{Contains-cons_cases, Contains-head, Contains-tail}
 use Rattle.tail_windows.specs.Laws.{StandsBetween, count_before}
-use Rattle.tail_windows.specs.Samples.{IsPlaceOf, IsTimeline, before_in, ends_in, put_sample, row_before, sample_of, samples_of}
+use Rattle.tail_windows.specs.Samples.{IsPlaceOf, before_in, ends_in, put_sample, row_before, sample_of, samples_of}
 use Rattle.tail_windows.specs.Tails.{Tail, emitted, end_of, ends_of, is_at, row_of, standing_tails, tail_at, tail_changes_between, tail_of, tails_in}
 use Rattle.tail_windows.specs.Walks.{IsTailDef, StoodBefore, change_to, changes_from, fate, moved_changes, stood_at}
 use Rattle.tail_windows.specs.declared.change.TailChange.{TailChange}
@@ -25,8 +25,7 @@ use Rattle.tail_windows.specs.declared.reach.Reach.{Reach}
 use Rattle.tail_windows.specs.declared.sample.Sample.{Sample}
 use Rattle.tail_windows.specs.declared.stood.Stood.{Stood}
 use Rattle.tail_windows.specs.declared.stood.Stood.TheVariants.{Nothing, AllBut, Each}
-use Rattle.tail_windows.proofs.Ends.{behind_among, end_above, end_among, end_is_among, end_same, ends_after, filtered_ends, late_is_behind}
-use Rattle.tail_windows.proofs.Places.{front_is_before}
+use Rattle.tail_windows.proofs.Ends.{behind_among, end_above, end_among, end_is_among, end_same, ends_after, filtered_ends}
 use Rattle.tail_windows.proofs.Stripping.{ends_of_samples, filter_map_of_map, is_among_or_not, map_of_map, put_of_samples, row_of_samples}
 use Rattle.tail_windows.proofs.TailLaws.{changes, found_itself, moved, same_tuples_itself, standing_are_tails, stays_before, stays_behind, with_before}
 

@@ -1,6 +1,6 @@
 -- Whether a period ends somewhere that holds a sample: the last one before its end tells.
-use Rattle.std.proofs.Common.{◌≡◌, ◌∙◌, ℕ, ◌+◌, ◌-◌, ◌<◌, ◌≤◌, List, length, get_or, take, drop, ap, sym, subst, ⊎_elim, arith, get_or-take, length-take}
-use Rattle.std.specs.List.{All, Contains}
+use Rattle.std.proofs.Common.{◌≡◌, ◌∙◌, ℕ, ◌-◌, ◌<◌, ◌≤◌, List, length, get_or, take, drop, ap, sym, subst, ⊎_elim, arith, get_or-take, length-take}
+use Rattle.std.specs.List.{Contains}
 use Rattle.std.proofs.lemmas.List.{get_or_default, take-append-drop}
 use Rattle.std.proofs.lemmas.List.Elements.{All-contains, Contains-append_cases}
 use Rattle.tail_windows.specs.Samples.{IsPlaceOf, IsTimeline, ends_in}
@@ -19,8 +19,7 @@ module _ (period : ℕ) (samples : List Sample) (at before : ℕ) (d : Sample) (
   early_one : Contains (ends_in period samples) at → (s : Sample) × Contains (take before samples) s × (end_of period s.time ≡ at)
   early_one c =
       let (s, there, is) = end_among period samples at c in
-      let lt : s.time < end_of period s.time = end_above period s.time some in
-      (
+      let lt : s.time < end_of period s.time = end_above period s.time some in (
         s,
         ⊎_elim
             (λ d. d)

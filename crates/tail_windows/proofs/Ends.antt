@@ -1,7 +1,7 @@
 -- The ends of the periods that hold a sample.
-use Rattle.std.proofs.Common.{◌≡◌, ◌∙◌, ℕ, ◌+◌, ◌-◌, ◌*◌, ◌/◌, ◌%◌, ◌<◌, ◌≤◌, Bool, true, false, cond, List, [], ◌∷◌, ◌++◌, length, get_or, take, drop, map, ap, sym, refl, subst, inl, inr, ⊎_elim, arith, Option, None, Some, get_or-drop, length-drop, add-mul}
-use Rattle.std.specs.Prelude.{◌⊎◌, filter, nat_le, nat_lt}
-use Rattle.std.specs.List.{All, Contains, cons_option, filter_map}
+use Rattle.std.proofs.Common.{◌≡◌, ◌∙◌, ℕ, ◌+◌, ◌-◌, ◌*◌, ◌/◌, ◌%◌, ◌<◌, ◌≤◌, Bool, true, List, ◌∷◌, length, get_or, take, drop, map, ap, sym, subst, ⊎_elim, arith, get_or-drop, length-drop, add-mul}
+use Rattle.std.specs.Prelude.{filter, nat_lt}
+use Rattle.std.specs.List.{Contains}
 use Rattle.std.specs.List.Sorted.{IsStrictlySortedBy}
 use Rattle.std.specs.Ordering.{nat_cmp}
 use Rattle.std.specs.declared.cmp.Ordering.TheVariants.{Less}
@@ -12,10 +12,9 @@ use Rattle.std.proofs.lemmas.Cmp.{nat_cmp_total}
 use Rattle.std.proofs.lemmas.List.{take-append-drop, drop-drop, drop_more, get_or_default}
 use Rattle.std.proofs.lemmas.List.Elements.{All-contains, Contains-append_cases, Contains-append_right}
 use Rattle.std.proofs.lemmas.List.Kept.{IsStrictlySortedBy-filter}
-use Rattle.stream_base.specs.Model.Journal.{rising}
 use Rattle.stream_base.proofs.Distinct.{All_from_members, less_from_lt}
 use Rattle.stream_base.proofs.Members.{filter_has, filter_members, map_has, map_members}
-use Rattle.stream_base.proofs.Rising.{none_in_nil, Contains-cons_cases, Contains-head, Contains-at_head, Contains-tail, nat_rising_is_sorted, nat_rising_members, same_members_same_list, sorted_cons}
+use Rattle.stream_base.proofs.Rising.{Contains-cons_cases, Contains-head, Contains-at_head, Contains-tail, nat_rising_is_sorted, nat_rising_members, same_members_same_list, sorted_cons}
 use Rattle.tail_windows.specs.Samples.{IsPlaceOf, IsTimeline, ends_in}
 use Rattle.tail_windows.specs.Tails.{end_of}
 use Rattle.tail_windows.specs.declared.sample.Sample.{Sample}

@@ -1,16 +1,12 @@
 -- What an entry changes, and what a follower stands for behind it.
-use Rattle.std.proofs.Common.{◌≡◌, ◌∙◌, ℕ, ℤ, ◌+◌, ◌<◌, ◌≤◌, Bool, true, false, cond, List, [], ◌∷◌, ◌++◌, length, map, ap, ap₂, sym, refl, subst, ⊎_elim, arith, Option, None, Some}
-use Rattle.std.specs.Prelude.{unwrap_or}
+use Rattle.std.proofs.Common.{◌≡◌, ◌∙◌, ℕ, ℤ, ◌<◌, ◌≤◌, Bool, true, false, cond, List, [], ◌∷◌, ◌++◌, length, ap, ap₂, sym, refl, subst, None, Some}
 use Rattle.std.specs.BTreeMap.{is_at}
-use Rattle.std.specs.BTreeSet.{insert_key}
 use Rattle.std.specs.Cmp.Lexicographic.{slice_cmp}
-use Rattle.std.specs.List.{All, Contains, flat_map}
+use Rattle.std.specs.List.{All, flat_map}
 use Rattle.std.specs.List.Sorted.{IsStrictlySortedBy}
 use Rattle.std.specs.Map as map_specs
-use Rattle.std.specs.Option.{option_map_or}
 use Rattle.std.specs.Ordering.{is_eq, nat_cmp}
 use Rattle.std.specs.Cmp.{tied_itself}
-use Rattle.std.specs.Str.{bytes_eq}
 use Rattle.std.proofs.lemmas.Bool.{false≢true}
 use Rattle.std.proofs.lemmas.Cmp.{nat_list_cmp_total}
 use Rattle.std.proofs.lemmas.Map.Lookups.{exact_bytes}
@@ -35,7 +31,6 @@ use Rattle.tail_windows.specs.Following.{Followed, StandsFor, changes_behind, la
 use Rattle.tail_windows.specs.Samples.{put_sample, sample_of, samples_of}
 use Rattle.tail_windows.specs.Tails.{tail_changes_after, tail_changes_between, tail_changes_of_key}
 use Rattle.tail_windows.specs.Walks.{moved_changes}
-use Rattle.tail_windows.specs.declared.change.TailChange.{TailChange}
 use Rattle.tail_windows.specs.declared.change.TailChange.TheVariants.{Dropped}
 use Rattle.tail_windows.specs.declared.def.TailDef.{TailDef}
 use Rattle.tail_windows.specs.declared.sample.Sample.{Sample}

@@ -10,3 +10,4 @@ pub mod Places
 pub mod Stripping
 pub mod TailLaws
 pub mod Walking
+pub mod Within

@@ -1,7 +1,7 @@
 -- What stands on the two sides of a place.
-use Rattle.std.proofs.Common.{◌≡◌, ◌∙◌, ℕ, ◌+◌, ◌-◌, ◌<◌, ◌≤◌, Bool, true, false, cond, List, [], ◌∷◌, ◌++◌, length, get_or, take, drop, ap, ap₂, sym, refl, subst, arith, length-take, length-drop, get_or-take, get_or-drop, length-append}
+use Rattle.std.proofs.Common.{◌≡◌, ◌∙◌, ℕ, ◌+◌, ◌<◌, ◌≤◌, true, false, List, ◌++◌, length, get_or, take, drop, ap, ap₂, sym, arith, length-take, length-drop, get_or-take, get_or-drop}
 use Rattle.std.specs.Prelude.{nat_lt}
-use Rattle.std.specs.List.{All, Contains, filter}
+use Rattle.std.specs.List.{filter}
 use Rattle.std.specs.List.Sorted.{IsPartitionPoint}
 use Rattle.std.proofs.lemmas.Bool.{ltb-true, ltb-false}
 use Rattle.std.proofs.lemmas.Bool.Decides.{nat_tests}
@@ -28,10 +28,10 @@ place_from_point samples at place le point = record {
 -- those before a time are the front
 pub front_is_before : (samples : List Sample) (at place : ℕ) → IsPlaceOf samples at place → take place samples ≡ before_in at samples
 front_is_before samples at place h = sym (
-  ap (filter (λ (s : Sample). nat_lt s.time at)) (sym (take-append-drop place samples))
-  ∙ filter-append (λ (s : Sample). nat_lt s.time at) (take place samples) (drop place samples)
-  ∙ ap₂ (λ k l. k ++ l)
-  (filter_all (λ (s : Sample). nat_lt s.time at) (take place samples) (All_from_members (λ s. nat_lt s.time at ≡ true) (take place samples) (λ s c. let lt : s.time < at = All-contains (λ s. s.time < at) (take place samples) s h.before c in grind (arith, nat_tests, lt))))
-  (filter_none (λ (s : Sample). nat_lt s.time at) (drop place samples) (All_from_members (λ s. nat_lt s.time at ≡ false) (drop place samples) (λ s c. let le : at ≤ s.time = All-contains (λ s. at ≤ s.time) (drop place samples) s h.behind c in grind (arith, nat_tests, le))))
-  ∙ append-nil (take place samples)
-)
+    ap (filter (λ (s : Sample). nat_lt s.time at)) (sym (take-append-drop place samples))
+    ∙ filter-append (λ (s : Sample). nat_lt s.time at) (take place samples) (drop place samples)
+    ∙ ap₂ (λ k l. k ++ l)
+    (filter_all (λ (s : Sample). nat_lt s.time at) (take place samples) (All_from_members (λ s. nat_lt s.time at ≡ true) (take place samples) (λ s c. let lt : s.time < at = All-contains (λ s. s.time < at) (take place samples) s h.before c in grind (arith, nat_tests, lt))))
+    (filter_none (λ (s : Sample). nat_lt s.time at) (drop place samples) (All_from_members (λ s. nat_lt s.time at ≡ false) (drop place samples) (λ s c. let le : at ≤ s.time = All-contains (λ s. at ≤ s.time) (drop place samples) s h.behind c in grind (arith, nat_tests, le))))
+    ∙ append-nil (take place samples)
+    )

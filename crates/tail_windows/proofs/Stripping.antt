@@ -1,22 +1,17 @@
 -- Kept tuples and their samples.
-use Rattle.std.proofs.Common.{◌≡◌, ◌∙◌, ℕ, ℤ, suc, not, ◌+◌, ◌-◌, ◌<◌, ◌≤◌, Bool, true, false, cond, List, [], ◌∷◌, ◌++◌, length, get_or, take, drop, map, ap, ap₂, sym, refl, subst, inl, inr, ⊎_elim, arith, Option, None, Some, length-take}
-use Rattle.std.specs.Prelude.{◌⊎◌, filter, insert, nat_le, nat_lt}
-use Rattle.std.specs.List.{All, Contains, cons_option, filter_map, position_or_len}
-use Rattle.std.specs.List.Sorted.{IsNonDecreasingBy}
+use Rattle.std.proofs.Common.{◌≡◌, ◌∙◌, ℕ, ℤ, suc, not, ◌+◌, ◌-◌, Bool, true, false, cond, List, [], ◌∷◌, length, drop, map, ap, ap₂, refl, inl, inr, ⊎_elim, arith, Option}
+use Rattle.std.specs.Prelude.{◌⊎◌, filter, insert, nat_lt}
+use Rattle.std.specs.List.{Contains, cons_option, filter_map, position_or_len}
 use Rattle.std.specs.Ordering.{nat_cmp}
 use Rattle.std.proofs.lemmas.Bool.{cases_eq}
-use Rattle.std.proofs.lemmas.Bool.Decides.{nat_tests}
-use Rattle.std.proofs.lemmas.List.{drop-map, length-map, take-map}
-use Rattle.std.proofs.lemmas.List.Elements.{All-contains}
-use Rattle.stream_base.specs.declared.func.Func.{Func}
+use Rattle.std.proofs.lemmas.List.{drop-map, length-map}
 use Rattle.stream_base.specs.declared.kept.Kept.{Kept}
 use Rattle.stream_base.specs.Model.Functions.{shown_of}
 use Rattle.stream_base.specs.Model.Journal.{put_in_order, rising}
-use Rattle.stream_base.proofs.Distinct.{All_from_members}
 use Rattle.stream_base.proofs.EventOrder.{put_in_order_cons}
-use Rattle.stream_base.proofs.Members.{filter_map_of, map_has}
-use Rattle.stream_base.proofs.Rising.{none_in_nil, Contains-cons_cases, Contains-at_head, Contains-head, Contains-tail}
-use Rattle.tail_windows.specs.Samples.{IsPlaceOf, before_in, ends_in, put_sample, row_before, row_of_last, sample_of, samples_of}
+use Rattle.stream_base.proofs.Members.{filter_map_of}
+use Rattle.stream_base.proofs.Rising.{none_in_nil, Contains-cons_cases, Contains-at_head, Contains-tail}
+use Rattle.tail_windows.specs.Samples.{before_in, ends_in, put_sample, row_before, row_of_last, sample_of, samples_of}
 use Rattle.tail_windows.specs.Tails.{end_of, ends_of, row_of, tail_of}
 use Rattle.tail_windows.specs.declared.def.TailDef.{TailDef}
 use Rattle.tail_windows.specs.declared.row.TailRow.{TailRow}

@@ -1,7 +1,7 @@
 -- What a walk over the ends of a key's periods has still to append.
-use Rattle.std.proofs.Common.{◌≡◌, ◌∙◌, ℕ, ◌+◌, ◌-◌, ◌*◌, ◌<◌, ◌≤◌, Bool, true, false, cond, List, [], ◌∷◌, ◌++◌, length, get_or, take, drop, ap, sym, refl, subst, arith, Option, None, Some, length-append, length-take-le, append_assoc, mul-add}
+use Rattle.std.proofs.Common.{◌≡◌, ◌∙◌, ℕ, ◌+◌, ◌*◌, ◌<◌, ◌≤◌, Bool, true, false, cond, List, [], ◌∷◌, ◌++◌, length, get_or, take, drop, ap, sym, refl, arith, Option, None, Some, length-append, length-take-le, append_assoc, mul-add}
 use Rattle.std.specs.Prelude.{filter, nat_le, nat_lt}
-use Rattle.std.specs.List.{All, Contains, cons_option, filter_map}
+use Rattle.std.specs.List.{Contains, cons_option, filter_map}
 use Rattle.std.proofs.lemmas.Bool.Decides.{nat_tests}
 use Rattle.std.proofs.lemmas.List.{append-nil, drop_all}
 use Rattle.stream_base.proofs.Distinct.{All_from_members}

@@ -1,5 +1,5 @@
 -- The kept tuples of a key without their places in the journal, which changes don't show.
-use Rattle.std.specs.Prelude.{◌≡◌, ◌+◌, ◌-◌, ◌≤◌, ◌<◌, ℕ, ℤ, List, length, map, filter, take, drop, insert, nat_lt, All}
+use Rattle.std.specs.Prelude.{◌-◌, ◌≤◌, ◌<◌, ℕ, ℤ, List, length, map, filter, take, drop, insert, nat_lt, All}
 use Rattle.std.specs.List.{position_or_len}
 use Rattle.std.specs.List.Sorted.{IsNonDecreasingBy}
 use Rattle.std.specs.Ordering.{nat_cmp}

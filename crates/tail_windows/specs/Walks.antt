@@ -1,7 +1,7 @@
 -- What a walk over the ends of a key's periods appends.
 use Rattle.std.specs.Prelude.{◌≡◌, ◌+◌, ◌*◌, ◌≤◌, ◌==◌, ◌&&◌, ◌++◌, ℕ, Bool, true, false, not, List, length, map, filter, drop, Option, None, Some, if◌then◌else◌, nat_lt, nat_le}
 use Rattle.std.specs.List.{Contains, filter_map}
-use Rattle.stream_base.specs.declared.limits.TheConstants.{TIME_MAX}
+use Rattle.stream_base.specs.declared.limits.TheConstants.{JOURNAL_MAX, TIME_MAX}
 use Rattle.tail_windows.specs.Samples.{before_in, ends_in, row_before}
 use Rattle.tail_windows.specs.declared.change.TailChange.{TailChange}
 use Rattle.tail_windows.specs.declared.change.TailChange.TheVariants.{New, Again}
@@ -15,7 +15,7 @@ use Rattle.tail_windows.specs.declared.stood.Stood.TheVariants.{Nothing, AllBut,
 -- a window of the last tuples is within its limits
 pub record IsTailDef (def : TailDef) : Type 0 where
   pub some : 1 ≤ def.count
-  pub few : def.count ≤ 4194304
+  pub few : def.count ≤ JOURNAL_MAX
   pub period : 1 ≤ def.period
   pub short : def.period ≤ TIME_MAX
 

@@ -1,8 +1,12 @@
 //! Laws of the tails.
-ghost use Rattle.std.specs.Prelude.{◌≡◌, ◌≤◌, ◌<◌, ◌++◌, ◌∷◌, ℕ, ◌&&◌, List, [], false, All, filter, map, nat_le, nat_lt};
+ghost use Rattle.std.specs.Prelude.{◌≡◌, ◌≤◌, ◌<◌, ◌++◌, ◌∷◌, ℕ, ◌&&◌, List, [], true, false, All, filter, map, nat_le, nat_lt};
 ghost use Rattle.stream_base.specs.Model.Changes.{are_same_tuples};
 ghost use Rattle.stream_base.specs.Model.Journal.{put_in_order};
+ghost use Rattle.stream_base.specs.Model.Journals.{is_entry_within};
+ghost use Rattle.stream_base.specs.declared.entry.Entry.{Entry};
 ghost use Rattle.stream_base.specs.declared.kept.Kept.{Kept};
+ghost use Rattle.stream_base.specs.declared.limits.TheConstants.{TIME_MAX};
+ghost use Rattle.tail_windows.specs.Following.{time_in};
 ghost use Rattle.tail_windows.specs.Laws.{StandsBetween, count_before};
 ghost use Rattle.tail_windows.specs.Tails.{row_of, tail_at, tail_changes_between, tails_in};
 ghost use Rattle.tail_windows.specs.declared.def.TailDef.{TailDef};
@@ -44,4 +48,10 @@ pub fn watermark_alone_completes_tails()
         → tail_changes_between def key kept old kept new
         ≡ map (λ i. New (row_of def.func key i))
         (filter (λ i. nat_lt old i.at && nat_le i.at new) (tails_in def kept)) }
+{}
+
+/// An entry that is within the limits of a journal is so for a follower: its time is.
+#[tactic(auto, using(crate::proofs::Within::time_within))]
+pub fn entry_within_the_limits_may_be_applied()
+    ensures { (e : Entry) → is_entry_within e ≡ true → time_in e.what ≤ TIME_MAX }
 {}

@@ -42,12 +42,7 @@ impl Model for Tails {
 
 impl Tails {
     /// No entry yet, for so many sources.
-    pub fn new(
-        alloc: Global,
-        def: TailDef,
-        sources: u16,
-        lateness: u64,
-    ) -> Result<Tails, NoMemory>
+    pub fn new(alloc: Global, def: TailDef, sources: u16, lateness: u64) -> Result<Tails, NoMemory>
         requires def { IsTailDef def }
         requires some { 1 ≤ sources }
         requires lateness { lateness ≤ TIME_MAX }

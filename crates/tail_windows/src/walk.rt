@@ -38,7 +38,15 @@ pub fn append_from<L>(
         if reach.most < end {
             return Ok(());
         }
-        append_row(def, key, at, &samples[..end], reach.stood.has(at), out, steps)?;
+        append_row(
+            def,
+            key,
+            at,
+            &samples[..end],
+            reach.stood.has(at),
+            out,
+            steps,
+        )?;
         place = end;
     }
     Ok(())

@@ -1,5 +1,5 @@
 -- The last sample before the end tells.
-use Rattle.std.proofs.Common.{◌≡◌, ◌∙◌, ◌-◌, ◌<◌, get_or, pos, sym}
+use Rattle.std.proofs.Common.{◌∙◌, pos, sym}
 use Rattle.std.proofs.lemmas.Bool.{eqb-false, eqb-true}
 use Rattle.tail_windows.specs.declared.sample.Sample.{Sample}
 use Rattle.tail_windows.proofs.Ended.{ends_there, last_elsewhere, none_early}

@@ -1,5 +1,5 @@
 -- The times don't fall, so the test of the search turns once.
-use Rattle.std.proofs.Common.{ℕ, rules}
+use Rattle.std.proofs.Common.{rules}
 use Rattle.std.specs.Prelude.{nat_lt}
 use Rattle.std.proofs.lemmas.List.Sorted.{IsPartitionPoint-from_clause, IsPartitionedBy-ltb}
 use Rattle.tail_windows.specs.declared.sample.Sample.{Sample}

@@ -1,5 +1,5 @@
 -- Each turn appends one end's change, and the walk stops where nothing is left.
-use Rattle.std.proofs.Common.{◌≡◌, ◌∙◌, ◌++◌, ◌∷◌, [], ℕ, ◌-◌, ◌<◌, ◌≤◌, List, ap, append_assoc, arith, get_or, length, pos, subst, sym, take, rules}
+use Rattle.std.proofs.Common.{◌≡◌, ◌∙◌, ◌++◌, ◌∷◌, [], ◌-◌, ◌<◌, ◌≤◌, List, ap, append_assoc, arith, get_or, pos, subst, sym, take, rules}
 use Rattle.std.proofs.lemmas.Grind.{common_steps}
 use Rattle.std.proofs.lemmas.List.{append-nil}
 use Rattle.tail_windows.specs.Samples.{IsPlaceOf, row_of_last}
@@ -69,8 +69,7 @@ loop-place-preserved g c =
     (goes_on def key samples c.args.reach c.requires.def c.requires.samples i end none c.loop-place-test.true place (subst (λ n. n ≤ c.args.reach.water) is c.if-reach-at.false) c.if-reach-end.false) in
     let whole : end - 0 ≡ end = omega arith in
     let one : c.append_row.new.out.items ≡ c.loop-place.out.items ++ change_to c.has.result (row_of_last def key at (take end samples)) ∷ [] =
-    first_of (grind (arith, common_steps), search rules, cc) in
-    (
+    first_of (grind (arith, common_steps), search rules, cc) in (
       ap (λ l. l ++ changes_from def key samples c.args.reach end) one
           ∙ append_assoc c.loop-place.out.items (change_to c.has.result (row_of_last def key at (take end samples)) ∷ []) (changes_from def key samples c.args.reach end)
           ∙ ap (λ b. c.loop-place.out.items ++ change_to b (row_of_last def key at (take end samples)) ∷ changes_from def key samples c.args.reach end) c.has.ensures

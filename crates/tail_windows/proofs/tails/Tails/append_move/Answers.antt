@@ -1,10 +1,6 @@
 -- Each key brings what the move of the watermark does.
-use Rattle.std.proofs.Common.{◌≡◌, ◌∙◌, ◌++◌, ℕ, List, ap, subst, sym}
-use Rattle.std.specs.List.{flat_map}
-use Rattle.stream_base.specs.Model.Watermark.{water_of}
-use Rattle.tail_windows.specs.Following.{Followed, StandsFor, changes_behind, number_of_sources}
-use Rattle.tail_windows.specs.Walks.{moved_changes}
-use Rattle.tail_windows.specs.declared.sample.Sample.{Sample}
+use Rattle.std.proofs.Common.{◌≡◌, subst, sym}
+use Rattle.tail_windows.specs.Following.{Followed, StandsFor}
 use Rattle.tail_windows.proofs.Answering.{move_changes}
 use Rattle.tail_windows.proofs.tails.Tails.append_move.Goals as goal
 

@@ -1,9 +1,7 @@
 -- A walk from the first sample of a period that isn't over at the old watermark.
-use Rattle.std.proofs.Common.{◌≡◌, ◌∙◌, ◌++◌, ◌*◌, ◌/◌, List, ap, length, subst, sym}
-use Rattle.tail_windows.specs.Samples.{IsPlaceOf}
+use Rattle.std.proofs.Common.{◌≡◌, ◌∙◌, ◌++◌, List, ap, length, sym}
 use Rattle.tail_windows.specs.Walks.{changes_from, moved_changes}
 use Rattle.tail_windows.specs.declared.change.TailChange.{TailChange}
-use Rattle.tail_windows.specs.declared.sample.Sample.{Sample}
 use Rattle.tail_windows.specs.declared.stood.Stood.TheVariants.{Nothing}
 use Rattle.tail_windows.proofs.Answering.{on_ok_to}
 use Rattle.tail_windows.proofs.Changed.{walked_move}

@@ -1,11 +1,8 @@
 -- The tuple comes to its place, and the walk from there on finds what it changes; or it is taken back.
-use Rattle.std.proofs.Common.{◌≡◌, ◌∙◌, ◌++◌, ◌+◌, ◌<◌, List, ap, subst, sym}
-use Rattle.std.specs.Prelude.{insert}
-use Rattle.std.specs.List.{All, remove}
-use Rattle.stream_base.specs.declared.kept.Kept.{Kept}
-use Rattle.stream_base.specs.Model.Journal.{put_in_order}
+use Rattle.std.proofs.Common.{◌≡◌, ◌∙◌, ◌++◌, ◌+◌, ap, subst, sym}
+use Rattle.std.specs.List.{remove}
 use Rattle.tail_windows.specs.Samples.{IsPlaceOf, ends_in, put_sample, sample_of, samples_of}
-use Rattle.tail_windows.specs.Tails.{end_of, tail_changes_between}
+use Rattle.tail_windows.specs.Tails.{end_of}
 use Rattle.tail_windows.specs.Walks.{StoodBefore, changes_from}
 use Rattle.tail_windows.specs.declared.reach.Reach.{Reach}
 use Rattle.tail_windows.specs.declared.sample.Sample.{Sample}

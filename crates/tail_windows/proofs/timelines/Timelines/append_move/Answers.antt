@@ -15,8 +15,7 @@ loop-key-preserved g c =
     let out = c.loop-key.out.items in
     let brings = λ (e : List ℕ × List Sample). moved_changes def e.0 c.args.old c.args.new e.1 in
     let left : c.loop-key.key-iterator ≡ (c.in-Some.key.now, c.in-Some.timeline.now) ∷ c.next.new.self =
-    rest_more deref_pair c.loop-key.key-iterator c.next.new.self c.next.result (c.in-Some.key, c.in-Some.timeline) c.in-Some.is c.next.ensures.steps in
-    (
+    rest_more deref_pair c.loop-key.key-iterator c.next.new.self c.next.result (c.in-Some.key, c.in-Some.timeline) c.in-Some.is c.next.ensures.steps in (
       ap (λ (l : List TailChange). l ++ flat_map brings c.next.new.self) c.in_ok-append_move.ensures.changes
           ∙ append_assoc out (brings (c.in-Some.key.now, c.in-Some.timeline.now)) (flat_map brings c.next.new.self)
           ∙ ap (λ l. out ++ flat_map brings l) (sym left)

@@ -1,5 +1,5 @@
 -- An empty timeline is as none.
-use Rattle.std.proofs.Common.{◌≡◌, ◌∙◌, List, ap, false, subst, sym}
+use Rattle.std.proofs.Common.{◌≡◌, ◌∙◌, ap, false, subst, sym}
 use Rattle.std.specs.Prelude.{is_some}
 use Rattle.std.specs.BTreeMap.{is_at}
 use Rattle.std.specs.Cmp.Lexicographic.{slice_cmp}
