@@ -1,5 +1,4 @@
-ghost use Rattle.std.specs.Prelude.{◌≡◌, ◌≤◌, IfOk};
-ghost use Rattle.stream_base.specs.declared.limits.TheConstants.{TIME_MAX};
+ghost use Rattle.std.specs.Prelude.{◌≡◌, IfOk};
 ghost use Rattle.tail_windows.specs.Following.{number_of_sources, time_in};
 
 use agg_laws::Steps;
@@ -15,13 +14,31 @@ struct Work;
 // What the one source says, and the changes that it causes.
 type Step<'a> = (What, &'a [TailChange]);
 
-fn time_of(what: What) -> u64
-    ensures { result ≡ time_in what }
+fn time_of(what: &What) -> u64
+    ensures { result ≡ time_in what.now }
 {
-    match what {
+    match *what {
         What::Tuple { time, .. } | What::Mark { time, .. } | What::Water { time } => time,
         What::Idle | What::End => 0,
     }
+}
+
+// What the source says, and the changes that this causes.
+fn put(
+    rt: &impl Abort,
+    tails: &mut Tails,
+    what: What,
+    out: &mut Vec<TailChange>,
+    steps: &mut Steps<Work>,
+) -> Result<(), Fail>
+    requires { number_of_sources tails.old ≡ 1 }
+    ensures { number_of_sources tails.new ≡ 1 }
+{
+    assert!(rt; time_of(&what) <= TIME_MAX);
+    let entry = Entry { source: 0, what };
+    out.clear();
+    tails.apply(&entry, out, steps)?;
+    Ok(())
 }
 
 // Takes the steps, one after another. Under each stand its changes, and no other.
@@ -37,9 +54,7 @@ fn follow(
     let mut out = Vec::new(alloc);
     for k in 0..script.len() {
         let (what, want) = script[k];
-        assert!(rt; time_of(what) <= TIME_MAX);
-        out.clear();
-        tails.apply(&Entry { source: 0, what }, &mut out, steps)?;
+        put(rt, tails, what, &mut out, steps)?;
         assert_eq!(rt; out.as_slice(), want, "under {k}");
     }
     Ok(())
