@@ -40,5 +40,6 @@ pub fn tails_stand_under_their_entries()
     ensures { tail_report_of (tail 2 10 Sum) 20 1
         ((tuple 1 (pos 1) a ∷ tuple 5 (pos 2) a ∷ tuple 12 (pos 4) a ∷ water 20 ∷ tuple 7 (pos 8) a
         ∷ end ∷ []) ∷ [])
-        ≡ codes "shard 0\nj 0 t 1 1 a\nj 0 t 5 2 a\nj 0 t 12 4 a\nj 0 w 20\n+ 10 2 3 a\n+ 20 2 6 a\nj 0 t 7 8 a\n~ 10 2 10 a\n~ 20 2 12 a\nj 0 e\nend\n" }
+        ≡ codes "shard 0\nj 0 t 1 1 a\nj 0 t 5 2 a\nj 0 t 12 4 a\nj 0 w 20\n+ 10 2 3 a\n"
+        ++ codes "+ 20 2 6 a\nj 0 t 7 8 a\n~ 10 2 10 a\n~ 20 2 12 a\nj 0 e\nend\n" }
 {}

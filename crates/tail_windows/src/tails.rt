@@ -58,9 +58,9 @@ impl Tails {
         })
     }
 
-    /// Takes in an entry of the journal and appends the changes that it causes, with at most as many
-    /// steps for each as the definition selects tuples. After want of memory the follower stands for
-    /// the journals of before, and the list is as it was.
+    /// Takes in an entry of the journal and appends the changes that it causes, with at most as
+    /// many steps for each as the definition selects tuples. After want of memory the follower
+    /// stands for the journals of before, and the list is as it was.
     pub fn apply<L>(
         &mut self,
         entry: &Entry,
