@@ -37,7 +37,7 @@ comes_between (y ∷ ys) x = by (nat_lt x.time y.time) refl (comes_between ys x)
     )
 
 -- the tuples before a time, with one in that is
-with_before : (at : ℕ) (x : Kept) (front back : List Kept) → x.time < at → All (λ y. y.time ≤ x.time) front → filter (λ y. nat_lt y.time at) (front ++ x ∷ back) ≡ front ++ x ∷ filter (λ y. nat_lt y.time at) back
+pub with_before : (at : ℕ) (x : Kept) (front back : List Kept) → x.time < at → All (λ y. y.time ≤ x.time) front → filter (λ y. nat_lt y.time at) (front ++ x ∷ back) ≡ front ++ x ∷ filter (λ y. nat_lt y.time at) back
 with_before at x front back early no_later =
     filter-append (λ (y : Kept). nat_lt y.time at) front (x ∷ back)
     ∙ ap₂ (λ k l. k ++ l) (filter_all (λ (y : Kept). nat_lt y.time at) front (All_from_members (λ y. nat_lt y.time at ≡ true) front (λ y c. below y.time (All-contains (λ y. y.time ≤ x.time) front y no_later c))))
@@ -121,10 +121,10 @@ changes count at kept x front back h early few below =
     omega (arith, lt, is))
 
 -- ---- where nothing moves, nothing changes
-AreTails : TailDef → List Kept → List Tail → Type 0
+pub AreTails : TailDef → List Kept → List Tail → Type 0
 AreTails def kept tails = (i : Tail) → Contains tails i → i ≡ tail_of def kept i.at
 
-found_itself : (def : TailDef) (kept : List Kept) (tails : List Tail) (i : Tail) → AreTails def kept tails → Contains tails i → find (is_at i.at) tails ≡ Some i
+pub found_itself : (def : TailDef) (kept : List Kept) (tails : List Tail) (i : Tail) → AreTails def kept tails → Contains tails i → find (is_at i.at) tails ≡ Some i
 unfolding AreTails
 found_itself def kept [] i all c = absurd (none_in_nil i c)
 found_itself def kept (j ∷ js) i all c = by (is_at i.at j) refl (λ d. found_itself def kept js i (λ k e. all k (Contains-tail j js k e)) d)
@@ -143,13 +143,13 @@ found_itself def kept (j ∷ js) i all c = by (is_at i.at j) refl (λ d. found_i
         ap (λ b. cond b (Some j) (find (is_at i.at) js)) e
         ∙ ⊎_elim (λ same. absurd (false≢true (sym e ∙ ap (is_at i.at) same ∙ itself))) rest (Contains-cons_cases j js i c)
 
-standing_are_tails : (def : TailDef) (kept : List Kept) (water : ℕ) → AreTails def kept (standing_tails def kept water)
+pub standing_are_tails : (def : TailDef) (kept : List Kept) (water : ℕ) → AreTails def kept (standing_tails def kept water)
 unfolding AreTails tails_in
 standing_are_tails def kept water i c =
     let (at, among, is) = map_members (tail_of def kept) (ends_of def.period kept) i (filter_members (λ (j : Tail). nat_le j.at water) (tails_in def kept) i c).0 in
     sym is ∙ ap (tail_of def kept) (ap (λ (j : Tail). j.at) is)
 
-same_tuples_itself : (xs : List Kept) → are_same_tuples xs xs ≡ true
+pub same_tuples_itself : (xs : List Kept) → are_same_tuples xs xs ≡ true
 same_tuples_itself [] = refl
 same_tuples_itself (x ∷ xs) = and_from (eqb x.position x.position) (are_same_tuples xs xs) (eq-eqb x.position x.position refl) (same_tuples_itself xs)
 

@@ -9,8 +9,17 @@ mod change;
 mod def;
 pub mod examples;
 pub mod laws;
+mod reach;
 mod row;
+mod sample;
+mod select;
+mod stood;
+mod tails;
+mod timeline;
+mod timelines;
+mod walk;
 
 pub use change::TailChange;
 pub use def::TailDef;
 pub use row::TailRow;
+pub use tails::Tails;
