@@ -1,2 +1,3 @@
-pub mod TextFacts
+pub mod FollowingFacts
 pub mod TailLines
+pub mod TextFacts

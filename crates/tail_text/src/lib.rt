@@ -8,7 +8,9 @@
 
 mod change_line;
 pub mod examples;
+mod following;
 pub mod laws;
 mod report;
 
+pub use following::tails_of;
 pub use report::write_tails;
