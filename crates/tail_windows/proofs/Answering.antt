@@ -1,14 +1,14 @@
 -- What a follower promises of each kind of entry.
 use Rattle.std.proofs.Common.{◌≡◌, ◌∙◌, ℕ, ℤ, ◌+◌, ◌<◌, ◌≤◌, Bool, true, false, cond, List, [], ◌∷◌, ◌++◌, length, ap, sym, refl, subst, Some, Ok, Err}
 use Rattle.std.proofs.lemmas.List.{append-nil}
-use Rattle.std.specs.Prelude.{nat_lt}
+use Rattle.std.specs.Prelude.{Result}
 use Rattle.std.specs.BTreeMap.{is_at}
 use Rattle.std.specs.Cmp.Lexicographic.{slice_cmp}
 use Rattle.std.specs.List.{All, flat_map}
 use Rattle.std.specs.List.Sorted.{IsStrictlySortedBy}
 use Rattle.std.specs.Map as map_specs
 use Rattle.std.specs.Ordering.{nat_cmp}
-use Rattle.std.specs.Result.{Result, OnErr, OnOk}
+use Rattle.std.specs.Result.{OnErr, OnOk}
 use Rattle.stream_base.specs.declared.entry.Entry.{Entry}
 use Rattle.stream_base.specs.declared.kept.Kept.{Kept}
 use Rattle.stream_base.specs.declared.what.What.TheVariants.{Tuple, Mark}
@@ -17,7 +17,7 @@ use Rattle.stream_base.specs.Model.Watermark.{water_of}
 use Rattle.stream_base.specs.Model.What.{is_late, is_progress, key_in}
 use Rattle.watermark_table.specs.Watched as table
 use Rattle.tail_windows.specs.Following.{Followed, Follows, IsOfSame, StandsFor, changes_behind, lateness_of, list_of, number_of_sources}
-use Rattle.tail_windows.specs.Samples.{put_sample, sample_of, samples_of}
+use Rattle.tail_windows.specs.Samples.{put_sample, sample_at, sample_of, samples_of}
 use Rattle.tail_windows.specs.Tails.{tail_changes_after, tail_changes_between}
 use Rattle.tail_windows.specs.Walks.{HasAppended, moved_changes}
 use Rattle.tail_windows.specs.declared.change.TailChange.{TailChange}
@@ -102,6 +102,20 @@ module _ {E : Type 0} (f : Followed) (e : Entry) (before : List TailChange) (ste
         left : (r : Result (Unit {0}) E) → ((other : List ℕ) → OnErr r (list_of lists other ≡ list_of f.lists other)) → (j : List Entry) → StandsFor f j → OnErr r (StandsFor (record { def = f.def; waters = f.waters; lists = lists }) j)
         left (Ok u) p j s = tt
         left (Err u) p j s = record { waters = s.waters; lists = λ other. p other ∙ s.lists other }
+
+    -- told by its sample
+    pub sample_follows : (s : Sample) (key : List ℕ) (time : ℕ) (value : ℤ) (water : ℕ) (lists : List (List ℕ × List Sample)) → s ≡ sample_at time value → e.what ≡ Tuple key time value
+        → ((journal : List Entry) → StandsFor f journal → is_late (lateness_of f) (water_of (number_of_sources f) journal) e.what ≡ false)
+        → ((journal : List Entry) → StandsFor f journal → water ≡ water_of (number_of_sources f) journal)
+        → ((other : List ℕ) → OnOk answer (list_of lists other ≡ cond (is_at (slice_cmp nat_cmp key) other) (put_sample (list_of f.lists key) s) (list_of f.lists other)))
+        → ((other : List ℕ) → OnErr answer (list_of lists other ≡ list_of f.lists other))
+        → ((kept : List Kept) (x : Kept) → samples_of kept ≡ list_of f.lists key → sample_of x ≡ s → All (λ y. y.position < x.position) kept
+        → OnOk answer (after ≡ before ++ tail_changes_between f.def key kept water (put_in_order kept x) water))
+        → Follows f e answer (record { def = f.def; waters = f.waters; lists = lists }) before after steps later
+    sample_follows s key time value water lists same is on_time at put refused changes =
+        tuple_follows key time value water lists is on_time at
+        (λ other. subst (λ (t : Sample). OnOk answer (list_of lists other ≡ cond (is_at (slice_cmp nat_cmp key) other) (put_sample (list_of f.lists key) t) (list_of f.lists other))) same (put other))
+        refused (λ kept x a b older. changes kept x a (b ∙ sym same) older)
 
   -- a word on progress is taken in
   word_taken : (after : List TailChange) (later : ℕ) (new : table.Watched) (water : ℕ) → is_progress e.what ≡ true → table.HasTaken f.waters e new water → HasAppended (f.def).count before after steps later

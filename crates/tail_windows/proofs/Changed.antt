@@ -154,7 +154,7 @@ module _ (def : TailDef) (key : List ℕ) (kept : List Kept) (x : Kept) (place w
       let lt : x.time < (get_or kept place x).time = later (get_or kept place x) (subst (λ l. Contains l (get_or kept place x)) (sym (drop_more kept place x l)) (Contains-head (get_or kept place x) (drop (place + 1) kept))) in
       grind (arith, nat_tests, lt))
 
-  pub between : StandsBetween kept x front back
+  between : StandsBetween kept x front back
   unfolding front back
   between = record {
     before = sym (take-append-drop place kept);
@@ -222,6 +222,9 @@ module _ (def : TailDef) (key : List ℕ) (kept : List Kept) (x : Kept) (place w
       (λ old. old)
       (end_of_new e c)
     where
+      behind_all : (y : Kept) → Contains back y → Contains kept y
+      behind_all y d = subst (λ l. Contains l y) (sym between.before) (Contains-append_right front back y d)
+
       by : end_of def.period x.time ≡ e → (ys : List Kept) → ((y : Kept) → Contains ys y → Contains back y × (nat_lt y.time e ≡ true)) → def.count ≤ length ys → Contains (ends_of def.period kept) e
       by own [] all n = let some : 1 ≤ def.count = limits.some in absurd (omega (arith, some, n))
       by own (y ∷ ys) all n =
@@ -231,9 +234,6 @@ module _ (def : TailDef) (key : List ℕ) (kept : List Kept) (x : Kept) (place w
           let same : end_of def.period y.time ≡ e = end_same def.period x.time y.time limits.period (omega arith) lt ∙ own in
           subst (λ n. Contains (ends_of def.period kept) n) same
           (subst (λ l. Contains l (end_of def.period y.time)) (ends_of_samples def.period kept) (end_is_among def.period (samples_of kept) (sample_of y) (map_has sample_of kept y (behind_all y there))))
-
-      behind_all : (y : Kept) → Contains back y → Contains kept y
-      behind_all y d = subst (λ l. Contains l y) (sym between.before) (Contains-append_right front back y d)
 
   -- what was found out before the tuple came
   known_of : (e : ℕ) → Contains (ends_of def.period new_kept) e → (b : Bool) → ((b ≡ true) × Contains (ends_of def.period kept) e) ⊎ ((b ≡ false) × (Contains (ends_of def.period kept) e → ⊥)) → stood_at known e ≡ b

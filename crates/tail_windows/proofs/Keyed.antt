@@ -44,21 +44,22 @@ some_left ys h e = false≢true (sym (ap has_some e) ∙ h)
 
 flat_map_filter : {X Y : Type 0} (f : X → List Y) (xs : List X) → flat_map f (filter (λ x. has_some (f x)) xs) ≡ flat_map f xs
 flat_map_filter f [] = refl
-flat_map_filter f (x ∷ xs) = by (has_some (f x)) refl
+flat_map_filter f (x ∷ xs) = by (has_some (f x)) refl (flat_map_filter f xs)
   where
-    by : (b : Bool) → has_some (f x) ≡ b → flat_map f (cond b (x ∷ filter (λ x. has_some (f x)) xs) (filter (λ x. has_some (f x)) xs)) ≡ f x ++ flat_map f xs
-    by true e = ap (λ l. f x ++ l) (flat_map_filter f xs)
-    by false e = flat_map_filter f xs ∙ ap (λ l. l ++ flat_map f xs) (sym (none_left (f x) e))
+    by : (b : Bool) → has_some (f x) ≡ b → flat_map f (filter (λ x. has_some (f x)) xs) ≡ flat_map f xs
+        → flat_map f (cond b (x ∷ filter (λ x. has_some (f x)) xs) (filter (λ x. has_some (f x)) xs)) ≡ f x ++ flat_map f xs
+    by true e rest = ap (λ l. f x ++ l) rest
+    by false e rest = rest ∙ ap (λ l. l ++ flat_map f xs) (sym (none_left (f x) e))
 
 -- two lists of keys that differ in keys of which nothing comes give the same
-pub same_flat : {Y : Type 0} (f : List ℕ → List Y) (as bs : List (List ℕ)) → IsStrictlySortedBy (slice_cmp nat_cmp) as → IsStrictlySortedBy (slice_cmp nat_cmp) bs
-    → ((k : List ℕ) → ¬ Contains as k → f k ≡ []) → ((k : List ℕ) → ¬ Contains bs k → f k ≡ []) → flat_map f as ≡ flat_map f bs
-same_flat f as bs s t a b =
-    sym (flat_map_filter f as)
-    ∙ ap (flat_map f) (same_members_same_list nat_list_cmp_total (filter some as) (filter some bs) (IsStrictlySortedBy-filter (slice_cmp nat_cmp) some as s) (IsStrictlySortedBy-filter (slice_cmp nat_cmp) some bs t)
-    (λ k c. over bs k b (filter_members some as k c).1)
-    (λ k c. over as k a (filter_members some bs k c).1))
-    ∙ flat_map_filter f bs
+pub same_flat : {Y : Type 0} (f : List ℕ → List Y) (one two : List (List ℕ)) → IsStrictlySortedBy (slice_cmp nat_cmp) one → IsStrictlySortedBy (slice_cmp nat_cmp) two
+    → ((k : List ℕ) → ¬ Contains one k → f k ≡ []) → ((k : List ℕ) → ¬ Contains two k → f k ≡ []) → flat_map f one ≡ flat_map f two
+same_flat f one two s t a b =
+    sym (flat_map_filter f one)
+    ∙ ap (flat_map f) (same_members_same_list nat_list_cmp_total (filter some one) (filter some two) (IsStrictlySortedBy-filter (slice_cmp nat_cmp) some one s) (IsStrictlySortedBy-filter (slice_cmp nat_cmp) some two t)
+    (λ k c. over two k b (filter_members some one k c).1)
+    (λ k c. over one k a (filter_members some two k c).1))
+    ∙ flat_map_filter f two
   where
     some : List ℕ → Bool
     some k = has_some (f k)
@@ -79,7 +80,7 @@ no_list lists key absent = by (lookup (is_at (slice_cmp nat_cmp key)) lists) ref
   where
     by : (o : Option (List Sample)) → lookup (is_at (slice_cmp nat_cmp key)) lists ≡ o → unwrap_or o [] ≡ []
     by None e = refl
-    by (Some l) e = absurd (absent (Contains-keys_from_lookup (tells_apart exact_bytes) key lists (subst IsSome (sym e) tt)))
+    by (Some l) e = absurd (absent (Contains-keys_from_lookup (tells_apart exact_bytes) key lists (ap is_some e)))
 
 none_of : {X : Type 0} (o : Option X) → is_some o ≡ false → o ≡ None
 none_of None h = refl

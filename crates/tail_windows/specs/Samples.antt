@@ -1,5 +1,5 @@
 -- The kept tuples of a key without their places in the journal, which changes don't show.
-use Rattle.std.specs.Prelude.{◌≡◌, ◌+◌, ◌-◌, ◌≤◌, ◌<◌, ℕ, List, length, map, filter, take, drop, insert, nat_lt, All}
+use Rattle.std.specs.Prelude.{◌≡◌, ◌+◌, ◌-◌, ◌≤◌, ◌<◌, ℕ, ℤ, List, length, map, filter, take, drop, insert, nat_lt, All}
 use Rattle.std.specs.List.{position_or_len}
 use Rattle.std.specs.List.Sorted.{IsNonDecreasingBy}
 use Rattle.std.specs.Ordering.{nat_cmp}
@@ -12,8 +12,11 @@ use Rattle.tail_windows.specs.declared.def.TailDef.{TailDef}
 use Rattle.tail_windows.specs.declared.row.TailRow.{TailRow}
 use Rattle.tail_windows.specs.declared.sample.Sample.{Sample}
 
+abbrev pub sample_at : ℕ → ℤ → Sample
+sample_at time value = record { time = time; value = value }
+
 abbrev pub sample_of : Kept → Sample
-sample_of x = record { time = x.time; value = x.value }
+sample_of x = sample_at x.time x.value
 
 -- the samples of kept tuples, in their order
 abbrev pub samples_of : List Kept → List Sample
