@@ -17,4 +17,4 @@ pub mod Draining
 pub mod EntryFacts
 pub mod Checking
 pub mod InMemory
-pub mod Watching
+pub mod Boards

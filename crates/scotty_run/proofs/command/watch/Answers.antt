@@ -4,7 +4,7 @@ use Rattle.scotty_run.specs.Jobs.{job_of_watch}
 use Rattle.scotty_run.specs.Outside.{opens_of}
 use Rattle.scotty_run.specs.Watching.{IsBoardOf, IsWatchAnswer, watched_text}
 use Rattle.scotty_run.proofs.Jobs.{stops, writes}
-use Rattle.scotty_run.proofs.Watching.{board_text}
+use Rattle.scotty_run.proofs.Boards.{board_text}
 use Rattle.scotty_run.proofs.command.watch.Goals as goal
 
 pub returns-in-Ok-clause-answer : goal.returns-in-Ok-clause-answer

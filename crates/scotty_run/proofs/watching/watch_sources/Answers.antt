@@ -7,7 +7,7 @@ use Rattle.scotty_run.specs.Outside.{Ends, opens_of}
 use Rattle.scotty_run.specs.Watching.{AreEntries, IsFullBoard, IsWatchedIn, IsWatchedOf}
 use Rattle.scotty_run.specs.Words.{Watch}
 use Rattle.scotty_run.proofs.Results.{if_err, if_ok}
-use Rattle.scotty_run.proofs.Watching.{board_stops, stops_among}
+use Rattle.scotty_run.proofs.Boards.{board_stops, stops_among}
 use Rattle.scotty_run.proofs.watching.watch_sources.Goals as goal
 
 pub watch_read-requires-clause-entries : goal.watch_read-requires-clause-entries
