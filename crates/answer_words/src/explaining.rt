@@ -4,8 +4,8 @@ use crate::report_words::{Judged, put_wrong_journal, put_wrong_line, put_wrong_s
 use crate::said::{Said, said_in};
 use emission_text::Fault;
 use fault_words::{
-    Again, Help, put_defs, put_full_report, put_full_shard, put_full_source, put_memory, put_row,
-    put_unopened, put_unread, put_usage,
+    Again, Help, put_defs, put_full_report, put_full_shard, put_full_source, put_full_watch,
+    put_memory, put_row, put_unopened, put_unread, put_usage,
 };
 use report_check::Finding;
 use std::alloc::Global;
@@ -17,13 +17,24 @@ scotty: the output couldn't be written: is the disk full, or was it closed? What
 ";
 
 // The places of words in a command that reads files.
+const COMMAND: usize = 0;
+
 const DEFS: usize = 1;
 
 const SHARDS: usize = 2;
 
+const SHARDS_OF_LAST: usize = 5;
+
 const REPORT: usize = 3;
 
 const SOURCES: usize = 4;
+
+const SOURCES_OF_LAST: usize = 6;
+
+/// How many words of a command that reads files name sources, wherever they begin.
+pub fn source_count(words: &[String]) -> usize {
+    words.len().saturating_sub(sources_at(words))
+}
 
 /// Sentences that help with the line that a command answered: with a fault, or with a finding that the report isn't
 /// lawful. Of any other line nothing is said. Files are looked at once more.
@@ -68,11 +79,20 @@ fn put_fault<A: Again>(
             put_row(alloc, source_name(words, source), number, why, again, help);
         }
         Fault::FullSource { source } => put_full_source(source_name(words, source), help),
-        Fault::FullShard { shard } => put_full_shard(shard, word_at(words, SHARDS), help),
+        Fault::FullShard { shard } => put_full(words, shard, help),
         Fault::ReportOpen => put_unopened("report", word_at(words, REPORT), again, help),
         Fault::ReportRead => put_unread("report", word_at(words, REPORT), again, help),
         Fault::ReportFull => put_full_report(word_at(words, REPORT), help),
         Fault::NoMemory => put_memory(help),
+    }
+}
+
+// A full shard, by the command: one has no word for the number of shards.
+fn put_full(words: &[String], shard: u16, help: &mut Help) {
+    match word_at(words, COMMAND) {
+        "watch" => put_full_watch(help),
+        "last" => put_full_shard(shard, word_at(words, SHARDS_OF_LAST), help),
+        _ => put_full_shard(shard, word_at(words, SHARDS), help),
     }
 }
 
@@ -85,7 +105,7 @@ fn put_finding<A: Again, R: Threads>(
     help: &mut Help,
 ) {
     let report = word_at(words, REPORT);
-    let sources = words.len().saturating_sub(SOURCES);
+    let sources = source_count(words);
     match finding {
         Finding::Lawful => {}
         Finding::Text { line } => {
@@ -121,7 +141,15 @@ fn name_at(words: &[String], place: Option<u16>) -> &str {
 }
 
 fn source_name(words: &[String], source: u16) -> &str {
-    word_at(words, SOURCES + source as usize)
+    word_at(words, sources_at(words).saturating_add(source as usize))
+}
+
+// Where the names of sources begin.
+fn sources_at(words: &[String]) -> usize {
+    match word_at(words, COMMAND) {
+        "last" => SOURCES_OF_LAST,
+        _ => SOURCES,
+    }
 }
 
 fn word_at(words: &[String], place: usize) -> &str {

@@ -12,4 +12,4 @@ mod report_words;
 mod retold;
 mod said;
 
-pub use explaining::{WRITE_FAILED, explain};
+pub use explaining::{WRITE_FAILED, explain, source_count};

@@ -6,8 +6,8 @@ use std::alloc::Global;
 use stream_base::{LENGTH_RATIO_MAX, TIME_MAX};
 use toml::{Table, Value};
 
-// The most tuples of a window of events.
-const COUNT_MAX: u64 = 4_194_304;
+// The most tuples of a window of events, and of those that `last` shows.
+pub const COUNT_MAX: u64 = 4_194_304;
 
 const FUNCS: &str = "count, sum, min, max, mean, first, last, rises and trace";
 
@@ -189,7 +189,8 @@ fn numbers_of(kind: &str) -> Option<&'static [&'static str]> {
     }
 }
 
-fn is_func(word: &str) -> bool {
+// Whether it is the name of a function.
+pub fn is_func(word: &str) -> bool {
     matches!(
         word,
         "count" | "sum" | "min" | "max" | "mean" | "first" | "last" | "rises" | "trace"

@@ -67,6 +67,14 @@ pub fn put_full_shard(shard: u16, shards: &str, help: &mut Help) {
     ]);
 }
 
+/// What to do where the one shard of a watch is full.
+pub fn put_full_watch(help: &mut Help) {
+    help.say(&[
+        "scotty: a watch has one shard, and it would have more than 4194304 entries: ",
+        "watch the sources in parts, by their keys or times\n",
+    ]);
+}
+
 /// What to do where memory ran out.
 pub fn put_memory(help: &mut Help) {
     help.say(&[

@@ -13,13 +13,15 @@ mod file_words;
 mod help;
 mod lines;
 mod row_words;
+mod rule;
+mod slot;
 mod usage;
 
 pub use again::{Again, Look};
 pub use defs_words::put_defs;
 pub use file_words::{
-    put_file, put_full_report, put_full_shard, put_full_source, put_memory, put_unopened,
-    put_unread,
+    put_file, put_full_report, put_full_shard, put_full_source, put_full_watch, put_memory,
+    put_unopened, put_unread,
 };
 pub use help::Help;
 pub use lines::{line_from, start_of_line};

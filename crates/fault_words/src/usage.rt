@@ -1,90 +1,27 @@
 //! What the words of the command line are, and which of them is wrong.
 
 use crate::help::Help;
+use crate::slot::{CHECK, LAST, MADE, RUN, Slot, WATCH};
 
 /// What the commands are.
 const USAGE: &str = "\
 usage: bin/scotty COMMAND WORD..
   run DEFS SHARDS FEED SOURCE..        the report of 1 to 16 sources
   run2 DEFS SHARDS FEED SOURCE..       the same, with what stood before each update and retraction
+  watch DEFS READERS READS SOURCE..    the report of one shard, and what readers saw of it meanwhile
+  last N PERIOD FUNC LATENESS SHARDS SOURCE..
+                                       what the last N tuples of each key come to, period by period
   check DEFS SHARDS REPORT SOURCE..    whether a report is lawful, by the definitions and the sources
   made SEED ROWS SOURCES SHARDS FEED   a summary of records generated from a seed
 DEFS is a file of window definitions in TOML; each SOURCE is a file of records in CSV, t,TIME,VALUE,KEY.
 SHARDS is 1 to 16, and FEED is turns or mail: the report is lawful in the same way with any of them.
+READERS is 1 to 8, and each of them reads READS times, 0 to 1000, and once more at the end.
+N is 1 to 4194304, PERIOD 1 to 10^15, LATENESS 0 to 10^15, and FUNC one of count, sum, min, max, mean, first,
+last, rises and trace.
 bin/scotty --summary COMMAND .. says on standard error what a run came to, and --version what is run.
 for example: bin/scotty run examples/calls-per-minute.toml 1 turns examples/calls.csv
 README.md says what it is for, and docs/FORMATS.md what the files are.
 ";
-
-// What is allowed for a word.
-#[derive(Clone, Copy)]
-enum Rule {
-    Name,
-    Few,
-    Feed,
-    Seed,
-    Rows,
-}
-
-// A word of a command: what it is called, and what is allowed for it.
-#[derive(Clone, Copy)]
-struct Slot {
-    name: &'static str,
-    rule: Rule,
-}
-
-const RUN: [Slot; 3] = [
-    Slot {
-        name: "DEFS",
-        rule: Rule::Name,
-    },
-    Slot {
-        name: "SHARDS",
-        rule: Rule::Few,
-    },
-    Slot {
-        name: "FEED",
-        rule: Rule::Feed,
-    },
-];
-
-const CHECK: [Slot; 3] = [
-    Slot {
-        name: "DEFS",
-        rule: Rule::Name,
-    },
-    Slot {
-        name: "SHARDS",
-        rule: Rule::Few,
-    },
-    Slot {
-        name: "REPORT",
-        rule: Rule::Name,
-    },
-];
-
-const MADE: [Slot; 5] = [
-    Slot {
-        name: "SEED",
-        rule: Rule::Seed,
-    },
-    Slot {
-        name: "ROWS",
-        rule: Rule::Rows,
-    },
-    Slot {
-        name: "SOURCES",
-        rule: Rule::Few,
-    },
-    Slot {
-        name: "SHARDS",
-        rule: Rule::Few,
-    },
-    Slot {
-        name: "FEED",
-        rule: Rule::Feed,
-    },
-];
 
 /// What is wrong with words that are no command, and all commands where the words ask for help.
 pub fn put_usage(words: &[String], help: &mut Help) {
@@ -102,6 +39,8 @@ fn put_command(command: &str, rest: &[String], help: &mut Help) {
         ]),
         "run" | "run2" => put_reading(command, &RUN, rest, help),
         "check" => put_reading(command, &CHECK, rest, help),
+        "watch" => put_reading(command, &WATCH, rest, help),
+        "last" => put_reading(command, &LAST, rest, help),
         "made" => put_made(rest, help),
         _ => put_unknown(command, help),
     }
@@ -111,7 +50,7 @@ fn put_unknown(command: &str, help: &mut Help) {
     help.say(&["scotty: "]);
     help.quote(command.as_bytes());
     help.say(&[
-        " is no command: the commands are run, run2, check and made, and --help shows them\n",
+        " is no command: the commands are run, run2, check, made, watch and last, and --help shows them\n",
     ]);
 }
 
@@ -163,7 +102,7 @@ fn put_first_wrong(command: &str, slots: &[Slot], words: &[String], help: &mut H
                 return true;
             }
             Some(word) => {
-                if !fits(slot.rule, word.as_str()) {
+                if !slot.rule.fits(word.as_str()) {
                     put_wrong(command, slot, word.as_str(), help);
                     return true;
                 }
@@ -175,14 +114,14 @@ fn put_first_wrong(command: &str, slots: &[Slot], words: &[String], help: &mut H
 
 fn put_missing(command: &str, slot: Slot, help: &mut Help) {
     help.say(&["scotty: ", command, " needs "]);
-    help.say(&[slot.name, ": ", allowed(slot.rule)]);
+    help.say(&[slot.name, ": ", slot.rule.allowed()]);
     put_form(command, help);
 }
 
 fn put_wrong(command: &str, slot: Slot, word: &str, help: &mut Help) {
     help.say(&["scotty: "]);
     help.quote(word.as_bytes());
-    help.say(&[" is no ", slot.name, ": ", allowed(slot.rule)]);
+    help.say(&[" is no ", slot.name, ": ", slot.rule.allowed()]);
     put_form(command, help);
 }
 
@@ -191,44 +130,9 @@ fn put_form(command: &str, help: &mut Help) {
     let words = match command {
         "check" => " DEFS SHARDS REPORT SOURCE..",
         "made" => " SEED ROWS SOURCES SHARDS FEED",
+        "watch" => " DEFS READERS READS SOURCE..",
+        "last" => " N PERIOD FUNC LATENESS SHARDS SOURCE..",
         _ => " DEFS SHARDS FEED SOURCE..",
     };
     help.say(&[" (", command, words, ")\n"]);
-}
-
-fn allowed(rule: Rule) -> &'static str {
-    match rule {
-        Rule::Name => "it is the name of a file",
-        Rule::Few => "it is a number from 1 to 16, with no sign and no leading zero",
-        Rule::Feed => "it is turns, or mail",
-        Rule::Seed =>
-            "it is a number from 0 to 18446744073709551615, with no sign and no leading zero",
-        Rule::Rows => "it is a number from 1 to 1000000, with no sign and no leading zero",
-    }
-}
-
-fn fits(rule: Rule, word: &str) -> bool {
-    match rule {
-        Rule::Name => !word.is_empty(),
-        Rule::Few => is_within(word, 1, 16),
-        Rule::Feed => word == "turns" || word == "mail",
-        Rule::Seed => is_within(word, 0, u64::MAX),
-        Rule::Rows => is_within(word, 1, 1_000_000),
-    }
-}
-
-fn is_within(word: &str, least: u64, most: u64) -> bool {
-    match word.parse::<u64>() {
-        Ok(number) => is_plain(word.as_bytes()) && least <= number && number <= most,
-        Err(_) => false,
-    }
-}
-
-// Whether the digits of a number have no sign in front, and no zero but in 0.
-fn is_plain(word: &[u8]) -> bool {
-    match word {
-        [b'0'] => true,
-        [first, ..] => b'1' <= *first && *first <= b'9',
-        [] => false,
-    }
 }

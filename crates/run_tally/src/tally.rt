@@ -109,7 +109,7 @@ impl fmt::Display for Tally {
             let latest = all.latest;
             writeln!(
                 f,
-                "scotty: more than half was dropped as late: with lateness = {latest} or more in the definitions all would count"
+                "scotty: more than half was dropped as late: with a lateness of {latest} or more all would count"
             )?;
         }
         Ok(())

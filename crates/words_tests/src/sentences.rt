@@ -16,7 +16,7 @@ const FILES: [(&str, &str); 3] = [
 ];
 
 // Words, the line that is answered, and what is said of it.
-const SAID: [(&str, &str, &str); 13] = [
+const SAID: [(&str, &str, &str); 28] = [
     (
         "run d 1 turn s",
         "fault usage",
@@ -78,6 +78,81 @@ const SAID: [(&str, &str, &str); 13] = [
         "scotty: the report `r`, shard 0 has entries of more sources than were given: give those that the run had\n",
     ),
     ("run d 1 turns s", "shard 0", ""),
+    (
+        "rum d 1 turns s",
+        "fault usage",
+        "scotty: `rum` is no command: the commands are run, run2, check, made, watch and last, and --help shows them\n",
+    ),
+    (
+        "last 0 10 sum 0 1 s",
+        "fault usage",
+        "scotty: `0` is no N: it is a number from 1 to 4194304, with no sign and no leading zero (last N PERIOD FUNC LATENESS SHARDS SOURCE..)\n",
+    ),
+    (
+        "last 4194304 0 sum 0 1 s",
+        "fault usage",
+        "scotty: `0` is no PERIOD: it is a number from 1 to 10^15, in the time unit of the records, with no sign and no leading zero (last N PERIOD FUNC LATENESS SHARDS SOURCE..)\n",
+    ),
+    (
+        "last 3 1000000000000000 avg 0 1 s",
+        "fault usage",
+        "scotty: `avg` is no FUNC: it is one of count, sum, min, max, mean, first, last, rises and trace (last N PERIOD FUNC LATENESS SHARDS SOURCE..)\n",
+    ),
+    (
+        "last 3 10 trace 1000000000000001 1 s",
+        "fault usage",
+        "scotty: `1000000000000001` is no LATENESS: it is a number from 0 to 10^15, in the time unit of the records, with no sign and no leading zero (last N PERIOD FUNC LATENESS SHARDS SOURCE..)\n",
+    ),
+    (
+        "last 3 10 last 0 16",
+        "fault usage",
+        "scotty: last needs at least one SOURCE, behind the other words (last N PERIOD FUNC LATENESS SHARDS SOURCE..)\n",
+    ),
+    (
+        "last 3 10 sum 0 1 s x",
+        "fault open 1",
+        "scotty: the source `x` couldn't be opened: there is no such file\n",
+    ),
+    (
+        "last 3 10 sum 0 1 s",
+        "fault row 0 3 time",
+        "scotty: the source `s`, line 4 (record 3): `t,2024-05-01,5,a` is refused: TIME is 1 to 19 digits: `2024-05-01` has others; times are whole numbers, for example seconds since 1970\n",
+    ),
+    (
+        "last 3 10 sum 0 7 s",
+        "fault full shard 6",
+        "scotty: shard 6 would have more than 4194304 entries, with 7 as SHARDS: take more shards, up to 16, or run the sources in parts; a single key, and all watermarks, stay in one shard\n",
+    ),
+    (
+        "watch d 9 0 s",
+        "fault usage",
+        "scotty: `9` is no READERS: it is a number from 1 to 8, with no sign and no leading zero (watch DEFS READERS READS SOURCE..)\n",
+    ),
+    (
+        "watch d 1 1001 s",
+        "fault usage",
+        "scotty: `1001` is no READS: it is a number from 0 to 1000, with no sign and no leading zero (watch DEFS READERS READS SOURCE..)\n",
+    ),
+    (
+        "watch d 8 1000",
+        "fault usage",
+        "scotty: watch needs at least one SOURCE, behind the other words (watch DEFS READERS READS SOURCE..)\n",
+    ),
+    (
+        "watch d 1 0 x s",
+        "fault open 0",
+        "scotty: the source `x` couldn't be opened: there is no such file\n",
+    ),
+    (
+        "watch x 1 0 s",
+        "fault open defs",
+        "scotty: the definitions `x` couldn't be opened: there is no such file\n",
+    ),
+    (
+        "watch d 1 0 s",
+        "fault full shard 0",
+        "scotty: a watch has one shard, and it would have more than 4194304 entries: watch the sources in parts, by their keys or times\n",
+    ),
 ];
 
 #[test]
