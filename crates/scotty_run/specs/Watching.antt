@@ -31,9 +31,9 @@ pub record IsBoardOf (w : Watch) (d : Definitions) (sources : List (List Entry))
   pub text_is : text ≡ report_of report_1 d (length sources) (turns sources ∷ []) ++ reads_text (length d.windows) lists
 
 -- what was watched of these entries: they are no more than a journal holds, and stand in turn in the shard, of which readers have their reads
-pub record IsWatchedOf (w : Watch) (d : Definitions) (all : List (List Entry)) (watched : Watched) : Type 0 where
+pub record IsWatchedOf (readers reads : ℕ) (d : Definitions) (all : List (List Entry)) (watched : Watched) : Type 0 where
   pub few : entries_in all ≤ JOURNAL_MAX
-  pub is_watched : IsWatched d all w.readers w.reads watched.shard (map (λ v. v.items) watched.reads.items)
+  pub is_watched : IsWatched d all readers reads watched.shard (map (λ v. v.items) watched.reads.items)
 
 -- the entries of all sources are more than a journal holds, which is the fault of the one shard; or memory ran out
 abbrev pub IsFullBoard : List (List Entry) → Fault → Type 0
@@ -43,7 +43,7 @@ IsFullBoard all fault = ((fault ≡ FullShard 0) × (JOURNAL_MAX < entries_in al
 pub record IsWatchedIn (w : Watch) (d : Definitions) (opens : Opens) (watched : Watched) : Type 0 where
   pub all : List (List Entry)
   pub sources : AreAllRead w.sources d opens all
-  pub watched_of : IsWatchedOf w d all watched
+  pub watched_of : IsWatchedOf w.readers w.reads d all watched
 
 -- what was watched of the files of these words
 pub record IsWatchedOfFiles (w : Watch) (opens : Opens) (watched : Watched) : Type 0 where

@@ -1,10 +1,11 @@
 //! A live board over files: sources are read whole, and readers watch while their entries are applied.
-ghost use Rattle.std.specs.Prelude.{◌≡◌, ◌∷◌, length, IfOk, IfErr};
+ghost use Rattle.std.specs.Prelude.{◌∷◌, IfOk, IfErr};
 ghost use Rattle.emission_text.specs.Sending.{Writes};
+ghost use Rattle.live_board.specs.Watched.{MayWatch};
 ghost use Rattle.report_check.specs.Findings.{lists_of};
 ghost use Rattle.scotty_run.specs.Causes.{StopsAtSources};
 ghost use Rattle.scotty_run.specs.Outside.{Ends};
-ghost use Rattle.scotty_run.specs.Watching.{AreEntries, IsFullBoard, IsWatchedIn, IsWatchedOf, IsWatchedOfFiles, StopsAtWatch, watched_text};
+ghost use Rattle.scotty_run.specs.Watching.{IsFullBoard, IsWatchedIn, IsWatchedOf, IsWatchedOfFiles, StopsAtWatch, watched_text};
 
 use crate::definitions::read_definitions;
 use crate::reading::read_sources;
@@ -53,7 +54,9 @@ fn watch_sources<F: Files, G: Gate, R: Threads + Wait + Sync>(
 {
     match read_sources(alloc, command.sources, files, defs) {
         Err(fault) => Err(fault),
-        Ok(sources) => watch_read(alloc, rt, command, defs, &sources, gate),
+        Ok(sources) => {
+            watch_read(alloc, rt, defs, &sources, command.readers, command.reads, gate)
+        }
     }
 }
 
@@ -61,25 +64,17 @@ fn watch_sources<F: Files, G: Gate, R: Threads + Wait + Sync>(
 fn watch_read<G: Gate, R: Threads + Wait + Sync>(
     alloc: Global,
     rt: &R,
-    command: &WatchWords,
     defs: &Defs,
     sources: &[Vec<Entry>],
+    readers: u16,
+    reads: u32,
     gate: &G,
 ) -> Result<Watched, Fault>
-    requires entries { AreEntries (lists_of sources.now) }
-    requires many { length sources.now ≡ length command.now.sources }
-    ensures watched { IfOk result (IsWatchedOf command.now defs.now (lists_of sources.now)) }
+    requires may { MayWatch readers reads (lists_of sources.now) }
+    ensures watched { IfOk result (IsWatchedOf readers reads defs.now (lists_of sources.now)) }
     ensures full { IfErr result (IsFullBoard (lists_of sources.now)) }
 {
-    match watch_entries(
-        rt,
-        alloc,
-        defs,
-        sources,
-        command.readers,
-        command.reads,
-        gate,
-    ) {
+    match watch_entries(rt, alloc, defs, sources, readers, reads, gate) {
         Ok(watched) => Ok(watched),
         Err(WatchFault::Full) => Err(Fault::FullShard { shard: 0 }),
         Err(WatchFault::NoMemory) => Err(Fault::NoMemory),
