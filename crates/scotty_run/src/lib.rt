@@ -28,5 +28,6 @@ pub use status::{Status, status_of};
 pub use way::Way;
 pub use words::{
     CheckWords, MadeWords, RunWords, WatchWords, are_names, check_of,
-    commands_are_told_apart_by_their_words, is_name, made_of, number_within, run_of, says, watch_of,
+    commands_are_told_apart_by_their_words, is_name, made_of, number_within, run_of, says,
+    watch_of,
 };

@@ -55,7 +55,15 @@ fn watch_sources<F: Files, G: Gate, R: Threads + Wait + Sync>(
     match read_sources(alloc, command.sources, files, defs) {
         Err(fault) => Err(fault),
         Ok(sources) => {
-            watch_read(alloc, rt, defs, &sources, command.readers, command.reads, gate)
+            watch_read(
+                alloc,
+                rt,
+                defs,
+                &sources,
+                command.readers,
+                command.reads,
+                gate,
+            )
         }
     }
 }
