@@ -87,7 +87,7 @@ module _ (told : Telling) (run : Run) where
           all = h.all;
           sources = all_of_read told rest (well_behind told opens well (run.defs ∷ [])) run.sources h.d h.all h.sources;
           few = h.few;
-          report = h.report;
+          report = h.written;
         }
 
     module _ {K : Type 0} (taken : K → List ℕ) (faults : K → ℕ) (old new : K) (text : List ℕ) where

@@ -15,16 +15,16 @@ const FEW_LOOKS: u64 = 5_000_000;
 // and 1; and how often something went wrong: a hold that was left by the limit of looks, a turn that
 // came too early, a number that nobody has.
 #[derive(Drop)]
-struct Passes {
-    of_first: AtomicU64,
-    of_second: AtomicU64,
+pub struct Passes {
+    pub of_first: AtomicU64,
+    pub of_second: AtomicU64,
     at_first: AtomicU64,
     at_second: AtomicU64,
-    left: AtomicU64,
+    pub left: AtomicU64,
 }
 
 impl Passes {
-    fn new() -> Passes {
+    pub fn new() -> Passes {
         Passes {
             of_first: AtomicU64::new(0),
             of_second: AtomicU64::new(0),
@@ -35,7 +35,7 @@ impl Passes {
     }
 
     // Looks until the counter shows so many.
-    fn hold(&self, counter: &AtomicU64, wanted: u64) {
+    pub fn hold(&self, counter: &AtomicU64, wanted: u64) {
         for _ in 0..LOOKS {
             if counter.load(Ordering::SeqCst) >= wanted {
                 return;
@@ -75,12 +75,12 @@ impl Passes {
 }
 
 // How often it has passed.
-fn many(counter: &AtomicU64) -> u64 {
+pub fn many(counter: &AtomicU64) -> u64 {
     counter.load(Ordering::SeqCst)
 }
 
 // One more has passed; answers how many had before.
-fn count(counter: &AtomicU64) -> u64 {
+pub fn count(counter: &AtomicU64) -> u64 {
     counter.fetch_add(1, Ordering::SeqCst)
 }
 

@@ -7,6 +7,8 @@
 #[cfg(test)]
 mod base;
 #[cfg(test)]
+mod boards;
+#[cfg(test)]
 mod gates;
 #[cfg(test)]
 mod judged;

@@ -1,5 +1,5 @@
 -- The answer to a run, by what became of its files.
-use Rattle.std.proofs.Common.{◌≡◌, ◌∙◌, ◌<◌, ◌≤◌, ◌⊎◌, ℕ, List, [], ◌∷◌, All, length, map, get_or, ap, sym, subst, refl, arith, inl, inr}
+use Rattle.std.proofs.Common.{◌≡◌, ◌∙◌, ◌<◌, ◌≤◌, ℕ, List, [], ◌∷◌, All, length, map, get_or, ap, sym, subst, arith}
 use Rattle.std.proofs.lemmas.List.{get_or-map, length-map, get_or_default}
 use Rattle.std.proofs.lemmas.List.Elements.{All-map}
 use Rattle.stream_base.specs.Model.Journals.{AreEntriesWithin}
@@ -12,22 +12,14 @@ use Rattle.stream_base.specs.Model.Text.{report_of}
 use Rattle.report_laws.proofs.ReadBack.{journals_of-report_of}
 use Rattle.report_laws.proofs.ReadBackChanges.{report_1-told, report_2-told}
 use Rattle.shard_core.specs.Shard.{IsJournal, Sharded}
-use Rattle.window_defs.specs.declared.defs_fault.DefsFault.TheVariants.{Long, Toml, Shape, Limit, Many}
-use Rattle.window_defs.specs.declared.defs_fault.DefsFault.TheVariants.{NoMemory as NoRoom}
 use Rattle.emission_text.specs.Report.{form_of, report_text}
-use Rattle.emission_text.specs.Sending.{Appends, Fails}
 use Rattle.emission_text.specs.declared.report_form.ReportForm.{ReportForm}
 use Rattle.emission_text.specs.declared.report_form.ReportForm.TheVariants.{One, Two}
 use Rattle.emission_text.proofs.Reports.{report_text-alike}
-use Rattle.emission_text.specs.declared.fault.Fault.{Fault}
-use Rattle.emission_text.specs.declared.fault.Fault.TheVariants.{Usage, Defs, Unopened, Row, Read, FullSource, FullShard, ReportOpen, ReportRead, ReportFull, NoMemory}
-use Rattle.scotty_run.specs.Answer.{IsAnswer, IsReportOfFiles, IsStopped, Says}
-use Rattle.scotty_run.specs.Causes.{AreShardsOfFiles, StopsAtFiles, count_routed}
+use Rattle.scotty_run.specs.Answer.{IsReportOfFiles}
+use Rattle.scotty_run.specs.Causes.{AreShardsOfFiles, count_routed}
 use Rattle.scotty_run.specs.Outside.{Opens}
-use Rattle.scotty_run.specs.Statuses.{status_of}
 use Rattle.scotty_run.specs.Words.{Run}
-use Rattle.scotty_run.specs.declared.status.Status.{Status}
-use Rattle.scotty_run.specs.declared.status.Status.TheVariants as status
 use Rattle.scotty_run.proofs.Counting.{sum_within}
 
 -- ---- the report
@@ -63,7 +55,6 @@ few_routed shards vouched many all lawful k l =
     some_shard [] l = absurd (let no : ⊥ = omega (arith, l) in no)
     some_shard (x ∷ xs) l = x
 
--- the report of these shards may be that of the run
 -- the report of the shards of a run's files is one of what these gave
 pub text_is : (run : Run) (opens : Opens) (shards : List Sharded) → AreShardsOfFiles run opens shards → IsReportOfFiles run opens (report_text (form_of run.form) shards)
 text_is run opens shards files = record {
@@ -72,7 +63,7 @@ text_is run opens shards files = record {
   all = (files.filled).all;
   sources = (files.filled).sources;
   few = few_routed shards (files.filled).journals run.shards (files.filled).all (files.filled).lawful;
-  report = record {
+  written = record {
     report_is = alike ∙ ap (report_of (form_of run.form) files.d (length run.sources)) (sym read_back);
     lawful = subst (λ (js : List (List Entry)). IsLawful run.shards (files.filled).all js) (sym read_back) (files.filled).lawful;
   };
@@ -87,45 +78,3 @@ text_is run opens shards files = record {
     -- the journals that stand in the text are the shards'
     read_back : journals_of (report_text (form_of run.form) shards) ≡ journals
     read_back = ap journals_of alike ∙ journals_of-report_of (form_of run.form) files.d (length run.sources) journals (form_told run.form) (within shards (files.filled).few (files.filled).journals)
-
-no_usage : (run : Run) (opens : Opens) → StopsAtFiles run opens Usage → ⊥
-no_usage run opens (inl h) = h
-no_usage run opens (inr h) = h.cause
-
-module _ {K : Type 0} (taken : K → List ℕ) (faults : K → ℕ) (run : Run) (opens : Opens) (old new : K) where
-  Answered : Status → Type 0
-  Answered s = IsAnswer taken faults run opens old new s
-
-  stopped : (answered : Fault) (s : Status) → status_of answered ≡ s → StopsAtFiles run opens answered → Says taken faults answered old new
-      → IsStopped taken faults (StopsAtFiles run opens) s old new
-  stopped answered s is cause said = record { answered = answered; status_is = is; cause_is = cause; said = said }
-
-  -- a fault that stops the files of a run is its answer
-  pub stops : (f : Fault) → StopsAtFiles run opens f → Says taken faults f old new → IsAnswer taken faults run opens old new (status_of f)
-  stops Usage h said = absurd (no_usage run opens h)
-  stops (Defs Long) h said = stopped (Defs Long) status.BadDefs refl h said
-  stops (Defs Toml) h said = stopped (Defs Toml) status.BadDefs refl h said
-  stops (Defs (Shape w)) h said = stopped (Defs (Shape w)) status.BadDefs refl h said
-  stops (Defs (Limit w)) h said = stopped (Defs (Limit w)) status.BadDefs refl h said
-  stops (Defs Many) h said = stopped (Defs Many) status.BadDefs refl h said
-  stops (Defs NoRoom) h said = said
-  stops (Unopened place) h said = stopped (Unopened place) status.OpenFault refl h said
-  stops (Row s number why) h said = stopped (Row s number why) status.BadRow refl h said
-  stops (Read place) h said = stopped (Read place) status.ReadFault refl h said
-  stops (FullSource s) h said = stopped (FullSource s) status.Full refl h said
-  stops (FullShard k) h said = stopped (FullShard k) status.Full refl h said
-  stops ReportOpen h said = stopped ReportOpen status.OpenFault refl h said
-  stops ReportRead h said = stopped ReportRead status.ReadFault refl h said
-  stops ReportFull h said = stopped ReportFull status.Full refl h said
-  stops NoMemory h said = said
-
-  -- the report of the shards, written or cut off, is the answer
-  pub reports : (shards : List Sharded) → AreShardsOfFiles run opens shards → (s : Status) → (s ≡ status.Done) ⊎ (s ≡ status.WriteFault)
-      → (s ≡ status.Done → Appends taken faults (report_text (form_of run.form) shards) old new)
-      → (s ≡ status.WriteFault → Fails taken faults (report_text (form_of run.form) shards) old new)
-      → IsAnswer taken faults run opens old new s
-  unfolding Answered
-  reports shards files s (inl e) done failed =
-      subst Answered (sym e) record { text = report_text (form_of run.form) shards; text_is = text_is run opens shards files; went_out = done e }
-  reports shards files s (inr e) done failed =
-      subst Answered (sym e) record { text = report_text (form_of run.form) shards; text_is = text_is run opens shards files; failed = failed e }

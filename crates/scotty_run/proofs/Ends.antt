@@ -18,7 +18,7 @@ use Rattle.fan_in.specs.declared.outcome.Outcome.TheVariants.{Done, Fault, Full}
 use Rattle.fan_in.specs.Gathering.{AreFreshFeeds, AreGathered, Bears, HoldsPart, IsBack, IsFault, NamesOneOf}
 use Rattle.scotty_run.specs.Opening.{AreUnread, IsUnread}
 use Rattle.scotty_run.specs.Outside.{Asks, Opens, Telling, came_at}
-use Rattle.scotty_run.specs.Words.{AreFew, Run}
+use Rattle.scotty_run.specs.Words.{AreFew}
 use Rattle.scotty_run.proofs.Gathers.{IsGathering, Shows}
 use Rattle.scotty_run.proofs.Opened.{some_of}
 use Rattle.scotty_run.proofs.SameFeed.{faults_before, place_stays, seen_as, word_stays}
@@ -76,47 +76,47 @@ module _ {S : Type 0} (reads : S → Reads) (word : S → Option (List ℕ)) (d 
           refused None x = tt
           refused (Some refusal) x = (now.gave, seen (Some (given_then now.gave (Some refusal))) x)
 
-module _ {S : Type 0} (reads : S → Reads) (word : S → Option (List ℕ)) (base : ℕ) (told : Telling) (run : Run) (d : Definitions) (feeds : List (FileFeedState S)) (ends : List (FeedEnd (FileFeedState S))) (shards : List Sharded)
-    (unread : AreUnread reads word base told run.sources d feeds)
-    (limits : AreFew (length run.sources) run.shards)
-    (one_each : length feeds ≡ length run.sources)
-    (were : AreGathered (feed_view reads word) (λ f. (reads f.from).faults) d (length run.sources) run.shards feeds shards ends) where
-  feed_at : (i : ℕ) → i < length run.sources → FileFeedState S
+module _ {S : Type 0} (reads : S → Reads) (word : S → Option (List ℕ)) (base : ℕ) (told : Telling) (names : List (List ℕ)) (total : ℕ) (d : Definitions) (feeds : List (FileFeedState S)) (ends : List (FeedEnd (FileFeedState S))) (shards : List Sharded)
+    (unread : AreUnread reads word base told names d feeds)
+    (limits : AreFew (length names) total)
+    (one_each : length feeds ≡ length names)
+    (were : AreGathered (feed_view reads word) (λ f. (reads f.from).faults) d (length names) total feeds shards ends) where
+  feed_at : (i : ℕ) → i < length names → FileFeedState S
   feed_at i l = some_of feeds i (omega (arith, l, one_each))
 
-  pub end_at : (i : ℕ) → i < length run.sources → FeedEnd (FileFeedState S)
+  pub end_at : (i : ℕ) → i < length names → FeedEnd (FileFeedState S)
   end_at i l = some_of ends i (let n = were.many_ends in omega (arith, l, n))
 
-  outcome_at : (i : ℕ) (e : FeedEnd (FileFeedState S)) → i < length run.sources → (get_or ends i e).outcome ≡ get_or (map (λ x. x.outcome) ends) i Done
+  outcome_at : (i : ℕ) (e : FeedEnd (FileFeedState S)) → i < length names → (get_or ends i e).outcome ≡ get_or (map (λ x. x.outcome) ends) i Done
   outcome_at i e l =
       let inside : i < length ends = let n = were.many_ends in omega (arith, l, n) in
       let below : i < length (map (λ (x : FeedEnd (FileFeedState S)). x.outcome) ends) = let n = length-map ends (λ (x : FeedEnd (FileFeedState S)). x.outcome) in omega (arith, inside, n) in
       sym (get_or-map (λ (x : FeedEnd (FileFeedState S)). x.outcome) ends i e e.outcome inside) ∙ get_or_default (map (λ (x : FeedEnd (FileFeedState S)). x.outcome) ends) i e.outcome Done below
 
-  gave_at : (i : ℕ) (e : FeedEnd (FileFeedState S)) → i < length run.sources → (get_or ends i e).feed.gave ≡ get_or (map (λ x. x.feed.gave) ends) i []
+  gave_at : (i : ℕ) (e : FeedEnd (FileFeedState S)) → i < length names → (get_or ends i e).feed.gave ≡ get_or (map (λ x. x.feed.gave) ends) i []
   gave_at i e l =
       let inside : i < length ends = let n = were.many_ends in omega (arith, l, n) in
       let below : i < length (map (λ (x : FeedEnd (FileFeedState S)). x.feed.gave) ends) = let n = length-map ends (λ (x : FeedEnd (FileFeedState S)). x.feed.gave) in omega (arith, inside, n) in
       sym (get_or-map (λ (x : FeedEnd (FileFeedState S)). x.feed.gave) ends i e e.feed.gave inside) ∙ get_or_default (map (λ (x : FeedEnd (FileFeedState S)). x.feed.gave) ends) i e.feed.gave [] below
 
-  unread_at : (i : ℕ) (l : i < length run.sources) → IsUnread reads word (base + i) (told (get_or run.sources i [])) i d (get_or feeds i (feed_at i l))
+  unread_at : (i : ℕ) (l : i < length names) → IsUnread reads word (base + i) (told (get_or names i [])) i d (get_or feeds i (feed_at i l))
   unread_at i l = unread i (feed_at i l) (omega (arith, l, one_each))
 
   -- each came from the open of its place
-  pub place_at : (i : ℕ) (e : FeedEnd (FileFeedState S)) → i < length run.sources → (reads (get_or ends i e).feed.from).place ≡ base + i
+  pub place_at : (i : ℕ) (e : FeedEnd (FileFeedState S)) → i < length names → (reads (get_or ends i e).feed.from).place ≡ base + i
   place_at i e l =
       let b = were.back i (feed_at i l) e l in
-      place_stays reads word d (base + i) i (told (get_or run.sources i [])) (get_or feeds i (feed_at i l)) (get_or ends i e).feed (unread_at i l) b.of_source b.origin
+      place_stays reads word d (base + i) i (told (get_or names i [])) (get_or feeds i (feed_at i l)) (get_or ends i e).feed (unread_at i l) b.of_source b.origin
 
   -- and tells what its file does
-  pub tells_at : (i : ℕ) (e : FeedEnd (FileFeedState S)) → i < length run.sources → word (get_or ends i e).feed.from ≡ told (get_or run.sources i [])
+  pub tells_at : (i : ℕ) (e : FeedEnd (FileFeedState S)) → i < length names → word (get_or ends i e).feed.from ≡ told (get_or names i [])
   tells_at i e l =
       let b = were.back i (feed_at i l) e l in
-      word_stays reads word d (base + i) i (told (get_or run.sources i [])) (get_or feeds i (feed_at i l)) (get_or ends i e).feed (unread_at i l) b.of_source b.origin
+      word_stays reads word d (base + i) i (told (get_or names i [])) (get_or feeds i (feed_at i l)) (get_or ends i e).feed (unread_at i l) b.of_source b.origin
 
-  pub gathering : (opens : Opens) → Asks run.sources opens → length opens.before ≡ base
-      → ((i : ℕ) (e : FeedEnd (FileFeedState S)) → i < length run.sources → came_at opens i ≡ back (reads (get_or ends i e).feed.from))
-      → IsGathering run d opens (map (λ e. e.outcome) ends) (map (λ e. e.feed.gave) ends) shards
+  pub gathering : (opens : Opens) → Asks names opens → length opens.before ≡ base
+      → ((i : ℕ) (e : FeedEnd (FileFeedState S)) → i < length names → came_at opens i ≡ back (reads (get_or ends i e).feed.from))
+      → IsGathering names total d opens (map (λ e. e.outcome) ends) (map (λ e. e.feed.gave) ends) shards
   gathering opens asked first came = record {
     asked = asked;
     many = length-map ends (λ e. e.outcome) ∙ were.many_ends;
@@ -127,13 +127,13 @@ module _ {S : Type 0} (reads : S → Reads) (word : S → Option (List ℕ)) (ba
         let e = end_at i l in
         subst (Shows d opens i (get_or (map (λ x. x.feed.gave) ends) i [])) (outcome_at i e l)
         (subst (λ (es : List Entry). Shows d opens i es (get_or ends i e).outcome) (gave_at i e l)
-        (shows reads word d base i (told (get_or run.sources i [])) (get_or feeds i (feed_at i l)) (get_or ends i e).feed (get_or ends i e).outcome (unread_at i l) (were.back i (feed_at i l) e l) opens first (came i e l)));
-    named = λ i l. let e = end_at i l in subst (NamesOneOf run.shards) (outcome_at i e l) (were.named i e l);
+        (shows reads word d base i (told (get_or names i [])) (get_or feeds i (feed_at i l)) (get_or ends i e).feed (get_or ends i e).outcome (unread_at i l) (were.back i (feed_at i l) e l) opens first (came i e l)));
+    named = λ i l. let e = end_at i l in subst (NamesOneOf total) (outcome_at i e l) (were.named i e l);
     count = were.many_shards;
     none = λ empty i l. let e = end_at i l in subst IsFault (outcome_at i e l) (were.none empty i e l);
     alike = were.alike;
     parts = λ k i s m l.
         let e = end_at i l in
-        subst (λ (o : Outcome). HoldsPart run.shards k i (get_or (map (λ x. x.feed.gave) ends) i []) o (get_or shards k s).journal) (outcome_at i e l)
-        (subst (λ (es : List Entry). HoldsPart run.shards k i es (get_or ends i e).outcome (get_or shards k s).journal) (gave_at i e l) (were.parts k i s e m l));
+        subst (λ (o : Outcome). HoldsPart total k i (get_or (map (λ x. x.feed.gave) ends) i []) o (get_or shards k s).journal) (outcome_at i e l)
+        (subst (λ (es : List Entry). HoldsPart total k i es (get_or ends i e).outcome (get_or shards k s).journal) (gave_at i e l) (were.parts k i s e m l));
   }

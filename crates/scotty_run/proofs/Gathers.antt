@@ -16,7 +16,6 @@ use Rattle.fan_in.specs.Gathering.{HoldsPart, IsFault, IsGathered, NamesOneOf}
 use Rattle.scotty_run.specs.Causes.{AreAllRead, AreShardsOf, IsOverfull, IsSourceRead, StopsAtSources, count_routed}
 use Rattle.scotty_run.specs.Outside.{Asks, Opens}
 use Rattle.scotty_run.specs.Settling.{IsTrouble, fault_of}
-use Rattle.scotty_run.specs.Words.{Run}
 use Rattle.scotty_run.proofs.Counting.{sum_beyond}
 use Rattle.scotty_run.proofs.Shown.{ShowsFault}
 
@@ -27,19 +26,19 @@ Shows d opens i entries (Full k) = IsSourceRead opens d i entries
 Shows d opens i entries (Failed fault) = ShowsFault d opens i fault
 
 -- what the gathering of a run's sources came to
-pub record IsGathering (run : Run) (d : Definitions) (opens : Opens) (outcomes : List Outcome) (gave : List (List Entry)) (shards : List Sharded) : Type 0 where
-  pub asked : Asks run.sources opens
-  pub many : length outcomes ≡ length run.sources
-  pub many_gave : length gave ≡ length run.sources
-  pub some : 1 ≤ length run.sources
-  pub few : run.shards ≤ 16
-  pub shows : (i : ℕ) → i < length run.sources → Shows d opens i (get_or gave i []) (get_or outcomes i Done)
-  pub named : (i : ℕ) → i < length run.sources → NamesOneOf run.shards (get_or outcomes i Done)
-  pub count : (shards ≡ []) ⊎ (length shards ≡ run.shards)
-  pub none : shards ≡ [] → (i : ℕ) → i < length run.sources → IsFault (get_or outcomes i Done)
-  pub alike : (k : ℕ) (s : Sharded) → k < length shards → IsGathered d (length run.sources) (get_or shards k s)
-  pub parts : (k i : ℕ) (s : Sharded) → k < length shards → i < length run.sources
-      → HoldsPart run.shards k i (get_or gave i []) (get_or outcomes i Done) (get_or shards k s).journal
+pub record IsGathering (names : List (List ℕ)) (total : ℕ) (d : Definitions) (opens : Opens) (outcomes : List Outcome) (gave : List (List Entry)) (shards : List Sharded) : Type 0 where
+  pub asked : Asks names opens
+  pub many : length outcomes ≡ length names
+  pub many_gave : length gave ≡ length names
+  pub some : 1 ≤ length names
+  pub few : total ≤ 16
+  pub shows : (i : ℕ) → i < length names → Shows d opens i (get_or gave i []) (get_or outcomes i Done)
+  pub named : (i : ℕ) → i < length names → NamesOneOf total (get_or outcomes i Done)
+  pub count : (shards ≡ []) ⊎ (length shards ≡ total)
+  pub none : shards ≡ [] → (i : ℕ) → i < length names → IsFault (get_or outcomes i Done)
+  pub alike : (k : ℕ) (s : Sharded) → k < length shards → IsGathered d (length names) (get_or shards k s)
+  pub parts : (k i : ℕ) (s : Sharded) → k < length shards → i < length names
+      → HoldsPart total k i (get_or gave i []) (get_or outcomes i Done) (get_or shards k s).journal
 
 -- an outcome that isn't a fault shows that its source was read whole
 read_by : (d : Definitions) (opens : Opens) (i : ℕ) (entries : List Entry) (o : Outcome) → ¬ (IsFault o) → Shows d opens i entries o → IsSourceRead opens d i entries
@@ -54,19 +53,19 @@ some_shard : (k : ℕ) (xs : List Sharded) → k < length xs → Sharded
 some_shard k [] l = absurd (let no : ⊥ = omega (arith, l) in no)
 some_shard k (x ∷ xs) l = x
 
-module _ (run : Run) (d : Definitions) (opens : Opens) (outcomes : List Outcome) (gave : List (List Entry)) (shards : List Sharded) (g : IsGathering run d opens outcomes gave shards) where
-  source_read : (i : ℕ) → i < length run.sources → ¬ (IsFault (get_or outcomes i Done)) → IsSourceRead opens d i (get_or gave i [])
+module _ (names : List (List ℕ)) (total : ℕ) (d : Definitions) (opens : Opens) (outcomes : List Outcome) (gave : List (List Entry)) (shards : List Sharded) (g : IsGathering names total d opens outcomes gave shards) where
+  source_read : (i : ℕ) → i < length names → ¬ (IsFault (get_or outcomes i Done)) → IsSourceRead opens d i (get_or gave i [])
   source_read i l none = read_by d opens i (get_or gave i []) (get_or outcomes i Done) none (g.shows i l)
 
   -- where no outcome is a fault, all sources were read whole
-  all_read : ((i : ℕ) → i < length run.sources → ¬ (IsFault (get_or outcomes i Done))) → AreAllRead run.sources d opens gave
+  all_read : ((i : ℕ) → i < length names → ¬ (IsFault (get_or outcomes i Done))) → AreAllRead names d opens gave
   all_read none = record { asked = g.asked; many = g.many_gave; each = λ i l. source_read i l (none i l) }
 
   -- and all shards came back
-  all_back : (i : ℕ) → i < length run.sources → ¬ (IsFault (get_or outcomes i Done)) → length shards ≡ run.shards
+  all_back : (i : ℕ) → i < length names → ¬ (IsFault (get_or outcomes i Done)) → length shards ≡ total
   all_back i l none = by g.count
     where
-      by : (shards ≡ []) ⊎ (length shards ≡ run.shards) → length shards ≡ run.shards
+      by : (shards ≡ []) ⊎ (length shards ≡ total) → length shards ≡ total
       by (inl empty) = absurd (none (g.none empty i l))
       by (inr all) = all
 
@@ -80,7 +79,7 @@ module _ (run : Run) (d : Definitions) (opens : Opens) (outcomes : List Outcome)
       get_or_default (map (λ (x : Sharded). x.journal) shards) k [] s.journal below ∙ get_or-map (λ (x : Sharded). x.journal) shards k s s.journal l
 
   -- the shards of a run whose outcomes are all done
-  pub shards_of : All (λ o. o ≡ Done) outcomes → AreShardsOf run d opens shards
+  pub shards_of : All (λ o. o ≡ Done) outcomes → AreShardsOf names total d opens shards
   unfolding journals
   shards_of done = record {
     all = gave;
@@ -95,13 +94,13 @@ module _ (run : Run) (d : Definitions) (opens : Opens) (outcomes : List Outcome)
     journals = λ k s l. let a = g.alike k s l in subst (λ n. IsJournal n (get_or shards k s).journal) (sym a.sources_are) a.journal;
   }
     where
-      is_done : (i : ℕ) → i < length run.sources → get_or outcomes i Done ≡ Done
+      is_done : (i : ℕ) → i < length names → get_or outcomes i Done ≡ Done
       is_done i l = done i Done (let m = g.many in omega (arith, l, m))
 
-      back : length shards ≡ run.shards
+      back : length shards ≡ total
       back = let some = g.some in all_back 0 (omega (arith, some)) (no_fault_done (get_or outcomes 0 Done) (is_done 0 (omega (arith, some))))
 
-      count : length journals ≡ run.shards
+      count : length journals ≡ total
       count = length-map shards (λ s. s.journal) ∙ back
 
       inside : (k : ℕ) → k < length journals → k < length shards
@@ -112,21 +111,21 @@ module _ (run : Run) (d : Definitions) (opens : Opens) (outcomes : List Outcome)
           let l2 = inside k l in
           let s = some_shard k shards l2 in
           let at = journal_at k s l2 in
-          let below = subst (λ (j : List Entry). All (λ x. x.source < length run.sources) j) (sym at) (((g.alike k s l2).journal).known).known_sources in
-          let b : (get_or (get_or journals k []) i e).source < length run.sources = below i e m in
+          let below = subst (λ (j : List Entry). All (λ x. x.source < length names) j) (sym at) (((g.alike k s l2).journal).known).known_sources in
+          let b : (get_or (get_or journals k []) i e).source < length names = below i e m in
           let many = g.many_gave in
           omega (arith, b, many)
 
-      held : (k s : ℕ) → k < length journals → s < length gave → entries_from s (get_or journals k []) ≡ routed run.shards k (get_or gave s [])
+      held : (k s : ℕ) → k < length journals → s < length gave → entries_from s (get_or journals k []) ≡ routed total k (get_or gave s [])
       held k i l m =
           let l2 = inside k l in
           let s = some_shard k shards l2 in
           let n = g.many_gave in
-          let li : i < length run.sources = omega (arith, m, n) in
+          let li : i < length names = omega (arith, m, n) in
           ap (entries_from i) (journal_at k s l2) ∙ (g.parts k i s l2 li).whole (is_done i li)
 
   -- a shard that an outcome names as full, where none is a fault
-  overfull : (i k : ℕ) → i < length run.sources → get_or outcomes i Done ≡ Full k → ((j : ℕ) → j < length run.sources → ¬ (IsFault (get_or outcomes j Done))) → IsOverfull run.sources run.shards d opens k
+  overfull : (i k : ℕ) → i < length names → get_or outcomes i Done ≡ Full k → ((j : ℕ) → j < length names → ¬ (IsFault (get_or outcomes j Done))) → IsOverfull names total d opens k
   overfull i k l is none = record {
     inside = below;
     all = gave;
@@ -134,32 +133,32 @@ module _ (run : Run) (d : Definitions) (opens : Opens) (outcomes : List Outcome)
     many = many;
   }
     where
-      below : k < run.shards
-      below = subst (NamesOneOf run.shards) is (g.named i l)
+      below : k < total
+      below = subst (NamesOneOf total) is (g.named i l)
 
       there : k < length shards
       there = let n = all_back i l (none i l) in omega (arith, below, n)
 
-      many : JOURNAL_MAX < count_routed run.shards gave k
+      many : JOURNAL_MAX < count_routed total gave k
       many =
           let s = some_shard k shards there in
           let journal = (get_or shards k s).journal in
           let n = g.many_gave in
           let mine = g.parts k i s there l in
           let full : length journal ≡ JOURNAL_MAX = mine.full is in
-          let lacks : length (entries_from i journal) < length (routed run.shards k (get_or gave i [])) = mine.lacks is in
-          let each : (j : ℕ) → j < length gave → length (entries_from j journal) ≤ length (routed run.shards k (get_or gave j [])) =
+          let lacks : length (entries_from i journal) < length (routed total k (get_or gave i [])) = mine.lacks is in
+          let each : (j : ℕ) → j < length gave → length (entries_from j journal) ≤ length (routed total k (get_or gave j [])) =
           λ j m.
           let prefix = (g.parts k j s there (omega (arith, m, n))).prefix in
           let sizes = ap length prefix.1 in
           omega (arith, sizes, length-append (entries_from j journal) prefix.0) in
           let known = subst (λ (x : ℕ). All (λ e. e.source < x) journal) (sym n) (((g.alike k s there).journal).known).known_sources in
-          let beyond = sum_beyond (λ es. length (routed run.shards k es)) journal gave i known each (omega (arith, l, n)) lacks in
+          let beyond = sum_beyond (λ es. length (routed total k es)) journal gave i known each (omega (arith, l, n)) lacks in
           omega (arith, full, beyond)
 
   -- the fault of the first source that has one stops the run
-  first_fault : (source : ℕ) → source < length run.sources → (cause : FeedFault) → get_or outcomes source Done ≡ Failed cause → ((i : ℕ) → i < source → ¬ (IsFault (get_or outcomes i Done)))
-      → StopsAtSources run.sources run.shards d opens (fault_of source cause)
+  first_fault : (source : ℕ) → source < length names → (cause : FeedFault) → get_or outcomes source Done ≡ Failed cause → ((i : ℕ) → i < source → ¬ (IsFault (get_or outcomes i Done)))
+      → StopsAtSources names total d opens (fault_of source cause)
   first_fault source l cause is none = by cause (shown cause (subst (Shows d opens source (get_or gave source [])) is (g.shows source l)))
     where
       below : (i : ℕ) → i < source → (entries : List Entry) × IsSourceRead opens d i entries
@@ -168,24 +167,24 @@ module _ (run : Run) (d : Definitions) (opens : Opens) (outcomes : List Outcome)
       shown : (f : FeedFault) → Shows d opens source (get_or gave source []) (Failed f) → ShowsFault d opens source f
       shown f h = h
 
-      by : (f : FeedFault) → ShowsFault d opens source f → StopsAtSources run.sources run.shards d opens (fault_of source f)
+      by : (f : FeedFault) → ShowsFault d opens source f → StopsAtSources names total d opens (fault_of source f)
       by FeedRead h = record { inside = l; asked = g.asked; below = below; read = h }
       by FeedTooLong h = record { inside = l; asked = g.asked; below = below; read = h }
       by (FeedRow number why) h = record { inside = l; asked = g.asked; below = below; read = h }
       by FeedMemory h = tt
 
   -- what the outcomes are answered with stops the run
-  pub stops_at : (fault : Fault) → IsTrouble outcomes fault → StopsAtSources run.sources run.shards d opens fault
+  pub stops_at : (fault : Fault) → IsTrouble outcomes fault → StopsAtSources names total d opens fault
   stops_at fault (inl h) =
       let many = g.many in
       let inside = h.inside in
-      let l : h.source < length run.sources = omega (arith, inside, many) in
-      subst (StopsAtSources run.sources run.shards d opens) (sym h.answered)
+      let l : h.source < length names = omega (arith, inside, many) in
+      subst (StopsAtSources names total d opens) (sym h.answered)
       (first_fault h.source l h.cause (h.met Done) (λ i b. h.below i Done b))
   stops_at fault (inr h) =
       let many = g.many in
       let (i, l, is) = h.least.0 in
-      let li : i < length run.sources = omega (arith, l, many) in
+      let li : i < length names = omega (arith, l, many) in
       let at : get_or outcomes i Done ≡ Full h.shard = get_or_default outcomes i Done (Full h.shard) l ∙ is in
-      subst (StopsAtSources run.sources run.shards d opens) (sym h.answered)
+      subst (StopsAtSources names total d opens) (sym h.answered)
       (overfull i h.shard li at (λ j m. h.no_faults j Done (omega (arith, m, many))))

@@ -42,5 +42,5 @@ of_told told run opens text tell over files = record {
       let own = (files.sources).each i l in
       let at : length opens.before + suc i ≡ length (opens.before ++ run.defs ∷ []) + i = let n = length-append opens.before (run.defs ∷ []) in omega (arith, n) in
       tells_at told run opens (files.sources).asked tell over (suc i) (length (opens.before ++ run.defs ∷ []) + i) own.bytes _ (omega (arith, l)) at own.whole own.spelled;
-  report = files.report;
+  report = files.written;
 }

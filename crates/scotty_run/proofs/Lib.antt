@@ -12,6 +12,9 @@ pub mod Ends
 pub mod Endings
 pub mod Makings
 pub mod Answering
+pub mod Jobs
 pub mod Draining
+pub mod EntryFacts
 pub mod Checking
 pub mod InMemory
+pub mod Boards

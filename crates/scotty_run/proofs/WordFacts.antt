@@ -12,7 +12,7 @@ use Rattle.emission_text.specs.declared.report_form.ReportForm.TheVariants.{One,
 use Rattle.scotty_run.specs.declared.way.Way.{Way}
 use Rattle.scotty_run.specs.declared.way.Way.TheVariants.{Turns, Mail}
 use Rattle.std.specs.Prelude.{◌⊎◌}
-use Rattle.scotty_run.specs.Words.{Check, Made, Run, IsCheck, IsCheckOf, IsMade, IsMadeOf, IsName, IsNumberWithin, IsRun, IsRunOf, run_word, way_word}
+use Rattle.scotty_run.specs.Words.{Check, Made, Run, Watch, IsCheck, IsCheckOf, IsMade, IsMadeOf, IsName, IsNumberWithin, IsRun, IsRunOf, IsWatch, IsWatchOf, run_word, way_word}
 
 -- a number that is written within the bounds is what `parse` returns
 pub reads_within : {E : Type 0} (least most : ℕ) (word : List ℕ) (r : Result ℕ E) → most < 2 ^ 64 → ParsesUnsigned 64 10 word r → IsNumberWithin least most word → (n : ℕ) × (r ≡ Ok n) × (least ≤ n) × (n ≤ most) × (word ≡ decimal n)
@@ -111,17 +111,6 @@ one_made words m other first second =
     let way : m.way ≡ other.way = way_told m.way other.way cc in
     λ i. record { seed = seed i; rows = rows i; sources = sources i; shards = shards i; way = way i }
 
--- no run is a made run
-run_not_made : (form : ReportForm) → run_word form ≡ codes "made" → ⊥
-run_not_made One h = let first : 114 ≡ 109 = ap (λ (w : List ℕ). get_or w 0 0) h in omega (arith, first)
-run_not_made Two h = let first : 114 ≡ 109 = ap (λ (w : List ℕ). get_or w 0 0) h in omega (arith, first)
-
-pub runs_are_not_made : (words : List (List ℕ)) → IsRun words → IsMade words → ⊥
-runs_are_not_made words (run, is) (m, made) =
-    let one = is.spelled in
-    let two = made.spelled in
-    run_not_made run.form cc
-
 -- words are those of one check at most
 pub one_check : (words : List (List ℕ)) (c other : Check) → IsCheckOf words c → IsCheckOf words other → c ≡ other
 one_check words c other first second =
@@ -135,20 +124,53 @@ one_check words c other first second =
     let sources : c.sources ≡ other.sources = cc in
     λ i. record { defs = defs i; shards = shards i; report = report i; sources = sources i }
 
--- no check is a run, or a made run
-run_not_check : (form : ReportForm) → run_word form ≡ codes "check" → ⊥
-run_not_check One h = let first : 114 ≡ 99 = ap (λ (w : List ℕ). get_or w 0 0) h in omega (arith, first)
-run_not_check Two h = let first : 114 ≡ 99 = ap (λ (w : List ℕ). get_or w 0 0) h in omega (arith, first)
+-- words are those of one live board at most
+pub one_watch : (words : List (List ℕ)) (w other : Watch) → IsWatchOf words w → IsWatchOf words other → w ≡ other
+one_watch words w other first second =
+    let one = first.spelled in
+    let two = second.spelled in
+    let few = first.few_readers in
+    let many = second.few_readers in
+    let low = first.few_reads in
+    let high = second.few_reads in
+    let readers : w.readers ≡ other.readers = decimal_injective w.readers other.readers (omega arith) (omega arith) cc in
+    let reads : w.reads ≡ other.reads = decimal_injective w.reads other.reads (omega arith) (omega arith) cc in
+    let defs : w.defs ≡ other.defs = cc in
+    let sources : w.sources ≡ other.sources = cc in
+    λ i. record { defs = defs i; readers = readers i; reads = reads i; sources = sources i }
 
-made_not_check : codes "made" ≡ codes "check" → ⊥
-made_not_check h = let first : 109 ≡ 99 = ap (λ (w : List ℕ). get_or w 0 0) h in omega (arith, first)
+-- ---- commands are told apart by the first letter of their first word
+letter_of : List (List ℕ) → ℕ
+letter_of words = get_or (get_or words 0 []) 0 0
+
+run_letter : (words : List (List ℕ)) → IsRun words → letter_of words ≡ 114
+unfolding letter_of
+run_letter words (run, is) = ap (λ (ws : List (List ℕ)). get_or (get_or ws 0 []) 0 0) is.spelled ∙ at run.form
+  where
+    at : (form : ReportForm) → get_or (run_word form) 0 0 ≡ 114
+    at One = refl
+    at Two = refl
+
+made_letter : (words : List (List ℕ)) → IsMade words → letter_of words ≡ 109
+unfolding letter_of
+made_letter words (m, is) = ap (λ (ws : List (List ℕ)). get_or (get_or ws 0 []) 0 0) is.spelled
+
+check_letter : (words : List (List ℕ)) → IsCheck words → letter_of words ≡ 99
+unfolding letter_of
+check_letter words (c, is) = ap (λ (ws : List (List ℕ)). get_or (get_or ws 0 []) 0 0) is.spelled
+
+watch_letter : (words : List (List ℕ)) → IsWatch words → letter_of words ≡ 119
+unfolding letter_of
+watch_letter words (w, is) = ap (λ (ws : List (List ℕ)). get_or (get_or ws 0 []) 0 0) is.spelled
+
+pub runs_are_not_made : (words : List (List ℕ)) → IsRun words → IsMade words → ⊥
+runs_are_not_made words is other = omega (arith, run_letter words is, made_letter words other)
 
 pub checks_are_no_others : (words : List (List ℕ)) → IsCheck words → IsRun words ⊎ IsMade words → ⊥
-checks_are_no_others words (c, is) (inl (run, other)) =
-    let one = is.spelled in
-    let two = other.spelled in
-    run_not_check run.form cc
-checks_are_no_others words (c, is) (inr (m, other)) =
-    let one = is.spelled in
-    let two = other.spelled in
-    made_not_check cc
+checks_are_no_others words is (inl other) = omega (arith, check_letter words is, run_letter words other)
+checks_are_no_others words is (inr other) = omega (arith, check_letter words is, made_letter words other)
+
+pub watches_are_no_others : (words : List (List ℕ)) → IsWatch words → IsRun words ⊎ IsMade words ⊎ IsCheck words → ⊥
+watches_are_no_others words is (inl other) = omega (arith, watch_letter words is, run_letter words other)
+watches_are_no_others words is (inr (inl other)) = omega (arith, watch_letter words is, made_letter words other)
+watches_are_no_others words is (inr (inr other)) = omega (arith, watch_letter words is, check_letter words other)

@@ -1,5 +1,5 @@
 -- The answer to a command: its status, and what was written.
-use Rattle.std.specs.Prelude.{◌≡◌, ◌≤◌, ◌<◌, ◌⊎◌, ◌∷◌, ℕ, List, [], length}
+use Rattle.std.specs.Prelude.{◌≡◌, ◌≤◌, ◌<◌, ◌⊎◌, ℕ, List, length}
 use Rattle.stream_base.specs.Limits.{Definitions}
 use Rattle.stream_base.specs.declared.entry.Entry.{Entry}
 use Rattle.stream_base.specs.declared.limits.TheConstants.{JOURNAL_MAX}
@@ -15,7 +15,8 @@ use Rattle.emission_text.specs.Report.{form_of}
 use Rattle.emission_text.specs.Sending.{Appends, Fails}
 use Rattle.emission_text.specs.declared.fault.Fault.{Fault}
 use Rattle.emission_text.specs.declared.fault.Fault.TheVariants as stop
-use Rattle.scotty_run.specs.Causes.{AreAllRead, AreDefinitionsRead, StopsAtFiles, count_routed}
+use Rattle.scotty_run.specs.Causes.{AreAllRead, AreDefinitionsOf, StopsAtJob, count_routed}
+use Rattle.scotty_run.specs.Jobs.{Job, files_of_defs, job_of_run}
 use Rattle.scotty_run.specs.Judging.{IsFindingOfFiles, StopsAtCheck}
 use Rattle.scotty_run.specs.Outside.{Opens, behind}
 use Rattle.scotty_run.specs.Statuses.{finding_status, status_of}
@@ -28,14 +29,18 @@ pub record IsReportOf (run : Run) (d : Definitions) (sources : List (List Entry)
   pub report_is : text ≡ report_of (form_of run.form) d (length run.sources) (journals_of text)
   pub lawful : IsLawful run.shards sources (journals_of text)
 
--- the text is a report of what the files gave: the definitions and all sources were opened, in this order, and nothing else; each was read whole, no read of it failed, and none is refused; and no shard gets more of their entries than a journal holds
-pub record IsReportOfFiles (run : Run) (opens : Opens) (text : List ℕ) : Type 0 where
+-- the text is one that a job may write of what its files gave, by the definitions and the entries of all sources: the definitions are there; all files were opened, in their order, and nothing else; each was read whole, no read of it failed, and none is refused; and no shard gets more of the entries than a journal holds
+pub record IsTextOfFiles (job : Job) (may : Definitions → List (List Entry) → List ℕ → Type 0) (opens : Opens) (text : List ℕ) : Type 0 where
   pub d : Definitions
-  pub definitions : AreDefinitionsRead opens d
+  pub definitions : AreDefinitionsOf job.defs opens d
   pub all : List (List Entry)
-  pub sources : AreAllRead run.sources d (behind (run.defs ∷ []) opens) all
-  pub few : (k : ℕ) → k < run.shards → count_routed run.shards all k ≤ JOURNAL_MAX
-  pub report : IsReportOf run d all text
+  pub sources : AreAllRead job.sources d (behind (files_of_defs job.defs) opens) all
+  pub few : (k : ℕ) → k < job.shards → count_routed job.shards all k ≤ JOURNAL_MAX
+  pub written : may d all text
+
+-- the text is a report of what the files of a run gave
+abbrev pub IsReportOfFiles : Run → Opens → List ℕ → Type 0
+IsReportOfFiles run opens text = IsTextOfFiles (job_of_run run) (IsReportOf run) opens text
 
 -- the summary of a made run: that of the final rows of its generated sources, which knows of no shard and no schedule
 abbrev pub made_summary : Made → List ℕ
@@ -54,30 +59,34 @@ module _ {K : Type 0} (taken : K → List ℕ) (faults : K → ℕ) where
     pub cause_is : cause answered
     pub said : Says answered old new
 
-  -- the report of what the files gave was written whole
-  pub record IsReported (run : Run) (opens : Opens) (old new : K) : Type 0 where
+  -- a text of which this holds was written whole
+  pub record IsWritten (P : List ℕ → Type 0) (old new : K) : Type 0 where
     pub text : List ℕ
-    pub text_is : IsReportOfFiles run opens text
+    pub text_is : P text
     pub went_out : Appends taken faults text old new
 
   -- or a write of it failed
-  pub record IsCutOff (run : Run) (opens : Opens) (old new : K) : Type 0 where
+  pub record IsCutOff (P : List ℕ → Type 0) (old new : K) : Type 0 where
     pub text : List ℕ
-    pub text_is : IsReportOfFiles run opens text
+    pub text_is : P text
     pub failed : Fails taken faults text old new
 
-  -- the answer to a run: the report of what its files gave, or the first fault in the order of causes, each with what it was that was given, or with the open or the read that failed; with two exceptions: a write failed, or memory ran out
+  -- the answer to a job: a text that it may write of what its files gave, or the first fault in the order of causes, each with what it was that was given, or with the open or the read that failed; with two exceptions: a write failed, or memory ran out
+  abbrev pub IsJobAnswer : Job → (Definitions → List (List Entry) → List ℕ → Type 0) → Opens → K → K → Status → Type 0
+  IsJobAnswer job may opens old new Done = IsWritten (IsTextOfFiles job may opens) old new
+  IsJobAnswer job may opens old new WriteFault = IsCutOff (IsTextOfFiles job may opens) old new
+  IsJobAnswer job may opens old new BadDefs = IsStopped (StopsAtJob job opens) BadDefs old new
+  IsJobAnswer job may opens old new BadRow = IsStopped (StopsAtJob job opens) BadRow old new
+  IsJobAnswer job may opens old new Full = IsStopped (StopsAtJob job opens) Full old new
+  IsJobAnswer job may opens old new OpenFault = IsStopped (StopsAtJob job opens) OpenFault old new
+  IsJobAnswer job may opens old new ReadFault = IsStopped (StopsAtJob job opens) ReadFault old new
+  IsJobAnswer job may opens old new NoMemory = Says stop.NoMemory old new
+  IsJobAnswer job may opens old new Usage = ⊥
+  IsJobAnswer job may opens old new Unlawful = ⊥
+
+  -- the answer to a run: a report of what its files gave
   abbrev pub IsAnswer : Run → Opens → K → K → Status → Type 0
-  IsAnswer run opens old new Done = IsReported run opens old new
-  IsAnswer run opens old new WriteFault = IsCutOff run opens old new
-  IsAnswer run opens old new BadDefs = IsStopped (StopsAtFiles run opens) BadDefs old new
-  IsAnswer run opens old new BadRow = IsStopped (StopsAtFiles run opens) BadRow old new
-  IsAnswer run opens old new Full = IsStopped (StopsAtFiles run opens) Full old new
-  IsAnswer run opens old new OpenFault = IsStopped (StopsAtFiles run opens) OpenFault old new
-  IsAnswer run opens old new ReadFault = IsStopped (StopsAtFiles run opens) ReadFault old new
-  IsAnswer run opens old new NoMemory = Says stop.NoMemory old new
-  IsAnswer run opens old new Usage = ⊥
-  IsAnswer run opens old new Unlawful = ⊥
+  IsAnswer run opens old new status = IsJobAnswer (job_of_run run) (IsReportOf run) opens old new status
 
   -- the answer to a made run: the summary of the final rows of its sources was written; with two exceptions: a write failed, by its count, and memory ran out
   abbrev pub IsMadeAnswer : Made → K → K → Status → Type 0

@@ -22,6 +22,7 @@ use Rattle.window_defs.specs.declared.defs_fault.DefsFault.TheVariants.{NoMemory
 use Rattle.emission_text.specs.Report.{AreAlike}
 use Rattle.emission_text.specs.declared.fault.Fault.{Fault}
 use Rattle.emission_text.specs.declared.fault.Fault.TheVariants.{Usage, Defs, Unopened, Row, Read, FullSource, FullShard, ReportOpen, ReportRead, ReportFull, NoMemory}
+use Rattle.scotty_run.specs.Jobs.{DefsOrigin, Job, files_of_defs, job_of_run, of_file, of_words}
 use Rattle.scotty_run.specs.Outside.{Asks, CameBack, Opens, WasNotRead, WasReadWhole, behind, came_at}
 use Rattle.scotty_run.specs.Words.{Run}
 
@@ -118,12 +119,12 @@ StopsAtSources names shards d opens ReportRead = ⊥
 StopsAtSources names shards d opens ReportFull = ⊥
 StopsAtSources names shards d opens NoMemory = ⊤
 
--- the shards of a run: all sources were read whole and none is refused, and the shards' journals are lawful for their entries; they have the run's definitions and sources, and journals of that many sources
-pub record AreShardsOf (run : Run) (d : Definitions) (opens : Opens) (shards : List Sharded) : Type 0 where
+-- shards of sources of these names, so many of them: all sources were read whole and none is refused, and the shards' journals are lawful for their entries; they have these definitions and as many sources, and journals of that many sources
+pub record AreShardsOf (names : List (List ℕ)) (many : ℕ) (d : Definitions) (opens : Opens) (shards : List Sharded) : Type 0 where
   pub all : List (List Entry)
-  pub sources : AreAllRead run.sources d opens all
-  pub lawful : IsLawful run.shards all (map (λ s. s.journal) shards)
-  pub alike : AreAlike d (length run.sources) shards
+  pub sources : AreAllRead names d opens all
+  pub lawful : IsLawful many all (map (λ s. s.journal) shards)
+  pub alike : AreAlike d (length names) shards
   pub few : length shards ≤ 16
   pub journals : All (λ s. IsJournal s.sources s.journal) shards
 
@@ -131,17 +132,31 @@ pub record AreShardsOf (run : Run) (d : Definitions) (opens : Opens) (shards : L
 pub record AreShardsOfFiles (run : Run) (opens : Opens) (shards : List Sharded) : Type 0 where
   pub d : Definitions
   pub definitions : AreDefinitionsRead opens d
-  pub filled : AreShardsOf run d (behind (run.defs ∷ []) opens) shards
+  pub filled : AreShardsOf run.sources run.shards d (behind (run.defs ∷ []) opens) shards
 
--- the definitions were accepted, and the sources stop the run
-pub record StopsBehindDefs (run : Run) (opens : Opens) (fault : Fault) : Type 0 where
+-- the definitions of a job are these: its first file was read whole and spells them, or its words tell them
+abbrev pub AreDefinitionsOf : DefsOrigin → Opens → Definitions → Type 0
+AreDefinitionsOf (of_file name) opens d = AreDefinitionsRead opens d
+AreDefinitionsOf (of_words told) opens d = d ≡ told
+
+-- why the definitions of a job stop it: those of a file may, those of the words don't
+abbrev pub StopsAtOrigin : DefsOrigin → Opens → Fault → Type 0
+StopsAtOrigin (of_file name) opens fault = StopsAtDefs name opens fault
+StopsAtOrigin (of_words told) opens fault = ⊥
+
+-- the definitions are there, and the sources stop the job
+pub record StopsBehindDefs (job : Job) (opens : Opens) (fault : Fault) : Type 0 where
   pub d : Definitions
-  pub definitions : AreDefinitionsRead opens d
-  pub cause : StopsAtSources run.sources run.shards d (behind (run.defs ∷ []) opens) fault
+  pub definitions : AreDefinitionsOf job.defs opens d
+  pub cause : StopsAtSources job.sources job.shards d (behind (files_of_defs job.defs) opens) fault
 
--- why the files of a run stop it: the definitions do, or they are accepted and the sources do
+-- why a job stops: the definitions stop it, or they are there and the sources do
+abbrev pub StopsAtJob : Job → Opens → Fault → Type 0
+StopsAtJob job opens fault = StopsAtOrigin job.defs opens fault ⊎ StopsBehindDefs job opens fault
+
+-- why the files of a run stop it
 abbrev pub StopsAtFiles : Run → Opens → Fault → Type 0
-StopsAtFiles run opens fault = StopsAtDefs run.defs opens fault ⊎ StopsBehindDefs run opens fault
+StopsAtFiles run opens fault = StopsAtJob (job_of_run run) opens fault
 
 -- why bytes that were read are refused as definitions
 abbrev pub StopsAtBytes : List ℕ → Fault → Type 0

@@ -1,4 +1,5 @@
 pub mod Words
+pub mod Jobs
 pub mod Outside
 pub mod Opening
 pub mod Statuses
@@ -9,3 +10,4 @@ pub mod Reading
 pub mod Judging
 pub mod Making
 pub mod InMemory
+pub mod Watching

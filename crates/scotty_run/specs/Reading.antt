@@ -8,6 +8,7 @@ use Rattle.source_feed.specs.FileFeedState.{FileFeedState, feed_view}
 use Rattle.source_feed.specs.declared.feed_fault.FeedFault.{FeedFault}
 use Rattle.source_feed.specs.declared.feed_fault.FeedFault.TheVariants.{Read as FeedRead}
 use Rattle.emission_text.specs.declared.fault.Fault.{Fault}
+use Rattle.live_board.specs.Watched.{AreEntriesOf}
 use Rattle.scotty_run.specs.Settling.{fault_of}
 
 -- a feed that gave nothing yet, neither its end nor a fault
@@ -28,6 +29,10 @@ IsStuck feed fault = IfSome (refusal_of fault) (λ refusal. (entries : List Entr
 pub record IsSameFeed (old new : FeedView) : Type 0 where
   pub source : new.source ≡ old.source
   pub origin : new.origin ≡ old.origin
+
+-- the entries of feeds, in their order: each list is of its feed's source, with each entry within its limits, and closed by the end
+abbrev pub AreEntriesFrom : {S : Type 0} → List (FileFeedState S) → List (List Entry) → Type 0
+AreEntriesFrom {S = S} feeds all = (i : ℕ) (f : FileFeedState S) → i < length all → AreEntriesOf (slice_index_or feeds i f).source (slice_index_or all i [])
 
 module _ {S : Type 0} (reads : S → Reads) (word : S → Option (List ℕ)) where
   -- each feed is fresh

@@ -131,9 +131,43 @@ pub record IsCheckOf (words : List (List ℕ)) (c : Check) : Type 0 where
 abbrev pub IsCheck : List (List ℕ) → Type 0
 IsCheck words = (c : Check) × IsCheckOf words c
 
+-- a live board: the name of the definitions, how many readers there are, how often each reads, and the names of the sources
+pub record Watch : Type 0 where
+  pub defs : List ℕ
+  pub readers : ℕ
+  pub reads : ℕ
+  pub sources : List (List ℕ)
+
+-- how a live board is spelled
+abbrev pub watch_words_of : Watch → List (List ℕ)
+watch_words_of w = codes "watch" ∷ w.defs ∷ decimal w.readers ∷ decimal w.reads ∷ w.sources
+
+-- 1 to 16 sources, 1 to 8 readers, and 0 to 1,000 reads of each
+pub record AreWatched (sources readers reads : ℕ) : Type 0 where
+  pub some_sources : 1 ≤ sources
+  pub few_sources : sources ≤ 16
+  pub some_readers : 1 ≤ readers
+  pub few_readers : readers ≤ 8
+  pub few_reads : reads ≤ 1000
+
+-- the words are those of this live board: names are nonempty, and there are 1 to 8 readers, 0 to 1,000 reads and 1 to 16 sources
+pub record IsWatchOf (words : List (List ℕ)) (w : Watch) : Type 0 where
+  pub spelled : words ≡ watch_words_of w
+  pub defs_name : IsName w.defs
+  pub some_readers : 1 ≤ w.readers
+  pub few_readers : w.readers ≤ 8
+  pub few_reads : w.reads ≤ 1000
+  pub some_sources : 1 ≤ length w.sources
+  pub few_sources : length w.sources ≤ 16
+  pub source_names : All IsName w.sources
+
+-- the words are those of a live board
+abbrev pub IsWatch : List (List ℕ) → Type 0
+IsWatch words = (w : Watch) × IsWatchOf words w
+
 -- the words are those of a command
 abbrev pub IsCommand : List (List ℕ) → Type 0
-IsCommand words = IsRun words ⊎ IsMade words ⊎ IsCheck words
+IsCommand words = IsRun words ⊎ IsMade words ⊎ IsCheck words ⊎ IsWatch words
 
 -- the run of these definitions, shards and sources
 abbrev pub run_of : ReportForm → List ℕ → ℕ → Way → List (List ℕ) → Run
@@ -149,3 +183,8 @@ check_of defs shards report sources =
 abbrev pub made_of : ℕ → ℕ → ℕ → ℕ → Way → Made
 made_of seed rows sources shards way =
     record { seed = seed; rows = rows; sources = sources; shards = shards; way = way }
+
+-- the live board of these definitions, readers, reads and sources
+abbrev pub watch_of : List ℕ → ℕ → ℕ → List (List ℕ) → Watch
+watch_of defs readers reads sources =
+    record { defs = defs; readers = readers; reads = reads; sources = sources }

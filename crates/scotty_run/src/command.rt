@@ -7,15 +7,20 @@ ghost use Rattle.scotty_run.specs.Answer.{IsAnswer, IsCheckAnswer, IsMadeAnswer,
 ghost use Rattle.scotty_run.specs.Causes.{AreShardsOfFiles, StopsAtFiles};
 ghost use Rattle.scotty_run.specs.Outside.{Ends, OpensInOrder, opens_of};
 ghost use Rattle.scotty_run.specs.Statuses.{finding_status, status_of};
-ghost use Rattle.scotty_run.specs.Words.{Check, IsCheck, IsCheckOf, IsCommand, IsMadeOf, IsRun, IsRunOf, Made, Run};
+ghost use Rattle.scotty_run.specs.Watching.{IsWatchAnswer, watched_text};
+ghost use Rattle.scotty_run.specs.Words.{Check, IsCheck, IsCheckOf, IsCommand, IsMadeOf, IsRun, IsRunOf, IsWatch, IsWatchOf, Made, Run, Watch};
 
 use crate::definitions::read_definitions;
 use crate::gathering::gather_sources;
 use crate::judging::find;
 use crate::making::{make_rows, print_summary};
 use crate::status::{Status, status_of, status_of_finding};
-use crate::words::{CheckWords, MadeWords, RunWords, check_of, made_of, run_of};
+use crate::watching::{watch_files, write_watched};
+use crate::words::{
+    CheckWords, MadeWords, RunWords, WatchWords, check_of, made_of, run_of, watch_of,
+};
 use emission_text::{Fault, ReportForm, write_fault, write_finding, write_form};
+use live_board::Watched;
 use outside::{Files, Gate, Sink};
 use report_check::Finding;
 use shard_core::Shard;
@@ -30,12 +35,14 @@ use stream_base::NoMemory;
 /// a write may have failed, or memory ran out. A made run is answered with the summary of its final
 /// rows, with the same two exceptions. It is so in every schedule of the feeds. A check is answered
 /// with the line of what is found of its report, by the bytes that the definitions, the report and the
-/// sources gave, or as a run with a fault. Other words are answered with a fault of their own.
+/// sources gave, or as a run with a fault. A live board is answered with the report of one journal, in
+/// which the entries of the sources stand in turn, and the lines of what its readers have read, or as
+/// a run of one shard with a fault. Other words are answered with a fault of their own.
 ///
-/// A run opens its definitions and then its sources, a check its definitions, its report and its
-/// sources: the first ones of these names, each once, in this order, and nothing else. All of them
-/// behind a report or a finding, or where a source is in trouble; and none behind one that can't be
-/// opened. Each opened source is given back.
+/// A run and a live board open their definitions and then their sources, a check its definitions, its
+/// report and its sources: the first ones of these names, each once, in this order, and nothing else.
+/// All of them behind a report or a finding, or where a source is in trouble; and none behind one that
+/// can't be opened. Each opened source is given back.
 pub fn scotty<F: Files, K: Sink, G: Gate, R: Threads + Wait + Sync>(
     alloc: Global,
     rt: &R,
@@ -56,11 +63,17 @@ pub fn scotty<F: Files, K: Sink, G: Gate, R: Threads + Wait + Sync>(
         sink.old sink.new result }
     ensures check_opens { (c : Check) → IsCheckOf (map string_bytes words.now) c
         → OpensInOrder F.asked F.came F.told (c.defs ∷ c.report ∷ c.sources) files.old files.new }
+    ensures watch { (w : Watch) → IsWatchOf (map string_bytes words.now) w
+        → IsWatchAnswer K.taken K.faults w (opens_of F.asked F.came files.old files.new)
+        sink.old sink.new result }
+    ensures watch_opens { (w : Watch) → IsWatchOf (map string_bytes words.now) w
+        → OpensInOrder F.asked F.came F.told (w.defs ∷ w.sources) files.old files.new }
     ensures usage { (result ≡ Status.Usage) ↔ ¬ (IsCommand (map string_bytes words.now)) }
     ensures usage_said { result ≡ Status.Usage
         → Says K.taken K.faults Fault.Usage sink.old sink.new }
     ensures unopened { ¬ (IsRun (map string_bytes words.now))
-        → ¬ (IsCheck (map string_bytes words.now)) → files.new ≡ files.old }
+        → ¬ (IsCheck (map string_bytes words.now))
+        → ¬ (IsWatch (map string_bytes words.now)) → files.new ≡ files.old }
 {
     match run_of(words) {
         Some(command) => run(alloc, rt, &command, files, sink, gate),
@@ -68,7 +81,10 @@ pub fn scotty<F: Files, K: Sink, G: Gate, R: Threads + Wait + Sync>(
             Some(command) => make(alloc, rt, &command, sink, gate),
             None => match check_of(words) {
                 Some(command) => check(alloc, rt, &command, files, sink),
-                None => print_fault(&Fault::Usage, sink),
+                None => match watch_of(words) {
+                    Some(command) => watch(alloc, rt, &command, files, sink, gate),
+                    None => print_fault(&Fault::Usage, sink),
+                },
             },
         },
     }
@@ -155,6 +171,40 @@ fn print_finding<K: Sink>(finding: &Finding, sink: &mut K) -> Status
     status_of_finding(finding)
 }
 
+// A live board.
+fn watch<F: Files, K: Sink, G: Gate, R: Threads + Wait + Sync>(
+    alloc: Global,
+    rt: &R,
+    command: &WatchWords,
+    files: &mut F,
+    sink: &mut K,
+    gate: &G,
+) -> Status
+    ensures answer { IsWatchAnswer K.taken K.faults command.now
+        (opens_of F.asked F.came files.old files.new) sink.old sink.new result }
+    ensures files { OpensInOrder F.asked F.came F.told (command.now.defs ∷ command.now.sources)
+        files.old files.new }
+{
+    match watch_files(alloc, rt, command, files, gate) {
+        Ok(watched) => print_watched(&watched, sink),
+        Err(fault) => print_fault(&fault, sink),
+    }
+}
+
+// The report of what was watched, and the lines of the reads.
+fn print_watched<K: Sink>(watched: &Watched, sink: &mut K) -> Status
+    ensures either { (result ≡ Status.Done) ⊎ (result ≡ Status.WriteFault) }
+    ensures done { result ≡ Status.Done → Appends K.taken K.faults
+        (watched_text watched.now) sink.old sink.new }
+    ensures failed { result ≡ Status.WriteFault → Fails K.taken K.faults
+        (watched_text watched.now) sink.old sink.new }
+{
+    match write_watched(watched, sink) {
+        Ok(()) => Status::Done,
+        Err(_) => Status::WriteFault,
+    }
+}
+
 fn print_fault<K: Sink>(fault: &Fault, sink: &mut K) -> Status
     ensures status { result ≡ status_of fault.now }
     ensures said { Says K.taken K.faults fault.now sink.old sink.new }
@@ -178,6 +228,9 @@ fn fill_shards<F: Files, G: Gate, R: Threads + Wait + Sync>(
 {
     match read_definitions(alloc, files, command.defs) {
         Err(fault) => Err(fault),
-        Ok(defs) => gather_sources(alloc, rt, command, files, defs, gate),
+        Ok(defs) => {
+            let (way, shards) = (command.way, command.shards);
+            gather_sources(alloc, rt, way, shards, command.sources, files, defs, gate)
+        }
     }
 }

@@ -1,10 +1,12 @@
-//! The sources of a run are gathered into its shards.
+//! Sources are gathered into shards.
+ghost use Rattle.std.specs.Prelude.{length, map, string_bytes};
 ghost use Rattle.scotty_run.specs.Causes.{AreShardsOf, StopsAtSources};
 ghost use Rattle.scotty_run.specs.Outside.{Ends, GivesBack};
+ghost use Rattle.scotty_run.specs.Words.{AreFew};
 
 use crate::opening::{close_feeds, open_sources};
 use crate::settling::trouble_of;
-use crate::words::RunWords;
+use crate::way::Way;
 use emission_text::Fault;
 use fan_in::{FeedEnd, Gathered, Plan, Unstarted};
 use outside::{Files, Gate};
@@ -15,30 +17,33 @@ use std::sync::Wait;
 use std::thread::Threads;
 use stream_base::Defs;
 
-/// The shards with all entries of the sources of a run, under these definitions. All sources are
-/// opened before one is read, and each that was opened is given back.
+/// So many shards with all entries of the sources of these names, under these definitions. All sources
+/// are opened before one is read, and each that was opened is given back.
 pub fn gather_sources<F: Files, G: Gate, R: Threads + Wait + Sync>(
     alloc: Global,
     rt: &R,
-    run: &RunWords,
+    way: Way,
+    shards: u16,
+    names: &[String],
     files: &mut F,
     defs: Defs,
     gate: &G,
 ) -> Result<Vec<Shard>, Fault>
-    ensures { Ends F.asked F.came F.told run.now.sources files.old files.new result
-        (λ opens shards. AreShardsOf run.now defs opens shards.items)
-        (StopsAtSources run.now.sources run.now.shards defs) }
+    requires few { AreFew (length names.now) shards }
+    ensures { Ends F.asked F.came F.told (map string_bytes names.now) files.old files.new result
+        (λ opens all. AreShardsOf (map string_bytes names.now) shards defs opens all.items)
+        (StopsAtSources (map string_bytes names.now) shards defs) }
 {
-    let feeds = match open_sources(alloc, files, run.sources, &defs) {
+    let feeds = match open_sources(alloc, files, names, &defs) {
         Ok(feeds) => feeds,
         Err(fault) => return Err(fault),
     };
     let plan = Plan {
         defs,
-        sources: run.sources.len() as u16,
-        shards: run.shards,
+        sources: names.len() as u16,
+        shards,
     };
-    match run.way.gather(rt, alloc, &plan, feeds, gate) {
+    match way.gather(rt, alloc, &plan, feeds, gate) {
         Ok(Gathered { shards, ends }) => {
             let trouble = trouble_of(&ends);
             close_ends(files, ends);

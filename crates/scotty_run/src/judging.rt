@@ -66,7 +66,7 @@ fn find_in<F: Files, R: Threads>(
         (IsFoundIn command.now defs.now text.now)
         (StopsAtSources command.now.sources 0 defs.now) }
 {
-    match read_sources(alloc, command, files, defs) {
+    match read_sources(alloc, command.sources, files, defs) {
         Err(fault) => Err(fault),
         Ok(sources) => {
             let mut steps: Steps<()> = Steps::start(rt);

@@ -15,6 +15,7 @@ mod opening;
 mod reading;
 mod settling;
 mod status;
+mod watching;
 mod way;
 mod words;
 
@@ -26,6 +27,7 @@ pub use settling::fault_of;
 pub use status::{Status, status_of};
 pub use way::Way;
 pub use words::{
-    CheckWords, MadeWords, RunWords, are_names, check_of, commands_are_told_apart_by_their_words,
-    is_name, made_of, number_within, run_of, says,
+    CheckWords, MadeWords, RunWords, WatchWords, are_names, check_of,
+    commands_are_told_apart_by_their_words, is_name, made_of, number_within, run_of, says,
+    watch_of,
 };

@@ -1,33 +1,36 @@
-//! The sources of a check are read whole, one after another.
-ghost use Rattle.std.specs.Prelude.{◌≡◌, ◌≤◌, length, IfOk, IfErr, IsErrOf, OnOk};
+//! Sources are read whole, one after another.
+ghost use Rattle.std.specs.Prelude.{◌≡◌, ◌≤◌, length, map, string_bytes, IfOk, IfErr, IsErrOf, OnOk};
 ghost use Rattle.outside.specs.Outside.{Rose};
 ghost use Rattle.report_check.specs.Findings.{lists_of};
+ghost use Rattle.live_board.specs.Watched.{AreEntriesOf};
 ghost use Rattle.scotty_run.specs.Causes.{AreAllRead, StopsAtSources};
 ghost use Rattle.scotty_run.specs.Outside.{Ends};
-ghost use Rattle.scotty_run.specs.Reading.{AreDrained, AreFresh, AreSameFeeds, IsDrained, IsFirstTrouble, IsFresh, IsSameFeed, IsStuck};
+ghost use Rattle.scotty_run.specs.Reading.{AreDrained, AreEntriesFrom, AreFresh, AreSameFeeds, IsDrained, IsFirstTrouble, IsFresh, IsSameFeed, IsStuck};
+ghost use Rattle.scotty_run.specs.Watching.{AreEntries};
 
 use crate::opening::{close_feeds, open_sources};
 use crate::settling::fault_of;
-use crate::words::CheckWords;
 use emission_text::Fault;
 use outside::{Files, Source};
 use source_feed::{Feed, FeedFault, FileFeed};
 use std::alloc::Global;
 use stream_base::{Defs, Entry};
 
-/// The entries of the sources of a check, in their order, under these definitions. All sources are
+/// The entries of the sources of these names, in their order, under these definitions. All sources are
 /// opened before one is read, and each that was opened is given back.
 pub fn read_sources<F: Files>(
     alloc: Global,
-    command: &CheckWords,
+    names: &[String],
     files: &mut F,
     defs: &Defs,
 ) -> Result<Vec<Vec<Entry>>, Fault>
-    ensures { Ends F.asked F.came F.told command.now.sources files.old files.new result
-        (λ opens all. AreAllRead command.now.sources defs.now opens (lists_of all.items))
-        (StopsAtSources command.now.sources 0 defs.now) }
+    requires few { length names.now ≤ 16 }
+    ensures read { Ends F.asked F.came F.told (map string_bytes names.now) files.old files.new result
+        (λ opens all. AreAllRead (map string_bytes names.now) defs.now opens (lists_of all.items))
+        (StopsAtSources (map string_bytes names.now) 0 defs.now) }
+    ensures entries { IfOk result (λ all. AreEntries (lists_of all.items)) }
 {
-    match open_sources(alloc, files, command.sources, defs) {
+    match open_sources(alloc, files, names, defs) {
         Err(fault) => Err(fault),
         Ok(mut feeds) => {
             let read = drain_all(alloc, &mut feeds);
@@ -48,6 +51,7 @@ fn drain_all<S: Source>(
     ensures whole { IfOk result (λ all. length all.items ≡ length feeds.old.items) }
     ensures drained { IfOk result (λ all. AreDrained S.reads S.told
         feeds.old.items feeds.new.items (lists_of all.items)) }
+    ensures entries { IfOk result (λ all. AreEntriesFrom feeds.old.items (lists_of all.items)) }
     ensures trouble { IfErr result
         (IsFirstTrouble S.reads S.told feeds.old.items feeds.new.items) }
 {
@@ -70,6 +74,7 @@ fn drain<F: Feed>(alloc: Global, feed: &mut F) -> Result<Vec<Entry>, FeedFault>
     requires { IsFresh (F.state feed.old) }
     ensures same { IsSameFeed (F.state feed.old) (F.state feed.new) }
     ensures all { IfOk result (λ all. IsDrained (F.state feed.new) all.items) }
+    ensures entries { IfOk result (λ all. AreEntriesOf (F.state feed.old).source all.items) }
     ensures quiet { OnOk result (F.faults feed.new ≡ F.faults feed.old) }
     ensures stuck { IfErr result (IsStuck (F.state feed.new)) }
     ensures read { IsErrOf result FeedFault.Read → Rose (F.faults feed.old) (F.faults feed.new) }

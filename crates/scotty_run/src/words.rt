@@ -1,6 +1,6 @@
 //! The words of the command line, those after the program's name: which command they are.
 ghost use Rattle.std.specs.Prelude.{◌≡◌, ◌≤◌, ◌↔◌, ◌⊎◌, ℕ, List, map, decimal, string_bytes, All, IsTrue, IfSome, IfNone};
-ghost use Rattle.scotty_run.specs.Words.{AreSources, Check, IsCheck, IsCheckOf, IsMade, IsMadeOf, IsName, IsNumberWithin, IsRun, IsRunOf, IsRunWord, IsWay, Made, Run, run_word, way_word};
+ghost use Rattle.scotty_run.specs.Words.{AreSources, Check, IsCheck, IsCheckOf, IsMade, IsMadeOf, IsName, IsNumberWithin, IsRun, IsRunOf, IsRunWord, IsWatch, IsWatchOf, IsWay, Made, Run, Watch, run_word, way_word};
 
 use crate::way::Way;
 use emission_text::ReportForm;
@@ -69,6 +69,28 @@ impl<'a> Model for CheckWords<'a> {
     ghost view = { λ w. check_of w.defs.now w.shards w.report.now (map string_bytes w.sources.now) };
 
     ghost invariant = { λ w. AreFew (length w.sources.now) w.shards };
+}
+
+/// A live board: the name of the definitions, how many readers there are, how often each reads before
+/// its last read, and the names of the sources. There are 1 to 8 readers, 0 to 1,000 reads and 1 to 16
+/// sources.
+#[derive(Drop)]
+pub struct WatchWords<'a> {
+    pub defs: &'a str,
+    pub readers: u16,
+    pub reads: u32,
+    pub sources: &'a [String],
+}
+
+impl<'a> Model for WatchWords<'a> {
+    ghost use Rattle.std.specs.Prelude.{length, map, string_bytes};
+    ghost use Rattle.scotty_run.specs.Words.{AreWatched, Watch, watch_of};
+
+    ghost Value = { Watch };
+
+    ghost view = { λ w. watch_of w.defs.now w.readers w.reads (map string_bytes w.sources.now) };
+
+    ghost invariant = { λ w. AreWatched (length w.sources.now) w.readers w.reads };
 }
 
 /// The run of these words, if they are those of one: `run DEFS SHARDS FEED SOURCE..`, or the same
@@ -152,6 +174,32 @@ pub fn check_of(words: &[String]) -> Option<CheckWords<'_>>
     }
 }
 
+/// The live board of these words, if they are those of one: `watch DEFS READERS READS SOURCE..`, with 1
+/// to 8 readers, 0 to 1,000 reads and 1 to 16 sources.
+pub fn watch_of(words: &[String]) -> Option<WatchWords<'_>>
+    ensures found { IfSome result (IsWatchOf (map string_bytes words.now)) }
+    ensures none { IfNone result (¬ (IsWatch (map string_bytes words.now))) }
+{
+    match words {
+        [watch, defs, readers, reads, sources @ ..] => {
+            let readers = number_within(readers.as_str(), 1, 8)?;
+            let reads = number_within(reads.as_str(), 0, 1_000)?;
+            let named = is_name(defs.as_str()) && are_sources(sources);
+            if says(watch.as_str(), "watch") && named {
+                Some(WatchWords {
+                    defs: defs.as_str(),
+                    readers: readers as u16,
+                    reads: reads as u32,
+                    sources,
+                })
+            } else {
+                None
+            }
+        }
+        _ => None,
+    }
+}
+
 /// Words are those of one command at most.
 pub fn commands_are_told_apart_by_their_words()
     ensures one_run { (words : List (List ℕ)) (run other : Run) → IsRunOf words run
@@ -160,9 +208,13 @@ pub fn commands_are_told_apart_by_their_words()
         → IsMadeOf words other → m ≡ other }
     ensures one_check { (words : List (List ℕ)) (c other : Check) → IsCheckOf words c
         → IsCheckOf words other → c ≡ other }
+    ensures one_watch { (words : List (List ℕ)) (w other : Watch) → IsWatchOf words w
+        → IsWatchOf words other → w ≡ other }
     ensures apart { (words : List (List ℕ)) → IsRun words → ¬ (IsMade words) }
     ensures apart_from_checks { (words : List (List ℕ)) → IsCheck words
         → ¬ (IsRun words ⊎ IsMade words) }
+    ensures apart_from_watches { (words : List (List ℕ)) → IsWatch words
+        → ¬ (IsRun words ⊎ IsMade words ⊎ IsCheck words) }
 {}
 
 // The form that the first word of a run tells.

@@ -2,12 +2,14 @@ use Rattle.std.proofs.Common.{◌≡◌, List, ap, sym, subst}
 use Rattle.shard_core.specs.Shard.{Sharded}
 use Rattle.emission_text.specs.Report.{form_of, report_text}
 use Rattle.emission_text.specs.Sending.{Appends, Fails}
-use Rattle.scotty_run.specs.Answer.{IsAnswer}
+use Rattle.scotty_run.specs.Answer.{IsAnswer, IsReportOf}
 use Rattle.scotty_run.specs.Causes.{AreShardsOfFiles}
+use Rattle.scotty_run.specs.Jobs.{job_of_run}
 use Rattle.scotty_run.specs.Outside.{opens_of}
 use Rattle.scotty_run.specs.Words.{Run}
 use Rattle.scotty_run.specs.declared.status.Status.TheVariants as status
-use Rattle.scotty_run.proofs.Answering.{reports, stops}
+use Rattle.scotty_run.proofs.Answering.{text_is}
+use Rattle.scotty_run.proofs.Jobs.{stops, writes}
 use Rattle.scotty_run.proofs.command.run.Goals as goal
 
 pub returns-in-Ok-clause-answer : goal.returns-in-Ok-clause-answer
@@ -22,7 +24,7 @@ returns-in-Ok-clause-answer g c =
     let done = subst (λ r. c.print_report.result ≡ status.Done → Appends k.taken k.faults (report_text (form_of r) c.deref.result.now) old new) form says.done in
     let failed = subst (λ r. c.print_report.result ≡ status.WriteFault → Fails k.taken k.faults (report_text (form_of r) c.deref.result.now) old new) form says.failed in
     let files = subst (λ (shards : List Sharded). AreShardsOfFiles run opens shards) (sym c.deref.ensures.value) c.in-Ok.ensures.ok in
-    reports k.taken k.faults run opens old new c.deref.result.now files c.print_report.result says.either done failed
+    writes k.taken k.faults (job_of_run run) (IsReportOf run) opens old new (report_text (form_of run.form) c.deref.result.now) (text_is run opens c.deref.result.now files) c.print_report.result says.either done failed
 
 pub returns-in-Err-clause-answer : goal.returns-in-Err-clause-answer
 returns-in-Err-clause-answer g c =
@@ -30,4 +32,4 @@ returns-in-Err-clause-answer g c =
     let run = c.args.command.now in
     let opens = opens_of g.F.Files.asked g.F.Files.came c.args.files.now c.fill_shards.new.files in
     subst (IsAnswer k.taken k.faults run opens c.args.sink.now c.print_fault.new.sink) (sym c.print_fault.ensures.status)
-    (stops k.taken k.faults run opens c.args.sink.now c.print_fault.new.sink c.in-Err.fault c.in-Err.ensures.stopped c.print_fault.ensures.said)
+    (stops k.taken k.faults (job_of_run run) (IsReportOf run) opens c.args.sink.now c.print_fault.new.sink c.in-Err.fault c.in-Err.ensures.stopped c.print_fault.ensures.said)

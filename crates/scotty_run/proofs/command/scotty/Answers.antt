@@ -2,8 +2,9 @@
 use Rattle.std.proofs.Common.{◌∷◌, map, string_bytes, subst}
 use Rattle.scotty_run.specs.Answer.{IsAnswer, IsCheckAnswer, IsMadeAnswer}
 use Rattle.scotty_run.specs.Outside.{OpensInOrder, opens_of}
-use Rattle.scotty_run.specs.Words.{Check, Made, Run}
-use Rattle.scotty_run.proofs.WordFacts.{one_check, one_made, one_run}
+use Rattle.scotty_run.specs.Watching.{IsWatchAnswer}
+use Rattle.scotty_run.specs.Words.{Check, Made, Run, Watch}
+use Rattle.scotty_run.proofs.WordFacts.{one_check, one_made, one_run, one_watch}
 use Rattle.scotty_run.proofs.command.scotty.Goals as goal
 
 pub returns-in-Some-clause-answer : goal.returns-in-Some-clause-answer
@@ -34,3 +35,15 @@ returns-in-Some-check_of-clause-check_opens g c k is =
     let f = g.F.Files in
     subst (λ (x : Check). OpensInOrder f.asked f.came f.told (x.defs ∷ x.report ∷ x.sources) c.args.files.now c.check.new.files)
     (one_check (map string_bytes c.args.words.now) c.in-Some-check_of.command k c.in-Some-check_of.ensures.found is) c.check.ensures.files
+
+pub returns-in-Some-watch_of-clause-watch : goal.returns-in-Some-watch_of-clause-watch
+returns-in-Some-watch_of-clause-watch g c w is =
+    let opens = opens_of g.F.Files.asked g.F.Files.came c.args.files.now c.watch.new.files in
+    subst (λ (x : Watch). IsWatchAnswer g.K.Sink.taken g.K.Sink.faults x opens c.args.sink.now c.watch.new.sink c.watch.result)
+    (one_watch (map string_bytes c.args.words.now) c.in-Some-watch_of.command w c.in-Some-watch_of.ensures.found is) c.watch.ensures.answer
+
+pub returns-in-Some-watch_of-clause-watch_opens : goal.returns-in-Some-watch_of-clause-watch_opens
+returns-in-Some-watch_of-clause-watch_opens g c w is =
+    let f = g.F.Files in
+    subst (λ (x : Watch). OpensInOrder f.asked f.came f.told (x.defs ∷ x.sources) c.args.files.now c.watch.new.files)
+    (one_watch (map string_bytes c.args.words.now) c.in-Some-watch_of.command w c.in-Some-watch_of.ensures.found is) c.watch.ensures.files

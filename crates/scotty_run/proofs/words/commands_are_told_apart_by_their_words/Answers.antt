@@ -1,4 +1,4 @@
-use Rattle.scotty_run.proofs.WordFacts.{checks_are_no_others, one_check, one_made, one_run, runs_are_not_made}
+use Rattle.scotty_run.proofs.WordFacts.{checks_are_no_others, one_check, one_made, one_run, one_watch, runs_are_not_made, watches_are_no_others}
 use Rattle.scotty_run.proofs.words.commands_are_told_apart_by_their_words.Goals as goal
 
 pub returns-clause-one_run : goal.returns-clause-one_run
@@ -15,3 +15,9 @@ returns-clause-one_check c = one_check
 
 pub returns-clause-apart_from_checks : goal.returns-clause-apart_from_checks
 returns-clause-apart_from_checks c = checks_are_no_others
+
+pub returns-clause-one_watch : goal.returns-clause-one_watch
+returns-clause-one_watch c = one_watch
+
+pub returns-clause-apart_from_watches : goal.returns-clause-apart_from_watches
+returns-clause-apart_from_watches c = watches_are_no_others
