@@ -1,0 +1,3 @@
+pub mod FollowingFacts
+pub mod TailLines
+pub mod TextFacts

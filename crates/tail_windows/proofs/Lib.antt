@@ -1,0 +1,12 @@
+pub mod Answering
+pub mod Changed
+pub mod Ended
+pub mod Ends
+pub mod Folding
+pub mod Follow
+pub mod Inserted
+pub mod Keyed
+pub mod Places
+pub mod Stripping
+pub mod TailLaws
+pub mod Walking

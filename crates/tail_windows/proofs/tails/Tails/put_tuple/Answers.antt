@@ -1,0 +1,25 @@
+-- A tuple that isn't late comes to its key.
+use Rattle.std.proofs.Common.{◌≡◌, ◌∙◌, ◌+◌, ap, false, List, of_z, subst, sym, to_z, w64}
+use Rattle.std.proofs.lemmas.Int.{to_z-of_z}
+use Rattle.std.specs.Prelude.{nat_lt}
+use Rattle.stream_base.specs.declared.entry.Entry.{Entry}
+use Rattle.stream_base.specs.Model.Watermark.{water_of}
+use Rattle.stream_base.specs.Model.What.{is_late}
+use Rattle.tail_windows.specs.Following.{Followed, Follows, StandsFor, lateness_of, number_of_sources}
+use Rattle.tail_windows.specs.Samples.{sample_at}
+use Rattle.tail_windows.proofs.Answering.{sample_follows}
+use Rattle.tail_windows.proofs.tails.Tails.put_tuple.Goals as goal
+
+pub returns : goal.returns
+returns g c e is =
+    let f : Followed = record { def = c.self.inside.def; waters = c.self.inside.waters; lists = c.self.inside.keys } in
+    let new : Followed = record { def = c.self.inside.def; waters = c.self.inside.waters; lists = c.put.new.self } in
+    let same : f ≡ c.args.self.now = c.self.view_is in
+    let accepted : (j : List Entry) → StandsFor f j → nat_lt (c.args.time + lateness_of f) (water_of (number_of_sources f) j) ≡ false =
+    subst (λ (h : Followed). (j : List Entry) → StandsFor h j → nat_lt (c.args.time + lateness_of h) (water_of (number_of_sources h) j) ≡ false) (sym same) c.requires.accepted in
+    subst (λ (h : Followed). Follows h e c.put.result new c.args.out.now.items c.put.new.out.items c.args.steps.now c.put.new.steps) same
+    (sample_follows f e c.args.out.now.items c.args.steps.now c.put.result c.put.new.out.items c.put.new.steps c.put.ensures.appended
+    (sample_at c.args.time (to_z w64 (of_z w64 c.args.value))) c.args.key.now c.args.time c.args.value c.water-water.result c.put.new.self (ap (sample_at c.args.time) (to_z-of_z w64 c.args.value c.ranges.value)) is
+    (λ j s. ap (is_late (lateness_of f) (water_of (number_of_sources f) j)) is ∙ accepted j s)
+    (λ j s. c.water-water.ensures.journal j s.waters)
+    c.put.ensures.put c.put.ensures.refused c.put.ensures.changes)
