@@ -31,14 +31,14 @@ form_told Two = report_2-told
 abbrev pub AreJournals : List Sharded → Type 0
 AreJournals shards = All (λ s. IsJournal s.sources s.journal) shards
 
-within : (shards : List Sharded) → length shards ≤ 16 → AreJournals shards → AreWithin (map (λ s. s.journal) shards)
+pub within : (shards : List Sharded) → length shards ≤ 16 → AreJournals shards → AreWithin (map (λ s. s.journal) shards)
 within shards few vouched = record {
   few = let n = length-map shards (λ (s : Sharded). s.journal) in omega (arith, few, n);
   entries = All-map AreEntriesWithin (λ s. s.journal) shards (λ k s l. ((vouched k s l).known).within);
 }
 
 -- where the journals are lawful, no shard is full
-few_routed : (shards : List Sharded) → AreJournals shards → (many : ℕ) (all : List (List Entry)) → IsLawful many all (map (λ s. s.journal) shards) → (k : ℕ) → k < many → count_routed many all k ≤ JOURNAL_MAX
+pub few_routed : (shards : List Sharded) → AreJournals shards → (many : ℕ) (all : List (List Entry)) → IsLawful many all (map (λ s. s.journal) shards) → (k : ℕ) → k < many → count_routed many all k ≤ JOURNAL_MAX
 few_routed shards vouched many all lawful k l =
     let inside : k < length (map (λ (s : Sharded). s.journal) shards) = let n = lawful.count in omega (arith, l, n) in
     let there : k < length shards = let n = length-map shards (λ (s : Sharded). s.journal) in omega (arith, inside, n) in

@@ -18,3 +18,5 @@ pub mod EntryFacts
 pub mod Checking
 pub mod InMemory
 pub mod Boards
+pub mod LastFacts
+pub mod LastTexts

@@ -140,10 +140,10 @@ one_watch words w other first second =
     λ i. record { defs = defs i; readers = readers i; reads = reads i; sources = sources i }
 
 -- ---- commands are told apart by the first letter of their first word
-letter_of : List (List ℕ) → ℕ
+unfoldable pub letter_of : List (List ℕ) → ℕ
 letter_of words = get_or (get_or words 0 []) 0 0
 
-run_letter : (words : List (List ℕ)) → IsRun words → letter_of words ≡ 114
+pub run_letter : (words : List (List ℕ)) → IsRun words → letter_of words ≡ 114
 unfolding letter_of
 run_letter words (run, is) = ap (λ (ws : List (List ℕ)). get_or (get_or ws 0 []) 0 0) is.spelled ∙ at run.form
   where
@@ -151,15 +151,15 @@ run_letter words (run, is) = ap (λ (ws : List (List ℕ)). get_or (get_or ws 0 
     at One = refl
     at Two = refl
 
-made_letter : (words : List (List ℕ)) → IsMade words → letter_of words ≡ 109
+pub made_letter : (words : List (List ℕ)) → IsMade words → letter_of words ≡ 109
 unfolding letter_of
 made_letter words (m, is) = ap (λ (ws : List (List ℕ)). get_or (get_or ws 0 []) 0 0) is.spelled
 
-check_letter : (words : List (List ℕ)) → IsCheck words → letter_of words ≡ 99
+pub check_letter : (words : List (List ℕ)) → IsCheck words → letter_of words ≡ 99
 unfolding letter_of
 check_letter words (c, is) = ap (λ (ws : List (List ℕ)). get_or (get_or ws 0 []) 0 0) is.spelled
 
-watch_letter : (words : List (List ℕ)) → IsWatch words → letter_of words ≡ 119
+pub watch_letter : (words : List (List ℕ)) → IsWatch words → letter_of words ≡ 119
 unfolding letter_of
 watch_letter words (w, is) = ap (λ (ws : List (List ℕ)). get_or (get_or ws 0 []) 0 0) is.spelled
 

@@ -11,3 +11,6 @@ pub mod Judging
 pub mod Making
 pub mod InMemory
 pub mod Watching
+pub mod LastWords
+pub mod Commands
+pub mod Tailing

@@ -165,10 +165,6 @@ pub record IsWatchOf (words : List (List ℕ)) (w : Watch) : Type 0 where
 abbrev pub IsWatch : List (List ℕ) → Type 0
 IsWatch words = (w : Watch) × IsWatchOf words w
 
--- the words are those of a command
-abbrev pub IsCommand : List (List ℕ) → Type 0
-IsCommand words = IsRun words ⊎ IsMade words ⊎ IsCheck words ⊎ IsWatch words
-
 -- the run of these definitions, shards and sources
 abbrev pub run_of : ReportForm → List ℕ → ℕ → Way → List (List ℕ) → Run
 run_of form defs shards way sources =

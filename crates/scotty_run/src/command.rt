@@ -5,16 +5,23 @@ ghost use Rattle.emission_text.specs.Report.{form_of, report_text};
 ghost use Rattle.emission_text.specs.Sending.{Appends, Fails};
 ghost use Rattle.scotty_run.specs.Answer.{IsAnswer, IsCheckAnswer, IsMadeAnswer, Says};
 ghost use Rattle.scotty_run.specs.Causes.{AreShardsOfFiles, StopsAtFiles};
+ghost use Rattle.scotty_run.specs.Commands.{IsCommand};
+ghost use Rattle.scotty_run.specs.LastWords.{IsLast, IsLastOf, LastRun};
 ghost use Rattle.scotty_run.specs.Outside.{Ends, OpensInOrder, opens_of};
+ghost use Rattle.tail_text.specs.Texts.{AreAsLong, in_vectors};
 ghost use Rattle.scotty_run.specs.Statuses.{finding_status, status_of};
+ghost use Rattle.scotty_run.specs.Tailing.{IsLastAnswer, tailed_text};
 ghost use Rattle.scotty_run.specs.Watching.{IsWatchAnswer, watched_text};
-ghost use Rattle.scotty_run.specs.Words.{Check, IsCheck, IsCheckOf, IsCommand, IsMadeOf, IsRun, IsRunOf, IsWatch, IsWatchOf, Made, Run, Watch};
+ghost use Rattle.scotty_run.specs.Words.{Check, IsCheck, IsCheckOf, IsMadeOf, IsRun, IsRunOf, IsWatch, IsWatchOf, Made, Run, Watch};
 
 use crate::definitions::read_definitions;
 use crate::gathering::gather_sources;
 use crate::judging::find;
+use crate::last_words::{LastWords, last_of};
 use crate::making::{make_rows, print_summary};
 use crate::status::{Status, status_of, status_of_finding};
+use crate::tailed::Tailed;
+use crate::tailing::{tail_files, write_tailed};
 use crate::watching::{watch_files, write_watched};
 use crate::words::{
     CheckWords, MadeWords, RunWords, WatchWords, check_of, made_of, run_of, watch_of,
@@ -37,10 +44,11 @@ use stream_base::NoMemory;
 /// with the line of what is found of its report, by the bytes that the definitions, the report and the
 /// sources gave, or as a run with a fault. A live board is answered with the report of one journal, in
 /// which the entries of the sources stand in turn, and the lines of what its readers have read, or as
-/// a run of one shard with a fault. Other words are answered with a fault of their own.
+/// a run of one shard with a fault. A run of tails is answered with the report of journals with their
+/// tails, or as a run with a fault. Other words are answered with a fault of their own.
 ///
 /// A run and a live board open their definitions and then their sources, a check its definitions, its
-/// report and its sources: the first ones of these names, each once, in this order, and nothing else.
+/// report and its sources, a run of tails its sources: the first ones of these names, each once, in this order, and nothing else.
 /// All of them behind a report or a finding, or where a source is in trouble; and none behind one that
 /// can't be opened. Each opened source is given back.
 pub fn scotty<F: Files, K: Sink, G: Gate, R: Threads + Wait + Sync>(
@@ -68,12 +76,18 @@ pub fn scotty<F: Files, K: Sink, G: Gate, R: Threads + Wait + Sync>(
         sink.old sink.new result }
     ensures watch_opens { (w : Watch) → IsWatchOf (map string_bytes words.now) w
         → OpensInOrder F.asked F.came F.told (w.defs ∷ w.sources) files.old files.new }
+    ensures tails { (l : LastRun) → IsLastOf (map string_bytes words.now) l
+        → IsLastAnswer K.taken K.faults l (opens_of F.asked F.came files.old files.new)
+        sink.old sink.new result }
+    ensures tails_open { (l : LastRun) → IsLastOf (map string_bytes words.now) l
+        → OpensInOrder F.asked F.came F.told l.sources files.old files.new }
     ensures usage { (result ≡ Status.Usage) ↔ ¬ (IsCommand (map string_bytes words.now)) }
     ensures usage_said { result ≡ Status.Usage
         → Says K.taken K.faults Fault.Usage sink.old sink.new }
     ensures unopened { ¬ (IsRun (map string_bytes words.now))
         → ¬ (IsCheck (map string_bytes words.now))
-        → ¬ (IsWatch (map string_bytes words.now)) → files.new ≡ files.old }
+        → ¬ (IsWatch (map string_bytes words.now))
+        → ¬ (IsLast (map string_bytes words.now)) → files.new ≡ files.old }
 {
     match run_of(words) {
         Some(command) => run(alloc, rt, &command, files, sink, gate),
@@ -83,7 +97,10 @@ pub fn scotty<F: Files, K: Sink, G: Gate, R: Threads + Wait + Sync>(
                 Some(command) => check(alloc, rt, &command, files, sink),
                 None => match watch_of(words) {
                     Some(command) => watch(alloc, rt, &command, files, sink, gate),
-                    None => print_fault(&Fault::Usage, sink),
+                    None => match last_of(words) {
+                        Some(command) => tail(alloc, rt, &command, files, sink, gate),
+                        None => print_fault(&Fault::Usage, sink),
+                    },
                 },
             },
         },
@@ -200,6 +217,41 @@ fn print_watched<K: Sink>(watched: &Watched, sink: &mut K) -> Status
         (watched_text watched.now) sink.old sink.new }
 {
     match write_watched(watched, sink) {
+        Ok(()) => Status::Done,
+        Err(_) => Status::WriteFault,
+    }
+}
+
+// A run of tails.
+fn tail<F: Files, K: Sink, G: Gate, R: Threads + Wait + Sync>(
+    alloc: Global,
+    rt: &R,
+    command: &LastWords,
+    files: &mut F,
+    sink: &mut K,
+    gate: &G,
+) -> Status
+    ensures answer { IsLastAnswer K.taken K.faults command.now
+        (opens_of F.asked F.came files.old files.new) sink.old sink.new result }
+    ensures files { OpensInOrder F.asked F.came F.told command.now.sources files.old files.new }
+{
+    match tail_files(alloc, rt, command, files, gate) {
+        Ok(tailed) => print_tailed(&tailed, sink),
+        Err(fault) => print_fault(&fault, sink),
+    }
+}
+
+// The text of what a run of tails came to.
+fn print_tailed<K: Sink>(tailed: &Tailed, sink: &mut K) -> Status
+    requires { AreAsLong (map (λ s. s.journal) tailed.now.shards.items)
+        (in_vectors tailed.now.tails.items) }
+    ensures either { (result ≡ Status.Done) ⊎ (result ≡ Status.WriteFault) }
+    ensures done { result ≡ Status.Done → Appends K.taken K.faults
+        (tailed_text tailed.now) sink.old sink.new }
+    ensures failed { result ≡ Status.WriteFault → Fails K.taken K.faults
+        (tailed_text tailed.now) sink.old sink.new }
+{
+    match write_tailed(tailed, sink) {
         Ok(()) => Status::Done,
         Err(_) => Status::WriteFault,
     }

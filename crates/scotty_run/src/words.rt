@@ -1,5 +1,6 @@
 //! The words of the command line, those after the program's name: which command they are.
 ghost use Rattle.std.specs.Prelude.{◌≡◌, ◌≤◌, ◌↔◌, ◌⊎◌, ℕ, List, map, decimal, string_bytes, All, IsTrue, IfSome, IfNone};
+ghost use Rattle.scotty_run.specs.LastWords.{IsLast, IsLastOf, LastRun};
 ghost use Rattle.scotty_run.specs.Words.{AreSources, Check, IsCheck, IsCheckOf, IsMade, IsMadeOf, IsName, IsNumberWithin, IsRun, IsRunOf, IsRunWord, IsWatch, IsWatchOf, IsWay, Made, Run, Watch, run_word, way_word};
 
 use crate::way::Way;
@@ -215,6 +216,10 @@ pub fn commands_are_told_apart_by_their_words()
         → ¬ (IsRun words ⊎ IsMade words) }
     ensures apart_from_watches { (words : List (List ℕ)) → IsWatch words
         → ¬ (IsRun words ⊎ IsMade words ⊎ IsCheck words) }
+    ensures one_last { (words : List (List ℕ)) (l other : LastRun) → IsLastOf words l
+        → IsLastOf words other → l ≡ other }
+    ensures apart_from_tails { (words : List (List ℕ)) → IsLast words
+        → ¬ (IsRun words ⊎ IsMade words ⊎ IsCheck words ⊎ IsWatch words) }
 {}
 
 // The form that the first word of a run tells.
@@ -231,8 +236,8 @@ fn run_form(word: &str) -> Option<ReportForm>
     None
 }
 
-// 1 to 16 names.
-fn are_sources(words: &[String]) -> bool
+/// 1 to 16 names.
+pub fn are_sources(words: &[String]) -> bool
     ensures { IsTrue result ↔ AreSources (map string_bytes words.now) }
 {
     !words.is_empty() && words.len() <= 16 && are_names(words)

@@ -2,8 +2,11 @@
 use Rattle.std.proofs.Common.{◌∷◌, map, string_bytes, subst}
 use Rattle.scotty_run.specs.Answer.{IsAnswer, IsCheckAnswer, IsMadeAnswer}
 use Rattle.scotty_run.specs.Outside.{OpensInOrder, opens_of}
+use Rattle.scotty_run.specs.LastWords.{LastRun}
+use Rattle.scotty_run.specs.Tailing.{IsLastAnswer}
 use Rattle.scotty_run.specs.Watching.{IsWatchAnswer}
 use Rattle.scotty_run.specs.Words.{Check, Made, Run, Watch}
+use Rattle.scotty_run.proofs.LastFacts.{one_last}
 use Rattle.scotty_run.proofs.WordFacts.{one_check, one_made, one_run, one_watch}
 use Rattle.scotty_run.proofs.command.scotty.Goals as goal
 
@@ -47,3 +50,15 @@ returns-in-Some-watch_of-clause-watch_opens g c w is =
     let f = g.F.Files in
     subst (λ (x : Watch). OpensInOrder f.asked f.came f.told (x.defs ∷ x.sources) c.args.files.now c.watch.new.files)
     (one_watch (map string_bytes c.args.words.now) c.in-Some-watch_of.command w c.in-Some-watch_of.ensures.found is) c.watch.ensures.files
+
+pub returns-in-Some-last_of-clause-tails : goal.returns-in-Some-last_of-clause-tails
+returns-in-Some-last_of-clause-tails g c l is =
+    let opens = opens_of g.F.Files.asked g.F.Files.came c.args.files.now c.tail.new.files in
+    subst (λ (x : LastRun). IsLastAnswer g.K.Sink.taken g.K.Sink.faults x opens c.args.sink.now c.tail.new.sink c.tail.result)
+    (one_last (map string_bytes c.args.words.now) c.in-Some-last_of.command l c.in-Some-last_of.ensures.found is) c.tail.ensures.answer
+
+pub returns-in-Some-last_of-clause-tails_open : goal.returns-in-Some-last_of-clause-tails_open
+returns-in-Some-last_of-clause-tails_open g c l is =
+    let f = g.F.Files in
+    subst (λ (x : LastRun). OpensInOrder f.asked f.came f.told x.sources c.args.files.now c.tail.new.files)
+    (one_last (map string_bytes c.args.words.now) c.in-Some-last_of.command l c.in-Some-last_of.ensures.found is) c.tail.ensures.files

@@ -1,3 +1,4 @@
+use Rattle.scotty_run.proofs.LastFacts.{one_last, tails_are_no_others}
 use Rattle.scotty_run.proofs.WordFacts.{checks_are_no_others, one_check, one_made, one_run, one_watch, runs_are_not_made, watches_are_no_others}
 use Rattle.scotty_run.proofs.words.commands_are_told_apart_by_their_words.Goals as goal
 
@@ -21,3 +22,9 @@ returns-clause-one_watch c = one_watch
 
 pub returns-clause-apart_from_watches : goal.returns-clause-apart_from_watches
 returns-clause-apart_from_watches c = watches_are_no_others
+
+pub returns-clause-one_last : goal.returns-clause-one_last
+returns-clause-one_last c = one_last
+
+pub returns-clause-apart_from_tails : goal.returns-clause-apart_from_tails
+returns-clause-apart_from_tails c = tails_are_no_others
