@@ -48,9 +48,9 @@ use stream_base::NoMemory;
 /// tails, or as a run with a fault. Other words are answered with a fault of their own.
 ///
 /// A run and a live board open their definitions and then their sources, a check its definitions, its
-/// report and its sources, a run of tails its sources: the first ones of these names, each once, in this order, and nothing else.
-/// All of them behind a report or a finding, or where a source is in trouble; and none behind one that
-/// can't be opened. Each opened source is given back.
+/// report and its sources, a run of tails its sources: the first ones of these names, each once, in
+/// this order, and nothing else. All of them behind a report or a finding, or where a source is in
+/// trouble; and none behind one that can't be opened. Each opened source is given back.
 pub fn scotty<F: Files, K: Sink, G: Gate, R: Threads + Wait + Sync>(
     alloc: Global,
     rt: &R,
