@@ -1,5 +1,5 @@
 //! A run of tails over files: sources are gathered into shards, and their journals are followed.
-ghost use Rattle.std.specs.Prelude.{◌≡◌, ◌<◌, ◌×◌, All, IfErr, IfOk, length, map};
+ghost use Rattle.std.specs.Prelude.{◌≡◌, ◌<◌, All, IfErr, IfOk, length, map};
 ghost use Rattle.emission_text.specs.Sending.{Writes};
 ghost use Rattle.tail_text.specs.Texts.{AreAsLong, in_vectors, tail_changes_in};
 ghost use Rattle.scotty_run.specs.LastWords.{last_definitions};
