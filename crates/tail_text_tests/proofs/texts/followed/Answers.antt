@@ -5,4 +5,4 @@ use Rattle.tail_text_tests.proofs.texts.followed.Goals as goal
 
 pub tails_of-requires-clause-known : goal.tails_of-requires-clause-known
 tails_of-requires-clause-known c =
-    subst (λ n. All (λ (e : Entry). e.source < n) c.args.shard.now.journal) c.requires.source ((c.journal_len-_entries.ensures.journal).known).known_sources
+    subst (λ n. All (λ (e : Entry). e.source < n) c.args.shard.now.journal) c.requires.source ((c.journal_len-entries.ensures.journal).known).known_sources
