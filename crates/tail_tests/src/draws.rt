@@ -7,16 +7,16 @@ use stream_base::{Entry, Func, KeyText, What};
 use tail_windows::TailDef;
 
 // So many entries are generated from a seed.
-pub const ENTRIES: u64 = 300;
+pub const ENTRIES: u64 = 160;
 
 // Source 1 ends here, and source 0 a little before the last entry. What they say later is dropped
 // or ignored.
-const FIRST_END: u64 = 240;
+const FIRST_END: u64 = 125;
 
-const LAST_END: u64 = 290;
+const LAST_END: u64 = 150;
 
 // A tuple comes before this time.
-pub const TIMES: u64 = 140;
+pub const TIMES: u64 = 120;
 
 // Numbers by a linear congruence, of which the upper bits are drawn.
 #[derive(Drop)]
@@ -49,9 +49,9 @@ impl Draws {
         }
     }
 
-    // The entry at a number. Times rise by 1 with each third entry, beside their jitter.
+    // The entry at a number. Times rise by 1 with each second entry, beside their jitter.
     pub fn entry(&mut self, number: u64, keys: &[KeyText; 3]) -> Entry
-        requires { number < 300 }
+        requires { number < 160 }
         ensures source { result.source < 2 }
         ensures time { time_in result.what ≤ TIME_MAX }
     {
@@ -67,17 +67,17 @@ impl Draws {
             _ => {
                 let source = self.below(2) as u16;
                 let key = keys[self.below(3) as usize];
-                let what = self.said(number / 3, key);
+                let what = self.said(number / 2, key);
                 Entry { source, what }
             }
         }
     }
 
-    // Of 100 entries about 66 are tuples, 6 marks, 24 watermarks, and 4 say that the source is idle.
-    // A tuple may be 30 behind a watermark of the same age, so the latest are dropped under each
-    // lateness.
+    // Of 100 entries about 66 are tuples, 6 marks, 24 watermarks, and 4 say that the source is
+    // idle. A tuple may be 30 behind a watermark of the same age, so the latest are dropped under
+    // each lateness.
     fn said(&mut self, base: u64, key: KeyText) -> What
-        requires { base < 100 }
+        requires { base < 80 }
         ensures { time_in result ≤ TIME_MAX }
     {
         let draw = self.below(100);

