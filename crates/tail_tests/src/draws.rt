@@ -9,8 +9,8 @@ use tail_windows::TailDef;
 // So many entries are generated from a seed.
 pub const ENTRIES: u64 = 160;
 
-// Source 1 ends here, and source 0 a little before the last entry. What they say later is dropped
-// or ignored.
+// Source 1 ends here, and source 0 a little before the last entry. Both may say more behind it: it
+// is taken in like any other, so that behind both ends each tuple and mark is late.
 const FIRST_END: u64 = 125;
 
 const LAST_END: u64 = 150;
