@@ -1,0 +1,4 @@
+pub mod UpTo
+pub mod Folding
+pub mod Ranges
+pub mod Putting
