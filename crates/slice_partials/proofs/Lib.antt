@@ -1,4 +1,3 @@
-pub mod Folding
 pub mod PartialFacts
 pub mod EnterFacts
 pub mod CountFacts

@@ -4,7 +4,7 @@ ghost use Rattle.stream_base.specs.Model.Windows.{first_time, last_time};
 ghost use Rattle.slice_lists.specs.Slices.{entered_at, joined, slices_between};
 ghost use Rattle.slice_partials.specs.Following.{Follow, MayEnter};
 
-use crate::lifting::{folded, lifted};
+use crate::lifting::lifted;
 use agg_laws::{AggTree, Monoid, Steps};
 use aggregates::Bundle;
 use partials::Partials;
@@ -85,7 +85,7 @@ fn refold<T: AggTree<Bundle>, L>(
 {
     let low = runs.slice(at).low;
     runs.enter(at, at + 1, x);
-    let bundle = folded(runs.tuples_of(at), steps);
+    let bundle = runs.fold_of(at, steps);
     partials.set(low, bundle, steps);
 }
 
@@ -128,6 +128,10 @@ pub fn enter<T: AggTree<Bundle>, L>(
     ensures cost { steps.new ≤ steps.old + (128 * ((partials.old).reach + 3)
         + length (joined (slices_between from to (runs.old).slices))) }
     ensures in_order { last_time (joined (runs.old).slices) ≤ x.time
+        → steps.new ≤ steps.old + 128 * ((partials.old).reach + 3) }
+
+    // A tuple behind those of its slice refolds none.
+    ensures behind { from < to → last_time (slice_index_or (runs.old).slices from []) ≤ x.time
         → steps.new ≤ steps.old + 128 * ((partials.old).reach + 3) }
 {
     let count = to - from;

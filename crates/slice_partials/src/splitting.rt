@@ -3,7 +3,6 @@ ghost use Rattle.std.specs.Prelude.{◌≤◌, ◌+◌, ◌*◌, [], length, sli
 ghost use Rattle.slice_lists.specs.Slices.{split_at};
 ghost use Rattle.slice_partials.specs.Following.{Follow, MaySplit};
 
-use crate::lifting::folded;
 use agg_laws::{AggTree, Steps};
 use aggregates::Bundle;
 use partials::Partials;
@@ -26,8 +25,8 @@ pub fn split<T: AggTree<Bundle>, L>(
     let low = runs.slice(at).low;
     runs.split(at, time);
     let next = runs.slice(at + 1).low;
-    let front = folded(runs.tuples_of(at), steps);
-    let back = folded(runs.tuples_of(at + 1), steps);
+    let front = runs.fold_of(at, steps);
+    let back = runs.fold_of(at + 1, steps);
     partials.set(low, front, steps);
     partials.insert(next, back, steps);
 }

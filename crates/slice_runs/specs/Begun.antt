@@ -3,9 +3,8 @@ use Rattle.std.specs.Prelude.{◌≤◌, ◌<◌, ℕ, List, [], All, length, sl
 use Rattle.stream_base.specs.declared.def.Def.{Def}
 use Rattle.stream_base.specs.declared.kept.Kept.{Kept}
 use Rattle.stream_base.specs.declared.limits.TheConstants.{TIME_MAX}
-use Rattle.stream_base.specs.Laws.{TimesDoNotFall}
 use Rattle.stream_base.specs.Limits.{IsKindWithin}
-use Rattle.stream_base.specs.Model.Windows.{first_time, last_time}
+use Rattle.stream_base.specs.Model.Windows.{first_time}
 use Rattle.slice_lists.specs.Places.{IsPlaceOf}
 use Rattle.slice_lists.specs.Slices.{AreSlices}
 
@@ -24,9 +23,3 @@ pub record IsPlaceAt (windows : List Def) (slices : List (List Kept)) (at time :
 pub record IsPlaceBehind (windows : List Def) (slices : List (List Kept)) (at time : ℕ) : Type 0 where
   pub kinds : All (λ w. IsKindWithin w.kind) windows
   pub later : at < length slices → time < first_time (slice_index_or slices at [])
-
--- tuples in order, some of them before a time and some from it on
-pub record AreAcross (time : ℕ) (tuples : List Kept) : Type 0 where
-  pub in_order : TimesDoNotFall tuples
-  pub before : first_time tuples < time
-  pub behind : time ≤ last_time tuples

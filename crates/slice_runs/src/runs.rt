@@ -1,27 +1,32 @@
 //! Tuples in event order, parted into slices.
-ghost use Rattle.std.specs.Prelude.{◌≡◌, ◌≤◌, ◌<◌, ◌+◌, ◌-◌, ◌^◌, ◌++◌, [], length, take, drop, filter, slice_index_or, nat_le, nat_lt, OnOk, IfSome, IfNone, All, false, vec_len, vec_capacity};
-ghost use Rattle.std.specs.List.{insert};
+ghost use Rattle.std.specs.Prelude.{◌≡◌, ◌≤◌, ◌<◌, ◌+◌, [], length, drop, slice_index_or, nat_le, OnOk, IfSome, IfNone, All, false};
 ghost use Rattle.stream_base.specs.Model.Windows.{first_time, last_time};
 ghost use Rattle.run_laws.specs.Runs.{IsAligned};
+ghost use Rattle.aggregates.specs.Bundled.{bundle_of};
 ghost use Rattle.slice_lists.specs.Touched.{is_across};
 ghost use Rattle.slice_lists.specs.Sides.{IsAcrossAt};
 ghost use Rattle.slice_lists.specs.Places.{IsPlaceOf};
-ghost use Rattle.slice_runs.specs.Begun.{AreAcross, AreBefore};
-ghost use Rattle.slice_lists.specs.Slices.{AreSlices, CanEnter, CanSplit, entered_at, joined, slice_of, split_at};
+ghost use Rattle.slice_runs.specs.Begun.{AreBefore};
+ghost use Rattle.slice_lists.specs.Slices.{AreSlices, CanEnter, CanSplit, entered_at, joined, slice_of, split_at, values_of};
 
 use crate::bounds::{enter_bounds, split_bounds};
-use crate::places::{are_by, place_of, slices_before, slices_up_to, tuples_before};
+use crate::places::{slices_before, slices_up_to};
+use agg_laws::Steps;
+use aggregates::Bundle;
 use slice_lists::Slice;
 use std::alloc::Global;
 use std::marker::Model;
 use stream_base::{Kept, NoMemory};
+use tuple_chunks::Tuples;
 
-/// Tuples in event order in one list, and beside it the bounds of each slice. Contracts see the
-/// slices as lists of tuples, and for how many more tuples there is room.
+/// Tuples in event order, and beside them the bounds of each slice. Contracts see the slices as
+/// lists of tuples, and for how many more tuples there is room.
 #[derive(Drop)]
 pub struct Runs {
-    tuples: Vec<Kept>,
+    tuples: Tuples,
     bounds: Vec<Slice>,
+    // How many tuples ever came: no slice has more, so 64 bits count them.
+    taken: u64,
 }
 
 impl Model for Runs {
@@ -42,8 +47,9 @@ impl Runs {
         ensures { (result).slices ≡ [] }
     {
         Runs {
-            tuples: Vec::new(alloc),
+            tuples: Tuples::new(alloc),
             bounds: Vec::new(alloc),
+            taken: 0,
         }
     }
 
@@ -53,7 +59,10 @@ impl Runs {
         ensures spare { (self.old).spare ≤ (self.new).spare }
         ensures kept { (self.new).slices ≡ (self.old).slices }
     {
-        self.tuples.reserve(1)?;
+        if self.taken == u64::MAX {
+            return Err(NoMemory);
+        }
+        self.tuples.reserve()?;
         self.bounds.reserve(1)?;
         Ok(())
     }
@@ -93,17 +102,20 @@ impl Runs {
     pub fn are_by(&self, time: u64) -> bool
         ensures { result ≡ nat_le (last_time (joined (self.now).slices)) time }
     {
-        are_by(&self.tuples, time)
+        self.tuples.are_by(time)
     }
 
-    /// The tuples of a slice.
-    pub fn tuples_of(&self, at: usize) -> &[Kept]
-        requires { at < length (self.now).slices }
-        ensures { result.now ≡ slice_index_or (self.now).slices at [] }
+    /// What the tuples of a slice come to in event order, in at most one step for each.
+    pub fn fold_of<L>(&mut self, at: usize, steps: &mut Steps<L>) -> Bundle
+        requires { at < length (self.old).slices }
+        ensures value { result
+            ≡ bundle_of (values_of (slice_index_or (self.old).slices at [])) }
+        ensures kept { self.new ≡ self.old }
+        ensures cost { steps.new
+            ≤ steps.old + length (slice_index_or (self.old).slices at []) }
     {
         let slice = self.bounds[at];
-        let start = tuples_before(&self.tuples, slice.low);
-        part(&self.tuples, start, slice.number as usize)
+        self.tuples.fold(slice.low, slice.high + 1, steps)
     }
 
     /// Puts a tuple in its place, where the slices from one place up to another become one with it.
@@ -113,8 +125,8 @@ impl Runs {
         ensures holds { AreSlices (self.new).slices }
         ensures spare { (self.old).spare ≤ (self.new).spare + 1 }
     {
-        let place = place_of(&self.tuples, x.time);
-        put_tuple(&mut self.tuples, place, x);
+        self.taken += 1;
+        self.tuples.put(x);
         enter_bounds(&mut self.bounds, from, to, x.time);
     }
 
@@ -126,7 +138,7 @@ impl Runs {
         ensures holds { AreSlices (self.new).slices }
         ensures spare { (self.old).spare ≤ (self.new).spare }
     {
-        self.tuples.retain(|x| time <= x.time);
+        self.tuples.drop_before(time);
         self.bounds.retain(|s| time <= s.low);
     }
 
@@ -154,58 +166,9 @@ impl Runs {
         ensures holds { AreSlices (self.new).slices }
         ensures spare { (self.old).spare ≤ (self.new).spare + 1 }
     {
-        let (front, back) = parts_at(self.tuples_of(at), time);
+        let slice = self.bounds[at];
+        let front = self.tuples.shown(slice.low, time);
+        let back = self.tuples.shown(time, slice.high + 1);
         split_bounds(&mut self.bounds, at, front, back);
-    }
-}
-
-// Puts a tuple in a place, for which there is room.
-fn put_tuple(tuples: &mut Vec<Kept>, place: usize, x: Kept)
-    requires within { place ≤ vec_len tuples.old }
-    requires room { vec_len tuples.old < vec_capacity tuples.old }
-    ensures items { tuples.new.items ≡ insert tuples.old.items place x }
-    ensures len { vec_len tuples.new ≡ vec_len tuples.old + 1 }
-    ensures fits { vec_len tuples.new < 2 ^ 64 }
-    ensures capacity { vec_capacity tuples.old ≤ vec_capacity tuples.new }
-{
-    if place == tuples.len() {
-        tuples.push(x).unwrap();
-    } else {
-        tuples.insert(place, x).unwrap();
-    }
-}
-
-// So many tuples from a place on.
-fn part(tuples: &[Kept], start: usize, number: usize) -> &[Kept]
-    requires { start + number ≤ length tuples.now }
-    ensures { result.now ≡ take number (drop start tuples.now) }
-{
-    &tuples[start..start + number]
-}
-
-// How the tuples of a slice before a time show, and those from it on.
-fn parts_at(tuples: &[Kept], time: u64) -> (Slice, Slice)
-    requires { AreAcross time tuples.now }
-    ensures front { result.0 ≡ slice_of (filter (λ x. nat_lt x.time time) tuples.now) }
-    ensures back { result.1 ≡ slice_of (filter (λ x. nat_le time x.time) tuples.now) }
-    ensures some_before { 0 < result.0.number }
-    ensures some_behind { 0 < result.1.number }
-    ensures whole { tuples.now
-        ≡ filter (λ x. nat_lt x.time time) tuples.now
-        ++ filter (λ x. nat_le time x.time) tuples.now }
-{
-    let cut = tuples_before(tuples, time);
-    (shown(&tuples[..cut]), shown(&tuples[cut..]))
-}
-
-// How the tuples of a slice show.
-fn shown(tuples: &[Kept]) -> Slice
-    requires { 0 < length tuples.now }
-    ensures { result ≡ slice_of tuples.now }
-{
-    Slice {
-        low: tuples[0].time,
-        high: tuples[tuples.len() - 1].time,
-        number: tuples.len() as u64,
     }
 }

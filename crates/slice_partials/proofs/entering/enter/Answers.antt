@@ -18,3 +18,7 @@ returns-else-x-slice-clause-in_order g c = λ h.
     let runs = c.args.runs.now.slices in
     let l : c.args.from < length runs = omega (arith, c.requires.can.within) in
     absurd (omega (arith, h, slice_ends runs c.args.from l c.slice-slice.ensures.holds.ordered, ap (λ (s : Slice). s.high) c.slice-slice.ensures.shown, c.if-slice-x.false))
+
+pub returns-else-x-slice-clause-behind : goal.returns-else-x-slice-clause-behind
+returns-else-x-slice-clause-behind g c = λ l h.
+    absurd (omega (arith, h, ap (λ (s : Slice). s.high) c.slice-slice.ensures.shown, c.if-slice-x.false))

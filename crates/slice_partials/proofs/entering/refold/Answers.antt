@@ -1,11 +1,10 @@
 -- The partial of the slice is that of its tuples, with the new one among them.
-use Rattle.std.proofs.Common.{◌≡◌, ◌∙◌, ◌<◌, ◌+◌, [], ap, sym, map, refl, arith, length, get_or}
-use Rattle.stream_base.specs.Model.Journal.{put_in_order}
+use Rattle.std.proofs.Common.{◌∙◌, ◌<◌, ◌+◌, [], ap, sym, map, refl, subst, arith, length, get_or}
 use Rattle.stream_base.specs.Model.Windows.{first_time}
 use Rattle.aggregates.specs.Bundled.{bundle_of}
 use Rattle.agg_laws.specs.Pairs.{has_key, replaced}
 use Rattle.slice_lists.specs.declared.slice.Slice.{Slice}
-use Rattle.slice_lists.specs.Slices.{values_of}
+use Rattle.slice_lists.specs.Slices.{AreSlices, Sliced, values_of}
 use Rattle.agg_store.specs.Stored.{partial_of}
 use Rattle.slice_lists.proofs.SliceFacts.{entered_there, refolded_length}
 use Rattle.slice_partials.proofs.PartialFacts.{partial_there, refolded_there}
@@ -26,16 +25,16 @@ pub returns-clause-follow : goal.returns-clause-follow
 returns-clause-follow g c =
     let runs = c.args.runs.now.slices in
     let l : c.args.at < length runs = omega (arith, c.requires.may.can.within) in
-    let own : c.tuples_of.result.now ≡ put_in_order (get_or runs c.args.at []) c.args.x =
-    c.tuples_of.ensures ∙ ap (λ rs. get_or rs c.args.at []) c.enter.ensures.slices ∙ entered_there runs c.args.at (c.args.at + 1) c.args.x refl l in
+    let own = ap (λ rs. get_or rs c.args.at []) c.enter.ensures.slices ∙ entered_there runs c.args.at (c.args.at + 1) c.args.x refl l in
     record {
-      slices = c.enter.ensures.slices;
-      holds = c.enter.ensures.holds;
+      slices = ap (λ (r : Sliced). r.slices) c.fold_of-bundle.ensures.kept ∙ c.enter.ensures.slices;
+      holds = subst (λ (r : Sliced). AreSlices r.slices) (sym c.fold_of-bundle.ensures.kept) c.enter.ensures.holds;
       stand = c.set.ensures.replaced
-          ∙ (λ i. replaced (ap (λ (s : Slice). s.low) c.slice-low.ensures.shown i) c.folded-bundle.result (c.requires.may.stand i))
-          ∙ refolded_there runs c.args.at (c.args.at + 1) c.args.x c.slice-low.ensures.holds.ordered c.requires.may.can.ordered refl l c.requires.late c.folded-bundle.result (c.folded-bundle.ensures.value ∙ ap (λ ts. bundle_of (values_of ts)) own)
-          ∙ ap (map partial_of) (sym c.enter.ensures.slices);
-      room = c.enter.ensures.spare;
+          ∙ (λ i. replaced (ap (λ (s : Slice). s.low) c.slice-low.ensures.shown i) c.fold_of-bundle.result (c.requires.may.stand i))
+          ∙ refolded_there runs c.args.at (c.args.at + 1) c.args.x c.slice-low.ensures.holds.ordered c.requires.may.can.ordered refl l c.requires.late c.fold_of-bundle.result (c.fold_of-bundle.ensures.value ∙ ap (λ ts. bundle_of (values_of ts)) own)
+          ∙ ap (map partial_of) (sym c.enter.ensures.slices)
+          ∙ ap (λ (r : Sliced). map partial_of r.slices) (sym c.fold_of-bundle.ensures.kept);
+      room = omega (arith, c.enter.ensures.spare, ap (λ (r : Sliced). r.spare) c.fold_of-bundle.ensures.kept);
       spare = omega (arith, c.set.ensures.keeps.spare);
       reach = omega (arith, c.set.ensures.keeps.reach);
     }
@@ -44,6 +43,5 @@ pub returns-clause-cost : goal.returns-clause-cost
 returns-clause-cost g c =
     let runs = c.args.runs.now.slices in
     let l : c.args.at < length runs = omega (arith, c.requires.may.can.within) in
-    let own : c.tuples_of.result.now ≡ put_in_order (get_or runs c.args.at []) c.args.x =
-    c.tuples_of.ensures ∙ ap (λ rs. get_or rs c.args.at []) c.enter.ensures.slices ∙ entered_there runs c.args.at (c.args.at + 1) c.args.x refl l in
-    omega (arith, c.folded-bundle.ensures.cost, ap length own, refolded_length runs c.args.at (c.args.at + 1) c.args.x refl l, c.set.ensures.cost)
+    let own = ap (λ rs. get_or rs c.args.at []) c.enter.ensures.slices ∙ entered_there runs c.args.at (c.args.at + 1) c.args.x refl l in
+    omega (arith, c.fold_of-bundle.ensures.cost, ap length own, refolded_length runs c.args.at (c.args.at + 1) c.args.x refl l, c.set.ensures.cost)

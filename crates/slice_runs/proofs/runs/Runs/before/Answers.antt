@@ -11,13 +11,13 @@ use Rattle.slice_runs.proofs.runs.Runs.before.Goals as goal
 pub slices_before-requires : goal.slices_before-requires
 slices_before-requires c =
     let a = c.self.inside in
-    subst (IsNonDecreasingBy (λ (s : Slice). s.low)) (sym c.self.invariant.shown ∙ sym c.deref.ensures.value) (lows_rise (parted_by a.bounds.items a.tuples.items) c.self.invariant.hold.ordered)
+    subst (IsNonDecreasingBy (λ (s : Slice). s.low)) (sym c.self.invariant.parted.shown ∙ sym c.deref.ensures.value) (lows_rise (parted_by a.bounds.items a.tuples.tuples) c.self.invariant.parted.hold.ordered)
 
 pub returns : goal.returns
 returns c =
     let a = c.self.inside in
     rw (← c.self.view_is)
     (record {
-      place = place_of_map (λ (s : Slice). s.low) slice_of (parted_by a.bounds.items a.tuples.items) c.deref.result.now c.args.time c.slices_before.result (c.deref.ensures.value ∙ c.self.invariant.shown) c.slices_before.ensures;
-      holds = c.self.invariant.hold;
+      place = place_of_map (λ (s : Slice). s.low) slice_of (parted_by a.bounds.items a.tuples.tuples) c.deref.result.now c.args.time c.slices_before.result (c.deref.ensures.value ∙ c.self.invariant.parted.shown) c.slices_before.ensures;
+      holds = c.self.invariant.parted.hold;
     })

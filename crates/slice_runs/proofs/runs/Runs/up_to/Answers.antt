@@ -11,13 +11,13 @@ use Rattle.slice_runs.proofs.runs.Runs.up_to.Goals as goal
 pub slices_up_to-requires : goal.slices_up_to-requires
 slices_up_to-requires c =
     let a = c.self.inside in
-    subst (IsNonDecreasingBy (λ (s : Slice). s.low)) (sym c.self.invariant.shown ∙ sym c.deref.ensures.value) (lows_rise (parted_by a.bounds.items a.tuples.items) c.self.invariant.hold.ordered)
+    subst (IsNonDecreasingBy (λ (s : Slice). s.low)) (sym c.self.invariant.parted.shown ∙ sym c.deref.ensures.value) (lows_rise (parted_by a.bounds.items a.tuples.tuples) c.self.invariant.parted.hold.ordered)
 
 pub returns : goal.returns
 returns c =
     let a = c.self.inside in
     rw (← c.self.view_is)
     (record {
-      place = place_of_map (λ (s : Slice). s.low) slice_of (parted_by a.bounds.items a.tuples.items) c.deref.result.now (c.args.time + 1) c.slices_up_to.result (c.deref.ensures.value ∙ c.self.invariant.shown) c.slices_up_to.ensures;
-      holds = c.self.invariant.hold;
+      place = place_of_map (λ (s : Slice). s.low) slice_of (parted_by a.bounds.items a.tuples.tuples) c.deref.result.now (c.args.time + 1) c.slices_up_to.result (c.deref.ensures.value ∙ c.self.invariant.parted.shown) c.slices_up_to.ensures;
+      holds = c.self.invariant.parted.hold;
     })
