@@ -3,7 +3,7 @@ use Rattle.std.proofs.Common.{◌≡◌, ◌≢◌, ◌∙◌, ℕ, ◌+◌, ◌
 use Rattle.std.specs.Prelude.{nat_le, remove, Option}
 use Rattle.std.specs.List.{All, filter, flat_map}
 use Rattle.std.proofs.lemmas.Grind.{flat_map-append}
-use Rattle.std.proofs.lemmas.List.{append-nil, drop_all, take-append-drop}
+use Rattle.std.proofs.lemmas.List.{append-nil, drop_all, take-append-drop, take_all}
 use Rattle.std.proofs.lemmas.List.Elements.{All-drop, All-head, All-take, All-weaker, filter-append}
 use Rattle.stream_base.specs.declared.kept.Kept.{Kept}
 use Rattle.stream_base.specs.Laws.{TimesDoNotFall}
@@ -11,7 +11,9 @@ use Rattle.stream_base.specs.Model.Windows.{first_time, is_within, last_time, wi
 use Rattle.aggregates.specs.Bundled.{Bundled}
 use Rattle.run_laws.proofs.Order.{nd_split}
 use Rattle.tuple_chunks.specs.Parts.{AreParts, IsReady, IsRow}
+use Rattle.tuple_chunks.specs.Sums.{IsSum}
 use Rattle.tuple_chunks.proofs.PartFacts.{parts_at, taken_length, taken_within}
+use Rattle.tuple_chunks.proofs.SumFacts.{sum_is_kept}
 use Rattle.tuple_chunks.proofs.TimeFacts.{above_first, first_of_append, last_of_append, stay_all}
 
 pub filter_shorter : (p : Kept → Bool) (xs : List Kept) → length (filter p xs) ≤ length xs
@@ -33,6 +35,13 @@ remove_drop {X = X} n xs ys e l = ap (λ l. remove l 0) e ∙ at n xs l
     at n [] l = absurd (omega arith)
     at zero (x ∷ xs) l = refl
     at (suc n) (x ∷ xs) l = at n xs (omega arith) ∙ ap (λ k. drop k (x ∷ xs)) (let e : suc (n + 1) ≡ suc n + 1 = omega arith in e)
+
+pub same_list : {X : Type 0} (n : ℕ) (xs ys : List X) → ys ≡ xs → n ≡ length xs → take n (ys ++ drop (length ys) xs) ≡ xs
+same_list n xs ys e l =
+    (λ i. take (l i) (e i ++ drop (length (e i)) xs))
+    ∙ ap (λ l. take (length xs) (xs ++ l)) (drop_all (length xs) xs (omega arith))
+    ∙ ap (take (length xs)) (append-nil xs)
+    ∙ take_all (length xs) xs (omega arith)
 
 module _ {P : Type 0} (f : P → List Kept) (s : P → ℕ) where
   pub first_of_parts : (ps : List P) (o : P) → AreParts f ps → 0 < length ps → o ≡ get_or ps 0 o → first_time (f o) ≡ first_time (flat_map f ps)
@@ -131,3 +140,15 @@ module _ {P : Type 0} (f : P → List Kept) (s : P → ℕ) where
 
   pub row_some : (ps : List P) (number entered : ℕ) (ready : Bool) (sum : Option Bundled) → IsRow f s ps number entered ready sum → 0 < length ps
   row_some ps number entered ready sum row = omega (arith, row.some)
+
+  -- another sum is kept
+  pub row_summed : (ps : List P) (number entered : ℕ) (ready : Bool) (sum more : Option Bundled) → IsRow f s ps number entered ready sum → IsSum more (flat_map f ps) → IsRow f s ps number entered ready more
+  row_summed ps number entered ready sum more row h = record {
+    holds = row.holds;
+    some = row.some;
+    counted = row.counted;
+    fits = row.fits;
+    rooms = row.rooms;
+    roomy = row.roomy;
+    summed = sum_is_kept more (flat_map f ps) h;
+  }

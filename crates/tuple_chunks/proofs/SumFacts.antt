@@ -1,12 +1,12 @@
 -- Sums of tuples, one behind the other.
-use Rattle.std.proofs.Common.{◌≡◌, ◌∙◌, ℤ, ◌<◌, List, [], ◌∷◌, ◌++◌, Option, None, Some, true, length, length-append, map, ap, arith, refl, sym}
+use Rattle.std.proofs.Common.{◌≡◌, ◌∙◌, ℤ, ◌<◌, List, [], ◌∷◌, ◌++◌, Option, None, Some, true, length, length-append, map, ap, arith, refl, subst, sym}
 use Rattle.std.specs.Prelude.{FitsSigned, is_some}
 use Rattle.std.specs.Int.{w64}
 use Rattle.std.specs.List.{All}
 use Rattle.std.proofs.lemmas.List.{append-nil, map-append}
-use Rattle.std.proofs.lemmas.List.Elements.{All-append, All-map}
+use Rattle.std.proofs.lemmas.List.Elements.{All-append, All-map, All-nil}
 use Rattle.stream_base.specs.declared.kept.Kept.{Kept}
-use Rattle.aggregates.specs.Bundled.{Bundled, bundle_of}
+use Rattle.aggregates.specs.Bundled.{Bundled, bundle_of, empty_bundle}
 use Rattle.slice_lists.specs.declared.slice.Slice.{Slice}
 use Rattle.slice_lists.specs.Slices.{slice_of, values_of}
 use Rattle.tuple_chunks.specs.Sums.{IsKeptSum, IsSum, number_in, shown_joined, shown_of, sum_of}
@@ -59,3 +59,11 @@ both_shown (x ∷ xs) (y ∷ ys) =
     let last = last_of_append (x ∷ xs) (y ∷ ys) (omega arith) in
     let number = length-append (x ∷ xs) (y ∷ ys) in
     λ i. Some (record { low = x.time; high = sym last i; number = sym number i })
+
+pub no_sum : (xs : List Kept) → xs ≡ [] → IsSum None xs
+no_sum xs e = subst (IsSum None) (sym e) (record { value = refl; fit = All-nil (λ x. FitsSigned w64 x.value) })
+
+-- one value at least, or none
+pub unit_or_sum : (sum : Option Bundled) (b : Bundled) → (sum ≡ None → b ≡ empty_bundle) → ((c : Bundled) → sum ≡ Some c → b ≡ c) → (xs : List Kept) → IsSum sum xs → b ≡ bundle_of (values_of xs)
+unit_or_sum sum b none some [] h = none h.value
+unit_or_sum sum b none some (x ∷ xs) h = some (bundle_of (values_of (x ∷ xs))) h.value

@@ -108,12 +108,11 @@ impl Part for Chunk {
         if !covers(low, high, first_time(&self.tuples), last_time(&self.tuples)) {
             return sum_of(part_of(&self.tuples, low, high), steps);
         }
-        if let Some(sum) = self.sum {
-            return Some(sum);
+        if self.sum.is_some() {
+            return self.sum;
         }
-        let sum = sum_of(&self.tuples, steps);
-        self.sum = sum;
-        sum
+        self.sum = sum_of(&self.tuples, steps);
+        self.sum
     }
 
     fn shown(&self, low: u64, high: u64) -> Option<Slice> {

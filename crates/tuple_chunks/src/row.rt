@@ -151,15 +151,15 @@ impl<P: Part> Part for Row<P> {
         if !covers(low, high, first, last) {
             return fold_parts(&mut self.parts, low, high, steps);
         }
-        if let Some(sum) = self.sum {
-            return Some(sum);
+        if self.sum.is_some() {
+            return self.sum;
         }
-        let sum = fold_parts(&mut self.parts, low, high, steps);
-        self.sum = sum;
-        sum
+        self.sum = fold_parts(&mut self.parts, low, high, steps);
+        self.sum
     }
 
     fn shown(&self, low: u64, high: u64) -> Option<Slice> {
+        let number = self.number as u64;
         let first = self.first_time();
         let last = self.last_time();
         if misses(low, high, first, last) {
@@ -169,7 +169,7 @@ impl<P: Part> Part for Row<P> {
             return Some(Slice {
                 low: first,
                 high: last,
-                number: self.number as u64,
+                number,
             });
         }
         shown_parts(&self.parts, low, high)

@@ -17,8 +17,9 @@ loop-parts-preserved g c =
     let loop = c.loop-parts in
     let now = loop.parts.items in
     let o = c.index.result.now in
+    let some : 0 < length now = omega (arith, loop.invariant.some) in
     let early : last_time (f o) < time = omega (arith, c.last_time.ensures, c.loop-parts-test.true) in
-    let left : IsLeft f time now (remove now 0) = first_leaves f now time o loop.invariant.holds loop.invariant.some c.index.ensures early loop.invariant.stays in
+    let left : IsLeft f time now (remove now 0) = first_leaves f now time o loop.invariant.holds some c.index.ensures early loop.invariant.stays in
     let is : c.remove.new.self.items ≡ remove now 0 = c.remove.ensures.items in
     record {
       rest = is ∙ remove_drop loop.gone c.args.parts.now.items now loop.invariant.rest (omega (arith, loop.invariant.len, loop.invariant.some));
@@ -36,9 +37,10 @@ returns-clause-tuples g c =
     let loop = c.loop-parts in
     let now = loop.parts.items in
     let o = c.index_mut-first.result.now in
-    let same : c.index.result.now ≡ o = c.index.ensures ∙ get_or_default now 0 c.index.result.now o loop.invariant.some ∙ sym c.index_mut-first.ensures.value in
+    let some : 0 < length now = omega (arith, loop.invariant.some) in
+    let same : c.index.result.now ≡ o = c.index.ensures ∙ get_or_default now 0 c.index.result.now o some ∙ sym c.index_mut-first.ensures.value in
     let late : time ≤ last_time (f o) = omega (arith, c.last_time.ensures, c.loop-parts-test.false, ap (λ q. last_time (f q)) same) in
-    trimmed f now time o c.drop_before.new.self loop.invariant.holds loop.invariant.some c.index_mut-first.ensures.value late c.drop_before.ensures.tuples ∙ sym loop.invariant.same
+    trimmed f now time o c.drop_before.new.self loop.invariant.holds some c.index_mut-first.ensures.value late c.drop_before.ensures.tuples ∙ sym loop.invariant.same
 
 pub returns-clause-parts : goal.returns-clause-parts
 returns-clause-parts g c =
@@ -47,6 +49,7 @@ returns-clause-parts g c =
     let loop = c.loop-parts in
     let now = loop.parts.items in
     let o = c.index_mut-first.result.now in
-    let same : c.index.result.now ≡ o = c.index.ensures ∙ get_or_default now 0 c.index.result.now o loop.invariant.some ∙ sym c.index_mut-first.ensures.value in
+    let some : 0 < length now = omega (arith, loop.invariant.some) in
+    let same : c.index.result.now ≡ o = c.index.ensures ∙ get_or_default now 0 c.index.result.now o some ∙ sym c.index_mut-first.ensures.value in
     let late : time ≤ last_time (f o) = omega (arith, c.last_time.ensures, c.loop-parts-test.false, ap (λ q. last_time (f q)) same) in
-    trimmed_parts f now time o c.drop_before.new.self loop.invariant.holds loop.invariant.some c.index_mut-first.ensures.value late c.drop_before.ensures.tuples
+    trimmed_parts f now time o c.drop_before.new.self loop.invariant.holds some c.index_mut-first.ensures.value late c.drop_before.ensures.tuples
