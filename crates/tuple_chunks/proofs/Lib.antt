@@ -5,3 +5,4 @@ pub mod TimeFacts
 pub mod PartFacts
 pub mod SumFacts
 pub mod RowFacts
+pub mod HeldFacts

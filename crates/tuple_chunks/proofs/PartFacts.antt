@@ -96,12 +96,12 @@ module _ {P : Type 0} (f : P → List Kept) where
     within = l;
     before = all_parts (λ y. y.time ≤ time) (take at ps)
         (λ k d m.
-            let below : k < at = omega (arith, length-take at ps) in
-            let same : get_or (take at ps) k d ≡ get_or ps k d = get_or-take at ps k d below in
-            let last = early k d below in
-            let own = parts_ordered ps h.ordered k d (omega arith) in
-            subst (λ q. All (λ (y : Kept). y.time ≤ time) (f q)) (sym same)
-            (All-weaker (λ (y : Kept). y.time ≤ last_time (f (get_or ps k d))) (λ y. y.time ≤ time) (λ y n. omega (arith, last)) (f (get_or ps k d)) (below_last (f (get_or ps k d)) own)));
+        let below : k < at = omega (arith, length-take at ps) in
+        let same : get_or (take at ps) k d ≡ get_or ps k d = get_or-take at ps k d below in
+        let last = early k d below in
+        let own = parts_ordered ps h.ordered k d (omega arith) in
+        subst (λ q. All (λ (y : Kept). y.time ≤ time) (f q)) (sym same)
+        (All-weaker (λ (y : Kept). y.time ≤ last_time (f (get_or ps k d))) (λ y. y.time ≤ time) (λ y n. omega (arith, last)) (f (get_or ps k d)) (below_last (f (get_or ps k d)) own)));
     behind = late;
   }
 
@@ -132,9 +132,9 @@ module _ {P : Type 0} (f : P → List Kept) where
   entry_last ps time o h l is last =
       entry_is ps time (length ps - 1) h (omega arith)
       (λ k d m.
-          let rise : last_time (f (get_or ps k d)) ≤ last_time (f (get_or ps (length ps - 1) d)) = ends_rise ps h k (length ps - 1) d (omega arith) (omega arith) in
-          let same : get_or ps (length ps - 1) d ≡ o = get_or_default ps (length ps - 1) d o (omega arith) ∙ sym is in
-          omega (arith, rise, last, ap (λ p. last_time (f p)) same))
+      let rise : last_time (f (get_or ps k d)) ≤ last_time (f (get_or ps (length ps - 1) d)) = ends_rise ps h k (length ps - 1) d (omega arith) (omega arith) in
+      let same : get_or ps (length ps - 1) d ≡ o = get_or_default ps (length ps - 1) d o (omega arith) ∙ sym is in
+      omega (arith, rise, last, ap (λ p. last_time (f p)) same))
       (λ d. inr (omega arith))
 
   -- or the first one that has a later time

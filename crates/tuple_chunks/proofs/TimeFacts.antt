@@ -66,9 +66,9 @@ covered low high xs h t =
     let to : last_time xs < high = ltb-true (last_time xs) high both.1 in
     filter_all (is_within low high) xs
     (λ k d l.
-        let lo = above_first xs h k d l in
-        let hi = below_last xs h k d l in
-        and_from (nat_le low _) (nat_lt _ high) (le-leb low _ (omega (arith, lo))) (lt-ltb _ high (omega (arith, hi))))
+    let lo = above_first xs h k d l in
+    let hi = below_last xs h k d l in
+    and_from (nat_le low _) (nat_lt _ high) (le-leb low _ (omega (arith, lo))) (lt-ltb _ high (omega (arith, hi))))
 
 pub missed : (low high : ℕ) (xs : List Kept) → TimesDoNotFall xs → (nat_lt (last_time xs) low || nat_le high (first_time xs)) ≡ true → within low high xs ≡ []
 missed low high xs h t =

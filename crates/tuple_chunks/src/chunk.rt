@@ -131,7 +131,11 @@ fn first_time(tuples: &[Kept]) -> u64
 fn last_time(tuples: &[Kept]) -> u64
     ensures { result ≡ last_time tuples.now }
 {
-    if tuples.is_empty() { 0 } else { tuples[tuples.len() - 1].time }
+    if tuples.is_empty() {
+        0
+    } else {
+        tuples[tuples.len() - 1].time
+    }
 }
 
 /// Puts a tuple in a place, for which there is room.
