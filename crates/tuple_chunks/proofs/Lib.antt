@@ -1,4 +1,8 @@
 pub mod UpTo
-pub mod Folding
 pub mod Ranges
 pub mod Putting
+pub mod TimeFacts
+pub mod PartFacts
+pub mod SumFacts
+pub mod RowFacts
+pub mod HeldFacts

@@ -5,7 +5,11 @@
 //! leave, and a range of times folds in at most one step for each of its tuples.
 #![tactic(auto)]
 
+mod chunk;
+mod part;
 mod places;
+mod row;
+mod sums;
 mod tuples;
 
 pub use tuples::Tuples;

@@ -38,3 +38,12 @@ pub fn are_by(tuples: &[Kept], time: u64) -> bool
 {
     tuples.is_empty() || tuples[tuples.len() - 1].time <= time
 }
+
+/// Where a list that is full is divided: in half, or before its last element.
+pub fn cut(len: usize, is_last: bool) -> usize
+    requires { 2 ≤ len }
+    ensures some { 0 < result }
+    ensures within { result < len }
+{
+    if is_last { len - 1 } else { len / 2 }
+}

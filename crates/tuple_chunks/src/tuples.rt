@@ -1,39 +1,44 @@
-ghost use Rattle.std.specs.Prelude.{◌≡◌, ◌≤◌, ◌<◌, ◌+◌, ◌^◌, [], length, filter, nat_le, OnOk, vec_len, vec_capacity};
-ghost use Rattle.std.specs.List.{insert};
+ghost use Rattle.std.specs.Prelude.{◌≡◌, ◌≤◌, ◌<◌, ◌+◌, List, [], length, filter, nat_le, IfOk, OnOk};
+ghost use Rattle.stream_base.specs.declared.kept.Kept.{Kept};
 ghost use Rattle.stream_base.specs.Laws.{TimesDoNotFall};
 ghost use Rattle.stream_base.specs.Model.Journal.{put_in_order};
 ghost use Rattle.stream_base.specs.Model.Windows.{last_time, within};
-ghost use Rattle.aggregates.specs.Bundled.{bundle_of, bundle_of_number, bundles_combined};
+ghost use Rattle.aggregates.specs.Bundled.{bundle_of};
 ghost use Rattle.slice_lists.specs.Slices.{slice_of, values_of};
+ghost use Rattle.tuple_chunks.specs.Sums.{IsSum};
 
-use crate::places::{are_by, place_of, tuples_before};
-use agg_laws::{Lift, Monoid, Steps};
+use crate::chunk::{Chunk, MOST, part_of, put_tuple, shown};
+use crate::part::Part;
+use crate::places::{are_by, place_of};
+use crate::row::Row;
+use crate::sums::sum_of;
+use agg_laws::{Monoid, Steps};
 use aggregates::Bundle;
 use slice_lists::Slice;
 use std::alloc::Global;
 use std::marker::Model;
 use stream_base::{Kept, NoMemory};
 
-/// The tuples of one key in event order. Contracts see the list, and for how many more tuples there
-/// is room.
+// Chunks in groups, and these in a row.
+type Rows = Row<Row<Chunk>>;
+
+/// The tuples of one key in event order. Contracts see the list, and whether there is room for one
+/// tuple more. A few tuples lie in one list, which is empty where there are rows.
 #[derive(Drop)]
 pub struct Tuples {
-    tuples: Vec<Kept>,
+    few: Vec<Kept>,
+    rows: Option<Row<Row<Chunk>>>,
 }
 
 impl Model for Tuples {
     ghost use Rattle.std.specs.Prelude.{vec_len, vec_capacity, ◌-◌};
-    ghost use Rattle.stream_base.specs.Laws.{TimesDoNotFall};
-    ghost use Rattle.tuple_chunks.specs.Held.{Held};
+    ghost use Rattle.tuple_chunks.specs.Held.{Held, IsHeld, held_of};
 
     ghost Value = { Held };
 
-    ghost view = { λ t. record {
-      tuples = t.tuples.items;
-      spare = vec_capacity t.tuples - vec_len t.tuples;
-    } };
+    ghost view = { λ t. held_of t.few.items (vec_capacity t.few - vec_len t.few) t.rows };
 
-    ghost invariant = { λ t. TimesDoNotFall t.tuples.items };
+    ghost invariant = { λ t. IsHeld t.few.items (vec_capacity t.few) t.rows };
 }
 
 impl Tuples {
@@ -42,7 +47,8 @@ impl Tuples {
         ensures { result.tuples ≡ [] }
     {
         Tuples {
-            tuples: Vec::new(alloc),
+            few: Vec::new(alloc),
+            rows: None,
         }
     }
 
@@ -52,7 +58,16 @@ impl Tuples {
         ensures spare { self.old.spare ≤ self.new.spare }
         ensures kept { self.new.tuples ≡ self.old.tuples }
     {
-        self.tuples.reserve(1)?;
+        if let Some(rows) = &mut self.rows {
+            return rows.reserve();
+        }
+        if self.few.len() < MOST {
+            self.few.reserve(1)?;
+            return Ok(());
+        }
+        let rows = rows_of(&self.few)?;
+        self.rows = Some(rows);
+        self.few.clear();
         Ok(())
     }
 
@@ -62,15 +77,21 @@ impl Tuples {
         ensures tuples { self.new.tuples ≡ put_in_order self.old.tuples x }
         ensures spare { self.old.spare ≤ self.new.spare + 1 }
     {
-        let place = place_of(&self.tuples, x.time);
-        put_tuple(&mut self.tuples, place, x);
+        if let Some(rows) = &mut self.rows {
+            return rows.put(x);
+        }
+        let place = place_of(&self.few, x.time);
+        put_tuple(&mut self.few, place, x);
     }
 
     /// Whether no tuple is of a later time.
     pub fn are_by(&self, time: u64) -> bool
         ensures { result ≡ nat_le (last_time self.now.tuples) time }
     {
-        are_by(&self.tuples, time)
+        match &self.rows {
+            Some(rows) => rows.last_time() <= time,
+            None => are_by(&self.few, time),
+        }
     }
 
     /// Drops the tuples before a time.
@@ -78,7 +99,15 @@ impl Tuples {
         ensures tuples { self.new.tuples ≡ filter (λ x. nat_le time x.time) self.old.tuples }
         ensures spare { self.old.spare ≤ self.new.spare }
     {
-        self.tuples.retain(|x| time <= x.time);
+        let Some(rows) = &mut self.rows else {
+            self.few.retain(|x| time <= x.time);
+            return;
+        };
+        if time <= rows.last_time() {
+            return rows.drop_before(time);
+        }
+        self.rows = None;
+        self.few.clear();
     }
 
     /// What the tuples of a range of times come to, in at most one step for each.
@@ -87,7 +116,10 @@ impl Tuples {
         ensures kept { self.new ≡ self.old }
         ensures cost { steps.new ≤ steps.old + length (within low high self.old.tuples) }
     {
-        folded(part(&self.tuples, low, high), steps)
+        if let Some(rows) = &mut self.rows {
+            return or_unit(rows.fold(low, high, steps));
+        }
+        or_unit(sum_of(part_of(&self.few, low, high), steps))
     }
 
     /// How the tuples of a range of times show, of which there are some.
@@ -95,63 +127,32 @@ impl Tuples {
         requires { 0 < length (within low high self.now.tuples) }
         ensures { result ≡ slice_of (within low high self.now.tuples) }
     {
-        shown(part(&self.tuples, low, high))
+        match &self.rows {
+            Some(rows) => rows.shown(low, high).unwrap(),
+            None => shown(part_of(&self.few, low, high)).unwrap(),
+        }
     }
 }
 
-// Puts a tuple in a place, for which there is room.
-fn put_tuple(tuples: &mut Vec<Kept>, place: usize, x: Kept)
-    requires within { place ≤ vec_len tuples.old }
-    requires room { vec_len tuples.old < vec_capacity tuples.old }
-    ensures items { tuples.new.items ≡ insert tuples.old.items place x }
-    ensures len { vec_len tuples.new ≡ vec_len tuples.old + 1 }
-    ensures fits { vec_len tuples.new < 2 ^ 64 }
-    ensures capacity { vec_capacity tuples.old ≤ vec_capacity tuples.new }
+// Rows of these tuples.
+fn rows_of(tuples: &Vec<Kept>) -> Result<Rows, NoMemory>
+    requires some { 0 < length tuples.now.items }
+    requires ordered { TimesDoNotFall tuples.now.items }
+    ensures tuples { IfOk result (λ r. r.tuples ≡ tuples.now.items) }
+    ensures room { IfOk result (λ r. 1 ≤ r.spare) }
 {
-    if place == tuples.len() {
-        tuples.push(x).unwrap();
-    } else {
-        tuples.insert(place, x).unwrap();
-    }
+    let alloc = *tuples.allocator();
+    let chunk = Chunk::of(alloc, tuples)?;
+    let group = Row::of(alloc, chunk)?;
+    Row::of(alloc, group)
 }
 
-// The tuples of a range of times.
-fn part(tuples: &[Kept], low: u64, high: u64) -> &[Kept]
-    requires { TimesDoNotFall tuples.now }
-    ensures { result.now ≡ within low high tuples.now }
+// What tuples come to, of which there may be none.
+fn or_unit(sum: Option<Bundle>) -> Bundle
+    ensures { (xs : List Kept) → IsSum sum xs → result ≡ bundle_of (values_of xs) }
 {
-    let end = tuples_before(tuples, high);
-    let start = tuples_before(tuples, low).min(end);
-    &tuples[start..end]
-}
-
-// What tuples come to in their order, one step for each.
-fn folded<L>(tuples: &[Kept], steps: &mut Steps<L>) -> Bundle
-    ensures value { result ≡ bundle_of (values_of tuples.now) }
-    ensures cost { steps.new ≤ steps.old + length tuples.now }
-{
-    let mut bundle = Bundle::unit();
-    for x in tuples {
-        bundle = with_tuple(&bundle, x, steps);
-    }
-    bundle
-}
-
-fn with_tuple<L>(bundle: &Bundle, x: &Kept, steps: &mut Steps<L>) -> Bundle
-    ensures value { result ≡ bundles_combined bundle.now (bundle_of_number (x.now).value) }
-    ensures cost { steps.new ≤ steps.old + 1 }
-{
-    bundle.combine(&Bundle::lift(x.value), steps)
-}
-
-// How tuples show, of which there are some.
-fn shown(tuples: &[Kept]) -> Slice
-    requires { 0 < length tuples.now }
-    ensures { result ≡ slice_of tuples.now }
-{
-    Slice {
-        low: tuples[0].time,
-        high: tuples[tuples.len() - 1].time,
-        number: tuples.len() as u64,
+    match sum {
+        Some(bundle) => bundle,
+        None => Bundle::unit(),
     }
 }
