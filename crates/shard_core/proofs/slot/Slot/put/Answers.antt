@@ -11,3 +11,12 @@ put-requires-clause-comes g c =
       ready = search rules;
       spare = search rules;
     }
+
+-- what is due stays with the room that was made, and then with the tuple
+pub returns-clause-due : goal.returns-clause-due
+returns-clause-due g c = λ stays kept marks due stands quiet.
+    let old = c.args.self.now in
+    c.put-stays.ensures.due stays kept marks due (c.reserve_put.ensures.stays kept marks old.water stands) (record {
+      nothing_changes = λ new rises below. rw c.reserve_put.ensures.key (quiet.nothing_changes new rises below);
+      waits = λ new is rises below. c.reserve_put.ensures.stays kept marks new (quiet.waits new is rises below);
+    })
