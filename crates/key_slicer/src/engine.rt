@@ -91,7 +91,7 @@ impl<T: AggTree<Bundle> + Drop, P: AnyPart> KeyWindows for KeyState<T, P> {
         );
         append_sorted(self.scratch.as_slice(), out);
         self.next = pos + 1;
-        leaves_due(defs, joined, time, water)
+        leaves_due(defs, joined)
     }
 
     fn reserve_mark(&mut self, defs: &Defs, time: u64, water: u64) -> Result<u64, NoMemory> {

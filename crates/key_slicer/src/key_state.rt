@@ -1,5 +1,5 @@
 //! The state of a key.
-ghost use Rattle.std.specs.Prelude.{◌≡◌, ◌≤◌, ◌<◌, ◌+◌, ◌-◌, ◌*◌, [], ℕ, length, true, All, IfNone, IfSome, OnOk, vec_capacity, vec_len};
+ghost use Rattle.std.specs.Prelude.{◌≡◌, ◌≤◌, ◌+◌, ◌-◌, ◌*◌, [], ℕ, length, true, All, IfNone, IfSome, OnOk, vec_capacity, vec_len};
 ghost use Rattle.std.specs.List.{list_all};
 ghost use Rattle.stream_base.specs.Laws.{is_timed};
 ghost use Rattle.stream_base.specs.Model.Journal.{put_in_order};
@@ -80,14 +80,13 @@ pub fn all_count_events(defs: &Defs) -> bool
         .all(|def| matches!(def.kind, Kind::Events { .. }))
 }
 
-// Whether what is due stays with a tuple at a time, by whether it joined the last slice: it then lies
-// in no interval of tumbling and sliding windows that isn't due already.
-pub fn leaves_due(defs: &Defs, joined: bool, time: u64, water: u64) -> bool
+// Whether what is due stays with a tuple, by whether it joined the last slice: each interval of a
+// tumbling or sliding window that holds it then held a tuple before.
+pub fn leaves_due(defs: &Defs, joined: bool) -> bool
     ensures joined { result ≡ true → joined ≡ true }
-    ensures ahead { result ≡ true → water < time }
     ensures timed { result ≡ true → All (λ w. is_timed w.kind ≡ true) (defs.now).windows }
 {
-    joined && water < time && all_timed(defs)
+    joined && all_timed(defs)
 }
 
 // Whether each window is tumbling or sliding.
