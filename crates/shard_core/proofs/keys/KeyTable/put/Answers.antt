@@ -39,7 +39,7 @@ due-requires-clause-stands g c =
     let past = c.args.past.now in
     let d = c.defs-defs.result.now in
     let table = c.prepare.new.self in
-    let new = c.put-stays.new.self in
+    let new = c.put.new.self in
     let there : c.index.result.now ≡ new = c.index.ensures ∙ get_or-set_same table.slots.items c.in_ok-place.place new c.index.result.now (c.prepare.ensures.current.placed c.args.key.now c.in_ok-place.place c.in_ok-place.ensures.place) in
     let old : HasLists fits d c.index_mut.result.now = rw c.defs-defs.ensures.value
     (has_lists g.K.KeyWindows.key_of fits g.K.KeyWindows.next_position past.defs past.sources past.journal c.prepare.new.self c.args.key.now c.in_ok-place.place c.index_mut.result.now c.prepare.ensures.current c.in_ok-place.ensures.place c.index_mut.ensures.value) in
@@ -49,7 +49,7 @@ pub due-requires-clause-water : goal.due-requires-clause-water
 due-requires-clause-water g c =
     let past = c.args.past.now in
     let table = c.prepare.new.self in
-    let new = c.put-stays.new.self in
+    let new = c.put.new.self in
     let there : c.index.result.now ≡ new = c.index.ensures ∙ get_or-set_same table.slots.items c.in_ok-place.place new c.index.result.now (c.prepare.ensures.current.placed c.args.key.now c.in_ok-place.place c.in_ok-place.ensures.place) in
     let was = current_at g.K.KeyWindows.key_of g.K.KeyWindows.fits g.K.KeyWindows.next_position past.defs past.sources past.journal c.prepare.new.self c.args.key.now c.in_ok-place.place c.index_mut.result.now c.prepare.ensures.current c.in_ok-place.ensures.place c.index_mut.ensures.value in
     subst (λ (s : Slot g.row.K.Denot). IsWater s.water) (sym there) (subst IsWater (sym c.in_ok-stays.ensures.water) was.is_water)
@@ -68,9 +68,9 @@ returns-in_err-stays-clause-taken g c e is =
       taken = search rules;
       changes = search rules;
       refused = on_err c.from_residual-in_err-stays.result
-          (replaced key_of fits next past.defs past.sources past.journal past.journal table _ c.args.key.now place c.put-stays.new.self due c.prepare.ensures.current c.in_ok-place.ensures.place refl refl
+          (replaced key_of fits next past.defs past.sources past.journal past.journal table _ c.args.key.now place c.put.new.self due c.prepare.ensures.current c.in_ok-place.ensures.place refl refl
           (sym (set-get_or table.dues.items place 0)) (λ q ne. same_for past.defs past.sources past.journal q) (omega arith) refl
-          (alike key_of fits next past.defs past.sources past.journal c.args.key.now c.index_mut.result.now c.put-stays.new.self due (rw (← c.defs-defs.ensures.value) c.in_err-stays.ensures.refused.same) was));
+          (alike key_of fits next past.defs past.sources past.journal c.args.key.now c.index_mut.result.now c.put.new.self due (rw (← c.defs-defs.ensures.value) c.in_err-stays.ensures.refused.same) was));
       nothing = search rules;
       no_step = search rules;
     }
@@ -91,7 +91,7 @@ returns-then-stays-clause-taken g c e is =
     let water : slot.water ≡ water_of past.sources past.journal = ap (λ s. s.water) c.index_mut.ensures.value ∙ c.in_ok-place.ensures.water slot in
     let same = to_z-of_z w64 c.args.value c.ranges.value in
     let at : length c.journal.result.now ≡ length past.journal = ap length c.journal.ensures.value in
-    let new = c.put-stays.new.self in
+    let new = c.put.new.self in
     let kept = kept_of d.lateness past.sources key past.journal in
     let marks = marks_of d.lateness past.sources key past.journal in
     let was : IsCurrent key_of fits next d past.sources past.journal key slot (get_or table.dues.items place 0) = current_at key_of fits next d past.sources past.journal table key place slot current c.in_ok-place.ensures.place c.index_mut.ensures.value in
@@ -134,7 +134,7 @@ returns-clause-taken g c e is =
     let water : slot.water ≡ water_of past.sources past.journal = ap (λ s. s.water) c.index_mut.ensures.value ∙ c.in_ok-place.ensures.water slot in
     let same = to_z-of_z w64 c.args.value c.ranges.value in
     let at : length c.journal.result.now ≡ length past.journal = ap length c.journal.ensures.value in
-    let new = c.put-stays.new.self in
+    let new = c.put.new.self in
     let there : c.index.result.now ≡ new = c.index.ensures ∙ get_or-set_same table.slots.items place new c.index.result.now (current.placed key place c.in_ok-place.ensures.place) in
     let kept = kept_of d.lateness past.sources key past.journal in
     let marks = marks_of d.lateness past.sources key past.journal in
@@ -177,7 +177,7 @@ returns-then-stays-clause-work g c e is =
     let marks = marks_of d.lateness past.sources key past.journal in
     let shard : Sharded = record { defs = d; sources = past.sources; journal = past.journal } in
     rw (← c.defs-defs.ensures.value)
-    (taken_within g.K.KeyWindows.bounds_put shard e key c.args.time c.args.steps.now c.put-stays.new.steps (key_of slot.state) _ _ was.of_key
+    (taken_within g.K.KeyWindows.bounds_put shard e key c.args.time c.args.steps.now c.put.new.steps (key_of slot.state) _ _ was.of_key
     (λ i. moment kept marks (water i))
     (moment_with_tuple d past.sources past.journal e key c.args.time c.args.value is accepted ∙ sym (λ i. moment (put_in_order kept (kept_at (at i) c.args.time (same i))) marks (water i)))
     (c.in_ok-stays.ensures.bound kept marks was.stands))
@@ -203,7 +203,7 @@ returns-clause-work g c e is =
     let marks = marks_of d.lateness past.sources key past.journal in
     let shard : Sharded = record { defs = d; sources = past.sources; journal = past.journal } in
     rw (← c.defs-defs.ensures.value)
-    (taken_within g.K.KeyWindows.bounds_put shard e key c.args.time c.args.steps.now c.put-stays.new.steps (key_of slot.state) _ _ was.of_key
+    (taken_within g.K.KeyWindows.bounds_put shard e key c.args.time c.args.steps.now c.put.new.steps (key_of slot.state) _ _ was.of_key
     (λ i. moment kept marks (water i))
     (moment_with_tuple d past.sources past.journal e key c.args.time c.args.value is accepted ∙ sym (λ i. moment (put_in_order kept (kept_at (at i) c.args.time (same i))) marks (water i)))
     (c.in_ok-stays.ensures.bound kept marks was.stands))
