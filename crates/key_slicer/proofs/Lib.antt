@@ -1,4 +1,5 @@
 pub mod AheadFacts
+pub mod DueFacts
 pub mod Loops
 pub mod SortFacts
 pub mod SettleFacts

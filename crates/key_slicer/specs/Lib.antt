@@ -2,3 +2,4 @@ pub mod Parts
 pub mod Sorted
 pub mod States
 pub mod Work
+pub mod Joining

@@ -4,7 +4,7 @@ ghost use Rattle.key_slicer.specs.Parts.{AllAhead, all_credit};
 ghost use Rattle.key_slicer.specs.States.{Fits, IsReady};
 ghost use Rattle.key_slicer.specs.Work.{bounds_mark, bounds_put, catch_up, mark_work, move_work, put_work};
 
-use crate::key_state::{KeyState, all_count_events, is_water, put_in};
+use crate::key_state::{KeyState, all_count_events, is_water, leaves_due, put_in};
 use crate::parts::Parts;
 use crate::sorted::append_sorted;
 use agg_laws::{AggTree, Steps};
@@ -75,9 +75,9 @@ impl<T: AggTree<Bundle> + Drop, P: AnyPart> KeyWindows for KeyState<T, P> {
         water: u64,
         out: &mut Vec<Change>,
         steps: &mut Steps<L>,
-    ) {
+    ) -> bool {
         self.parts.before(defs, &self.store, time, water, steps);
-        put_in(&mut self.store, defs, pos, time, value, steps);
+        let joined = put_in(&mut self.store, defs, pos, time, value, steps);
         self.parts.put(
             defs,
             &self.store,
@@ -91,6 +91,7 @@ impl<T: AggTree<Bundle> + Drop, P: AnyPart> KeyWindows for KeyState<T, P> {
         );
         append_sorted(self.scratch.as_slice(), out);
         self.next = pos + 1;
+        leaves_due(defs, joined)
     }
 
     fn reserve_mark(&mut self, defs: &Defs, time: u64, water: u64) -> Result<u64, NoMemory> {

@@ -1,9 +1,14 @@
 //! The state of a key.
-ghost use Rattle.std.specs.Prelude.{◌≡◌, ◌≤◌, ◌+◌, ◌-◌, ◌*◌, [], ℕ, length, true, IfNone, IfSome, OnOk, vec_capacity, vec_len};
+ghost use Rattle.std.specs.Prelude.{◌≡◌, ◌≤◌, ◌+◌, ◌-◌, ◌*◌, [], ℕ, length, true, All, IfNone, IfSome, OnOk, vec_capacity, vec_len};
 ghost use Rattle.std.specs.List.{list_all};
+ghost use Rattle.stream_base.specs.Laws.{is_timed};
+ghost use Rattle.stream_base.specs.Model.Journal.{put_in_order};
 ghost use Rattle.stream_base.specs.Model.Slices.{is_events};
 ghost use Rattle.agg_store.specs.Entered.{slices_near};
+ghost use Rattle.agg_store.specs.Stored.{tuples_of};
 ghost use Rattle.slice_lists.specs.Slices.{joined};
+ghost use Rattle.slice_store.specs.declared.placed.Placed.TheVariants.{Appended};
+ghost use Rattle.slice_store.specs.Placing.{is_last, placed_in};
 ghost use Rattle.key_windows.specs.Calls.{IsWater, kept_at};
 ghost use Rattle.key_parts.specs.Moves.{Comes, all_count_events};
 ghost use Rattle.key_slicer.specs.States.{IsFirstTime, MayEnter};
@@ -13,7 +18,7 @@ use agg_laws::{AggTree, Steps};
 use agg_store::AggStore;
 use aggregates::Bundle;
 use key_parts::KeyPart;
-use slice_store::SliceStore;
+use slice_store::{Placed, SliceStore};
 use stream_base::{Change, Defs, FINAL, KeyText, Kind, NoMemory, TIME_MAX};
 
 /// The windows of one key. Its tuples lie in slices that all windows share, and each window has a
@@ -75,7 +80,26 @@ pub fn all_count_events(defs: &Defs) -> bool
         .all(|def| matches!(def.kind, Kind::Events { .. }))
 }
 
+// Whether what is due stays with a tuple, by whether it joined the last slice: each interval of a
+// tumbling or sliding window that holds it then held a tuple before.
+pub fn leaves_due(defs: &Defs, joined: bool) -> bool
+    ensures joined { result ≡ true → joined ≡ true }
+    ensures timed { result ≡ true → All (λ w. is_timed w.kind ≡ true) (defs.now).windows }
+{
+    joined && all_timed(defs)
+}
+
+// Whether each window is tumbling or sliding.
+fn all_timed(defs: &Defs) -> bool
+    ensures { result ≡ true → All (λ w. is_timed w.kind ≡ true) (defs.now).windows }
+{
+    defs.windows()
+        .iter()
+        .all(|def| matches!(def.kind, Kind::Tumbling { .. } | Kind::Sliding { .. }))
+}
+
 // Puts a tuple into the store, unless each window counts events: then it is settled at once.
+// Answers whether the tuple came behind all others and joined their last slice.
 pub fn put_in<T: AggTree<Bundle>, L>(
     store: &mut SliceStore<T>,
     defs: &Defs,
@@ -83,7 +107,7 @@ pub fn put_in<T: AggTree<Bundle>, L>(
     time: u64,
     value: i64,
     steps: &mut Steps<L>,
-)
+) -> bool
     requires { MayEnter defs.now time store.old }
     ensures comes { (n : ℕ) → (more : ℕ)
         × Comes defs.now n store.old (kept_at pos time value) more store.new }
@@ -91,8 +115,15 @@ pub fn put_in<T: AggTree<Bundle>, L>(
     ensures reach { store.new.reach ≤ store.old.reach + 1 }
     ensures work { steps.new ≤ steps.old + (128 * (store.old.reach + 3)
         + length (joined (slices_near (defs.now).windows time store.old))) }
+    ensures joined { result ≡ true
+        → placed_in (slices_near (defs.now).windows time store.old) (is_last time store.old)
+        ≡ Appended }
+    ensures enters { result ≡ true
+        → tuples_of store.new ≡ put_in_order (tuples_of store.old) (kept_at pos time value) }
 {
     if !all_count_events(defs) {
-        store.put(defs, pos, time, value, steps);
+        store.put(defs, pos, time, value, steps) == Placed::Appended
+    } else {
+        false
     }
 }

@@ -1,5 +1,5 @@
 //! What an engine for the windows of one key promises.
-ghost use Rattle.std.specs.Prelude.{◌≡◌, ◌≤◌, ◌<◌, ◌+◌, [], ℕ, List, length, IfOk, vec_len};
+ghost use Rattle.std.specs.Prelude.{◌≡◌, ◌≤◌, ◌<◌, ◌+◌, [], ℕ, List, length, true, IfOk, vec_len};
 ghost use Rattle.std.specs.BTreeSet.{insert_key};
 ghost use Rattle.std.specs.Ordering.{nat_cmp};
 ghost use Rattle.stream_base.specs.declared.kept.Kept.{Kept};
@@ -7,6 +7,7 @@ ghost use Rattle.stream_base.specs.declared.limits.TheConstants.{FINAL, JOURNAL_
 ghost use Rattle.stream_base.specs.Model.Journal.{put_in_order};
 ghost use Rattle.key_windows.specs.Calls.{BringsMore, IsWater, MakesRoom, MayReserve, MayTakeIn, StandsUnder, StaysAhead, TakesIn, changes_by_move, kept_at, moment, slices_at};
 ghost use Rattle.key_windows.specs.Calls.Call.{Put, Mark, Move};
+ghost use Rattle.key_windows.specs.Dues.{LeavesDue};
 
 use agg_laws::Steps;
 use std::alloc::Global;
@@ -80,7 +81,8 @@ pub trait KeyWindows: Drop {
         ensures { MakesRoom fits defs.now key_of next_position is_ready promised credit is_ahead
             (Put time water) self.old self.new result };
 
-    /// Takes in an accepted tuple.
+    /// Takes in an accepted tuple. Answers whether what is due is sure to have stayed: where it does, a
+    /// number up to which nothing was due before is one still.
     fn put<L>(
         &mut self,
         defs: &Defs,
@@ -90,7 +92,7 @@ pub trait KeyWindows: Drop {
         water: u64,
         out: &mut Vec<Change>,
         steps: &mut Steps<L>,
-    )
+    ) -> bool
         requires comes { MayTakeIn fits defs.now is_ready promised (Put time water)
             self.old out.old }
         requires position { next_position self.old ≤ pos }
@@ -107,7 +109,9 @@ pub trait KeyWindows: Drop {
             × bounds_put defs.now (key_of self.old) (moment kept marks water)
             (moment (put_in_order kept (kept_at pos time value)) marks water) time bound
             × (steps.new ≤ steps.old + bound) }
-        ensures pace { StaysAhead credit is_ahead defs.now time water self.old self.new };
+        ensures pace { StaysAhead credit is_ahead defs.now time water self.old self.new }
+        ensures due { result ≡ true → LeavesDue fits defs.now (key_of self.old) water
+            (kept_at pos time value) self.old self.new };
 
     /// Makes room for a mark at a time.
     fn reserve_mark(&mut self, defs: &Defs, time: u64, water: u64) -> Result<u64, NoMemory>

@@ -347,7 +347,7 @@ impl KeyWindows for PlainKey {
         water: u64,
         out: &mut Vec<Change>,
         steps: &mut Steps<L>,
-    ) {
+    ) -> bool {
         let _windows = defs.windows();
         let x = kept_at(pos, time, value);
         self.vouch();
@@ -355,10 +355,12 @@ impl KeyWindows for PlainKey {
             self.put_ahead(x);
             self.look_behind(defs, time, water);
             vouch_count(steps);
+            false
         } else {
             self.put_late(defs, x, water, out, steps);
             self.look_ahead(defs, water);
             vouch_count(steps);
+            false
         }
     }
 

@@ -17,6 +17,7 @@ use Rattle.std.proofs.lemmas.Map.Keys.{IsDistinct-from_sorted, sorted_tail}
 use Rattle.std.proofs.lemmas.Map.Lookups.{exact_bytes}
 use Rattle.std.proofs.lemmas.Map.Views.{Contains-from_lookup, lookup-from_Contains, tells_apart}
 use Rattle.key_windows.specs.Calls.{IsWater, changes_by_move, moment}
+use Rattle.key_windows.specs.Dues.{IsQuiet}
 use Rattle.stream_base.specs.Limits.{AreWithinLimits, Definitions}
 use Rattle.stream_base.specs.declared.change.Change.{Change}
 use Rattle.stream_base.specs.declared.entry.Entry.{Entry}
@@ -39,7 +40,7 @@ use Rattle.model_laws.proofs.WatermarkFacts.{water_of_same, water_rises}
 use Rattle.stream_base.proofs.Growing.{kept_of_late, marks_of_late}
 use Rattle.shard_core.specs.declared.keys.KeyTable.{KeyTable}
 use Rattle.shard_core.specs.declared.slot.Slot.{Slot}
-use Rattle.shard_core.specs.Engines.{AreApart, AreCurrent, AreMovable, AreSameSlots, IsCurrent, IsMovedSlot, IsQuiet, IsSameOutside, StandsIn, due_places, moves_of, place_of}
+use Rattle.shard_core.specs.Engines.{AreApart, AreCurrent, AreMovable, AreSameSlots, IsCurrent, IsMovedSlot, IsSameOutside, StandsIn, due_places, moves_of, place_of}
 use Rattle.shard_core.proofs.Moves.{changes_since, map_none, no_changes_of_none, same_for_keys}
 use Rattle.shard_core.proofs.Places.{IsSameFor, alike, one_key, still_current}
 

@@ -11,6 +11,7 @@ use Rattle.std.proofs.lemmas.Bool.Decides.{eqb_tells}
 use Rattle.std.proofs.lemmas.List.{get_or_append_left, get_or_push}
 use Rattle.std.proofs.lemmas.Map.Text.{is_eq-slice_cmp}
 use Rattle.key_windows.specs.Calls.{IsWater}
+use Rattle.key_windows.specs.Dues.{IsQuiet}
 use Rattle.stream_base.specs.Limits.{Definitions}
 use Rattle.stream_base.specs.declared.entry.Entry.{Entry}
 use Rattle.stream_base.specs.declared.kept.Kept.{Kept}
@@ -20,7 +21,7 @@ use Rattle.model_laws.proofs.Absent.{bytes_eq_true}
 use Rattle.shard_core.specs.Placed.{AreByKey}
 use Rattle.shard_core.specs.declared.keys.KeyTable.{KeyTable}
 use Rattle.shard_core.specs.declared.slot.Slot.{Slot}
-use Rattle.shard_core.specs.Engines.{AreCurrent, HasLists, IsCurrent, IsQuiet, IsSameSlot, place_of}
+use Rattle.shard_core.specs.Engines.{AreCurrent, HasLists, IsCurrent, IsSameSlot, place_of}
 
 -- a key tells itself from every other
 pub same_key : (key other : List ℕ) → is_at (slice_cmp nat_cmp key) other ≡ true → key ≡ other

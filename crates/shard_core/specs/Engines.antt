@@ -2,6 +2,7 @@
 use Rattle.std.specs.Prelude.{◌≡◌, ◌≤◌, ◌<◌, ◌⊎◌, ℕ, List, [], ◌∷◌, ◌++◌, Option, None, Some, ◌+◌, Result, OnOk, OnErr, length, slice_index, slice_index_or, ◌≢◌, EachIndex, nat_le}
 use Rattle.std.specs.Map.{values_of}
 use Rattle.key_windows.specs.Calls.{Call, IsWater, changes_by_move}
+use Rattle.key_windows.specs.Dues.{IsQuiet}
 use Rattle.key_windows.specs.Calls.Call.{Move}
 use Rattle.std.specs.List.{HoldsAt, filter}
 use Rattle.stream_base.specs.Limits.{Definitions}
@@ -17,11 +18,6 @@ use Rattle.shard_core.specs.Recorded.{Recorded}
 use Rattle.shard_core.specs.Shard.{IsKnown}
 use Rattle.shard_core.specs.declared.keys.KeyTable.{KeyTable}
 use Rattle.shard_core.specs.declared.slot.Slot.{Slot}
-
--- up to a due number, a move of the watermark changes nothing of a key, and its state stands there as it is
-pub record IsQuiet {K : Type 0} (fits : Definitions → List Kept → List ℕ → ℕ → K → Type 0) (d : Definitions) (key : List ℕ) (kept : List Kept) (marks : List ℕ) (water : ℕ) (state : K) (due : ℕ) : Type 0 where
-  pub nothing_changes : (new : ℕ) → water ≤ new → new < due → changes_by_move d key kept marks water new ≡ []
-  pub waits : (new : ℕ) → IsWater new → water ≤ new → new < due → fits d kept marks new state
 
 -- a slot stands for the same as before: only what it has room for may differ
 pub record IsSameSlot {K : Type 0} (key_of : K → List ℕ) (fits : Definitions → List Kept → List ℕ → ℕ → K → Type 0) (next_position : K → ℕ) (d : Definitions) (old new : Slot K) : Type 0 where

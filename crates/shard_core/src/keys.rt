@@ -119,7 +119,10 @@ impl<K: KeyWindows> KeyTable<K> {
         let place = self.prepare(alloc, past, key)?;
         let defs = past.defs();
         let position = past.journal().len() as u64;
-        self.slots[place].put(defs, position, time, value, out, steps)?;
+        let stays = self.slots[place].put(defs, position, time, value, out, steps)?;
+        if stays {
+            return Ok(());
+        }
         self.dues.set(place, self.slots[place].due(defs));
         Ok(())
     }

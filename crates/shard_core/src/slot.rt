@@ -1,12 +1,13 @@
-ghost use Rattle.std.specs.Prelude.{◌≡◌, ◌≤◌, ◌<◌, ◌+◌, ◌++◌, [], ◌-◌, ℕ, List, IfOk, OnOk, OnErr, vec_len, vec_capacity};
+ghost use Rattle.std.specs.Prelude.{◌≡◌, ◌≤◌, ◌<◌, ◌+◌, ◌++◌, [], ◌-◌, ℕ, List, true, IfOk, OnOk, OnErr, vec_len, vec_capacity};
 ghost use Rattle.std.specs.BTreeSet.{insert_key};
 ghost use Rattle.std.specs.Ordering.{nat_cmp};
 ghost use Rattle.key_parts.specs.Work.{AddsAtMost};
 ghost use Rattle.key_windows.specs.Calls.{IsWater, changes_by_mark, changes_by_move, changes_by_put, kept_at, moment};
+ghost use Rattle.key_windows.specs.Dues.{IsQuiet, LeavesDue};
 ghost use Rattle.stream_base.specs.declared.kept.Kept.{Kept};
 ghost use Rattle.stream_base.specs.declared.limits.TheConstants.{JOURNAL_MAX};
 ghost use Rattle.stream_base.specs.Model.Journal.{put_in_order};
-ghost use Rattle.shard_core.specs.Engines.{Accepts, CanMove, HasLists, HasRefused, IsQuiet, IsSameSlot, MayMove, SlotFits};
+ghost use Rattle.shard_core.specs.Engines.{Accepts, CanMove, HasLists, HasRefused, IsSameSlot, MayMove, SlotFits};
 
 use agg_laws::Steps;
 use key_windows::KeyWindows;
@@ -32,7 +33,7 @@ impl<K: KeyWindows> Slot<K> {
         Ok(Slot { state, water })
     }
 
-    // Takes in an accepted tuple, or nothing.
+    // Takes in an accepted tuple, or nothing. Answers whether what is due is sure to have stayed.
     pub fn put<L>(
         &mut self,
         defs: &Defs,
@@ -41,7 +42,7 @@ impl<K: KeyWindows> Slot<K> {
         value: i64,
         out: &mut Vec<Change>,
         steps: &mut Steps<L>,
-    ) -> Result<(), NoMemory>
+    ) -> Result<bool, NoMemory>
         requires accepted { Accepts K.fits defs.now self.old time }
         requires position { K.next_position (self.old).state ≤ position }
         requires few { position < JOURNAL_MAX }
@@ -66,12 +67,16 @@ impl<K: KeyWindows> Slot<K> {
             (moment kept marks (self.old).water)
             (moment (put_in_order kept (kept_at position time value)) marks (self.old).water)
             time bound × (steps.new ≤ steps.old + bound)) }
+        ensures due { IfOk result (λ stays. stays ≡ true
+            → LeavesDue K.fits defs.now (K.key_of (self.old).state) (self.old).water
+            (kept_at position time value) (self.old).state (self.new).state) }
     {
         let room = self.state.reserve_put(defs, time, self.water)?;
         out.reserve(room as usize)?;
-        self.state
+        let stays = self
+            .state
             .put(defs, position, time, value, self.water, out, steps);
-        Ok(())
+        Ok(stays)
     }
 
     // Takes in an accepted mark, or nothing.

@@ -2,7 +2,9 @@
 use Rattle.std.proofs.Common.{◌≡◌, ◌∙◌, ◌+◌, true, false, subst, sym, w64}
 use Rattle.std.specs.List.{list_all}
 use Rattle.std.proofs.lemmas.Int.{to_z-of_z}
+use Rattle.stream_base.specs.Model.Journal.{put_in_order}
 use Rattle.stream_base.specs.Model.Slices.{is_events}
+use Rattle.agg_store.specs.Stored.{tuples_of}
 use Rattle.key_windows.specs.Calls.{kept_at}
 use Rattle.key_parts.specs.Moves.{Comes}
 use Rattle.key_parts.specs.Moves.Comes.{Enters, Leaves}
@@ -22,3 +24,7 @@ returns-else-not-all_count_events-clause-comes g c = λ n.
     let d = c.args.defs.now in
     let all : list_all (λ w. is_events w.kind) d.windows ≡ true = sym c.all_count_events.ensures ∙ c.if-not-all_count_events.false in
     (n + 1, Leaves all (c.requires.bare all))
+
+pub returns-then-not-all_count_events-clause-enters : goal.returns-then-not-all_count_events-clause-enters
+returns-then-not-all_count_events-clause-enters g c = λ joined.
+    subst (λ v. tuples_of c.put.new.self ≡ put_in_order (tuples_of c.args.store.now) (kept_at c.args.pos c.args.time v)) (to_z-of_z w64 c.args.value c.ranges.value) c.put.ensures.tuples

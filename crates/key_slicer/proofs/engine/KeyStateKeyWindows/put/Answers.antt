@@ -6,10 +6,13 @@ use Rattle.std.specs.List.{enumerate_from, flat_map}
 use Rattle.stream_base.specs.Model.Changes.{changes_between}
 use Rattle.stream_base.specs.Model.Journal.{put_in_order}
 use Rattle.window_laws.specs.After.{with_tuple}
+use Rattle.agg_store.specs.Stored.{tuples_of}
 use Rattle.key_windows.specs.Calls.{changes_by_put, kept_at, moment}
 use Rattle.key_slicer.specs.Parts.{AllTakeTuple, rooms, turns}
 use Rattle.key_slicer.specs.States.{Fits}
 use Rattle.key_slicer.specs.Work.{put_work}
+use Rattle.key_slicer.specs.Joining.{Joins}
+use Rattle.key_slicer.proofs.DueFacts.{joins_of, quiet_with_tuple, waits_with_tuple}
 use Rattle.key_slicer.proofs.StateFacts.{all_take, fits_put}
 use Rattle.key_slicer.proofs.SortFacts.{appended_sorted, as_many_turns}
 use Rattle.key_slicer.proofs.Loops.{grown}
@@ -24,10 +27,10 @@ put-requires-clause-takes g c =
     let d = c.args.defs.now in
     let m = moment r.0 r.1 c.args.water in
     let f = r.2.known in
-    let more = (c.put_in.ensures.comes f.without).0 in
-    let all : AllTakeTuple g.P.KeyPart.stands d g.P.KeyPart.is_asked c.args.water x c.put_in.new.store c.before-2.new.self.list.items m f.without s.store more =
-    all_take g.P.KeyPart.stands d g.P.KeyPart.is_asked m c.args.water s.next s.store s.parts.list.items c.before-2.new.self.list.items x c.put_in.new.store refl c.requires.comes.ready.water_is f
-    c.requires.position c.requires.few c.requires.comes.in_time.within c.requires.comes.in_time.accepted c.put_in.ensures.comes c.before-2.ensures.stays c.before-2.ensures.asked in
+    let more = (c.put_in-joined.ensures.comes f.without).0 in
+    let all : AllTakeTuple g.P.KeyPart.stands d g.P.KeyPart.is_asked c.args.water x c.put_in-joined.new.store c.before-2.new.self.list.items m f.without s.store more =
+    all_take g.P.KeyPart.stands d g.P.KeyPart.is_asked m c.args.water s.next s.store s.parts.list.items c.before-2.new.self.list.items x c.put_in-joined.new.store refl c.requires.comes.ready.water_is f
+    c.requires.position c.requires.few c.requires.comes.in_time.within c.requires.comes.in_time.accepted c.put_in-joined.ensures.comes c.before-2.ensures.stays c.before-2.ensures.asked in
     (m, f.without, s.store, more, all)
 
 pub returns-clause-taken : goal.returns-clause-taken
@@ -40,10 +43,10 @@ returns-clause-taken g c = record {
       let d = c.args.defs.now in
       let m = moment kept marks c.args.water in
       let f = fits.known in
-      let more = (c.put_in.ensures.comes f.without).0 in
-      let all : AllTakeTuple g.P.KeyPart.stands d g.P.KeyPart.is_asked c.args.water x c.put_in.new.store c.before-2.new.self.list.items m f.without s.store more =
-      all_take g.P.KeyPart.stands d g.P.KeyPart.is_asked m c.args.water s.next s.store s.parts.list.items c.before-2.new.self.list.items x c.put_in.new.store refl c.requires.comes.ready.water_is f
-      c.requires.position c.requires.few c.requires.comes.in_time.within c.requires.comes.in_time.accepted c.put_in.ensures.comes c.before-2.ensures.stays c.before-2.ensures.asked in
+      let more = (c.put_in-joined.ensures.comes f.without).0 in
+      let all : AllTakeTuple g.P.KeyPart.stands d g.P.KeyPart.is_asked c.args.water x c.put_in-joined.new.store c.before-2.new.self.list.items m f.without s.store more =
+      all_take g.P.KeyPart.stands d g.P.KeyPart.is_asked m c.args.water s.next s.store s.parts.list.items c.before-2.new.self.list.items x c.put_in-joined.new.store refl c.requires.comes.ready.water_is f
+      c.requires.position c.requires.few c.requires.comes.in_time.within c.requires.comes.in_time.accepted c.put_in-joined.ensures.comes c.before-2.ensures.stays c.before-2.ensures.asked in
       subst (λ v. c.append_sorted.new.out.items ≡ c.args.out.now.items ++ changes_by_put d s.key kept marks c.args.water (kept_at c.args.pos c.args.time v)) (to_z-of_z w64 c.args.value c.ranges.value)
       (appended_sorted s.key m (with_tuple m x) d.windows s.scratch.items c.put.new.out.items c.as_slice.result.now c.args.out.now.items c.append_sorted.new.out.items c.requires.comes.ready.empty
       (c.put.ensures.changes m f.without s.store more all) c.as_slice.ensures.value c.append_sorted.ensures.items);
@@ -54,12 +57,12 @@ returns-clause-taken g c = record {
       let d = c.args.defs.now in
       let m = moment kept marks c.args.water in
       let f = fits.known in
-      let more = (c.put_in.ensures.comes f.without).0 in
-      let all : AllTakeTuple g.P.KeyPart.stands d g.P.KeyPart.is_asked c.args.water x c.put_in.new.store c.before-2.new.self.list.items m f.without s.store more =
-      all_take g.P.KeyPart.stands d g.P.KeyPart.is_asked m c.args.water s.next s.store s.parts.list.items c.before-2.new.self.list.items x c.put_in.new.store refl c.requires.comes.ready.water_is f
-      c.requires.position c.requires.few c.requires.comes.in_time.within c.requires.comes.in_time.accepted c.put_in.ensures.comes c.before-2.ensures.stays c.before-2.ensures.asked in
-      subst (λ v. Fits g.P.KeyPart.stands d (put_in_order kept (kept_at c.args.pos c.args.time v)) marks c.args.water (c.args.pos + 1) c.put_in.new.store c.put.new.self.list.items) (to_z-of_z w64 c.args.value c.ranges.value)
-      (fits_put g.P.KeyPart.stands d kept marks c.args.water f.without s.store x more c.put_in.new.store c.put.new.self.list.items c.requires.comes.ready.water_is fits.none_settled all.step (subst (FitsSigned w64) (sym (to_z-of_z w64 c.args.value c.ranges.value)) c.ranges.value) (c.put.ensures.stands m f.without s.store more all) c.put_in.ensures.bare);
+      let more = (c.put_in-joined.ensures.comes f.without).0 in
+      let all : AllTakeTuple g.P.KeyPart.stands d g.P.KeyPart.is_asked c.args.water x c.put_in-joined.new.store c.before-2.new.self.list.items m f.without s.store more =
+      all_take g.P.KeyPart.stands d g.P.KeyPart.is_asked m c.args.water s.next s.store s.parts.list.items c.before-2.new.self.list.items x c.put_in-joined.new.store refl c.requires.comes.ready.water_is f
+      c.requires.position c.requires.few c.requires.comes.in_time.within c.requires.comes.in_time.accepted c.put_in-joined.ensures.comes c.before-2.ensures.stays c.before-2.ensures.asked in
+      subst (λ v. Fits g.P.KeyPart.stands d (put_in_order kept (kept_at c.args.pos c.args.time v)) marks c.args.water (c.args.pos + 1) c.put_in-joined.new.store c.put.new.self.list.items) (to_z-of_z w64 c.args.value c.ranges.value)
+      (fits_put g.P.KeyPart.stands d kept marks c.args.water f.without s.store x more c.put_in-joined.new.store c.put.new.self.list.items c.requires.comes.ready.water_is fits.none_settled all.step (subst (FitsSigned w64) (sym (to_z-of_z w64 c.args.value c.ranges.value)) c.ranges.value) (c.put.ensures.stands m f.without s.store more all) c.put_in-joined.ensures.bare);
 }
 
 pub returns-clause-work : goal.returns-clause-work
@@ -69,15 +72,15 @@ returns-clause-work g c = λ kept marks fits.
     let d = c.args.defs.now in
     let m = moment kept marks c.args.water in
     let f = fits.known in
-    let more = (c.put_in.ensures.comes f.without).0 in
-    let all : AllTakeTuple g.P.KeyPart.stands d g.P.KeyPart.is_asked c.args.water x c.put_in.new.store c.before-2.new.self.list.items m f.without s.store more =
-    all_take g.P.KeyPart.stands d g.P.KeyPart.is_asked m c.args.water s.next s.store s.parts.list.items c.before-2.new.self.list.items x c.put_in.new.store refl c.requires.comes.ready.water_is f
-    c.requires.position c.requires.few c.requires.comes.in_time.within c.requires.comes.in_time.accepted c.put_in.ensures.comes c.before-2.ensures.stays c.before-2.ensures.asked in
+    let more = (c.put_in-joined.ensures.comes f.without).0 in
+    let all : AllTakeTuple g.P.KeyPart.stands d g.P.KeyPart.is_asked c.args.water x c.put_in-joined.new.store c.before-2.new.self.list.items m f.without s.store more =
+    all_take g.P.KeyPart.stands d g.P.KeyPart.is_asked m c.args.water s.next s.store s.parts.list.items c.before-2.new.self.list.items x c.put_in-joined.new.store refl c.requires.comes.ready.water_is f
+    c.requires.position c.requires.few c.requires.comes.in_time.within c.requires.comes.in_time.accepted c.put_in-joined.ensures.comes c.before-2.ensures.stays c.before-2.ensures.asked in
     let changed = vec_len c.put.new.out - vec_len s.scratch in
     let many : changed ≡ length (changes_between d.windows s.key m (with_tuple m x)) = omega (arith, as_many_turns s.key m (with_tuple m x) d.windows, grown s.scratch.items c.put.new.out.items (flat_map (turns s.key m (with_tuple m x)) (enumerate_from 0 d.windows)) (c.put.ensures.changes m f.without s.store more all)) in
     subst (λ v. c.put.new.steps ≤ c.args.steps.now + put_work d s.key m (with_tuple m (kept_at c.args.pos c.args.time v)) c.args.time s.store) (to_z-of_z w64 c.args.value c.ranges.value)
-    (put_cost d s.key m (with_tuple m x) c.args.time s.store c.put_in.new.store.reach (rooms (λ (i : ℕ) (part : g.row.P.Denot). g.P.KeyPart.owed part) c.before-2.new.self.list.items) changed c.args.steps.now c.before-2.new.steps c.put_in.new.steps c.put.new.steps
-    c.before-2.ensures.cost.work c.put_in.ensures.work (c.put.ensures.work m f.without s.store more all) c.put.ensures.owed c.put_in.ensures.reach many)
+    (put_cost d s.key m (with_tuple m x) c.args.time s.store c.put_in-joined.new.store.reach (rooms (λ (i : ℕ) (part : g.row.P.Denot). g.P.KeyPart.owed part) c.before-2.new.self.list.items) changed c.args.steps.now c.before-2.new.steps c.put_in-joined.new.steps c.put.new.steps
+    c.before-2.ensures.cost.work c.put_in-joined.ensures.work (c.put.ensures.work m f.without s.store more all) c.put.ensures.owed c.put_in-joined.ensures.reach many)
 
 pub returns-clause-bound : goal.returns-clause-bound
 returns-clause-bound g c = λ kept marks fits.
@@ -90,6 +93,27 @@ returns-clause-bound g c = λ kept marks fits.
       returns-clause-work g c kept marks fits,
     )
 
+-- a tuple that joined the last slice leaves what is due
+pub returns-clause-due : goal.returns-clause-due
+returns-clause-due g c = λ stays kept marks due fits quiet.
+    let x = kept_at c.args.pos c.args.time c.args.value in
+    let s = c.args.self.now in
+    let d = c.args.defs.now in
+    let f = fits.known in
+    let now : Fits g.P.KeyPart.stands d (put_in_order kept x) marks c.args.water (c.args.pos + 1) c.put_in-joined.new.store c.put.new.self.list.items = (returns-clause-taken g c).fits kept marks fits in
+    let joins : Joins d.windows s.store c.args.time = joins_of d.windows s.store c.args.time f.store (c.put_in-joined.ensures.joined (c.leaves_due.ensures.joined stays)) in
+    let timed = c.leaves_due.ensures.timed stays in
+    let tuples : tuples_of c.put_in-joined.new.store ≡ put_in_order (tuples_of s.store) x = subst (λ v. tuples_of c.put_in-joined.new.store ≡ put_in_order (tuples_of s.store) (kept_at c.args.pos c.args.time v)) (to_z-of_z w64 c.args.value c.ranges.value)
+    (c.put_in-joined.ensures.enters (c.leaves_due.ensures.joined stays)) in
+    record {
+      nothing_changes = λ new rises below.
+          quiet_with_tuple g.P.KeyPart.stands d s.key kept marks c.args.water new s.next (c.args.pos + 1) s.store c.put_in-joined.new.store s.parts.list.items c.put.new.self.list.items x fits now timed joins rises
+          (quiet.nothing_changes new rises below);
+      waits = λ new is rises below.
+          waits_with_tuple g.P.KeyPart.stands d s.key kept marks c.args.water new s.next (c.args.pos + 1) s.store c.put_in-joined.new.store s.parts.list.items c.put.new.self.list.items x fits now timed joins rises
+          g.met.P.KeyPart.waits tuples is (quiet.nothing_changes new rises below) (quiet.waits new is rises below);
+    }
+
 pub returns-clause-pace : goal.returns-clause-pace
 returns-clause-pace g c = record {
   credit = search rules;
@@ -100,9 +124,9 @@ returns-clause-pace g c = record {
       let d = c.args.defs.now in
       let m = moment r.0 r.1 c.args.water in
       let f = r.2.known in
-      let more = (c.put_in.ensures.comes f.without).0 in
-      let all : AllTakeTuple g.P.KeyPart.stands d g.P.KeyPart.is_asked c.args.water x c.put_in.new.store c.before-2.new.self.list.items m f.without s.store more =
-      all_take g.P.KeyPart.stands d g.P.KeyPart.is_asked m c.args.water s.next s.store s.parts.list.items c.before-2.new.self.list.items x c.put_in.new.store refl c.requires.comes.ready.water_is f
-      c.requires.position c.requires.few c.requires.comes.in_time.within c.requires.comes.in_time.accepted c.put_in.ensures.comes c.before-2.ensures.stays c.before-2.ensures.asked in
+      let more = (c.put_in-joined.ensures.comes f.without).0 in
+      let all : AllTakeTuple g.P.KeyPart.stands d g.P.KeyPart.is_asked c.args.water x c.put_in-joined.new.store c.before-2.new.self.list.items m f.without s.store more =
+      all_take g.P.KeyPart.stands d g.P.KeyPart.is_asked m c.args.water s.next s.store s.parts.list.items c.before-2.new.self.list.items x c.put_in-joined.new.store refl c.requires.comes.ready.water_is f
+      c.requires.position c.requires.few c.requires.comes.in_time.within c.requires.comes.in_time.accepted c.put_in-joined.ensures.comes c.before-2.ensures.stays c.before-2.ensures.asked in
       c.put.ensures.ahead m f.without s.store more all le (c.before-2.ensures.ahead c.args.water s.store each);
 }

@@ -4,7 +4,8 @@ use Rattle.std.specs.BTreeMap.{is_at}
 use Rattle.std.specs.Cmp.Lexicographic.{slice_cmp}
 use Rattle.std.specs.Ordering.{nat_cmp}
 use Rattle.key_windows.specs.Calls.{IsWater}
-use Rattle.shard_core.specs.Engines.{IsQuiet, place_of}
+use Rattle.key_windows.specs.Dues.{IsQuiet}
+use Rattle.shard_core.specs.Engines.{place_of}
 use Rattle.shard_core.proofs.Places.{added, unchanged}
 use Rattle.shard_core.proofs.Placing.{at_itself}
 use Rattle.shard_core.proofs.keys.KeyTable.add.Goals as goal

@@ -8,9 +8,10 @@ use Rattle.stream_base.specs.Model.Watermark.{water_of}
 use Rattle.stream_base.specs.Model.What.{key_in}
 use Rattle.stream_base.specs.Model.Changes.{changes_after}
 use Rattle.key_windows.specs.Calls.{IsWater, changes_by_mark, moment}
+use Rattle.key_windows.specs.Dues.{IsQuiet}
 use Rattle.shard_core.specs.declared.slot.Slot.{Slot}
 use Rattle.shard_core.specs.Shard.{Sharded}
-use Rattle.shard_core.specs.Engines.{AreCurrent, HasLists, IsCurrent, IsQuiet}
+use Rattle.shard_core.specs.Engines.{AreCurrent, HasLists, IsCurrent}
 use Rattle.shard_core.proofs.Entries.{changes_of_mark, kept_with_mark, keyed_table, marks_with_mark, moment_with_mark, taken_within}
 use Rattle.shard_core.proofs.Places.{alike, current_at, has_lists, on_err, replaced, same_for}
 use Rattle.shard_core.proofs.keys.KeyTable.mark.Goals as goal
