@@ -37,6 +37,8 @@ pub fn complete_at(span: &Span, time: u64, water: u64) -> Complete
         ≡ length (complete_starts span.now.length span.now.slide time water) }
     ensures within { (k : ℕ) → k < result.count
         → (result.first + k) * span.now.slide ≤ time }
+    ensures holds { (k : ℕ) → k < result.count
+        → time < (result.first + k) * span.now.slide + span.now.length }
 {
     if water <= time {
         return Complete { first: 0, count: 0 };
