@@ -235,7 +235,8 @@ fn append_shared_late<S: AggStore, L>(
     for k in 0..complete.count {
         let low = (complete.first + k) * span.slide;
         let row = owner.row(low, low + span.length, &folded[k as usize]);
-        out.push_reserved(told(row, formers[k as usize]));
+        let stood = formers[k as usize];
+        out.push_reserved(told(row, stood));
     }
 }
 

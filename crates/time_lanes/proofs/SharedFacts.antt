@@ -41,11 +41,16 @@ shared_at kind time water s span complete each steps later len slide starts begu
     by : (0 < complete.count) ⊎ (complete.count ≤ 0) → later ≤ steps + length (slices_holding kind time water s) + 4 * length (complete_holding kind time water)
     by (inl some) =
         let same = ap length (under some) in
-        omega (arith, same, number, shared (record {
-          at_most = omega (arith, few.intervals, number);
-          overlap = omega (arith, begun (complete.count - 1) (omega arith), holds 0 some, from_zero);
-          few = omega (arith, few.slices, same, number);
-        }))
+        omega (
+          arith,
+          same,
+          number,
+          shared (record {
+            at_most = omega (arith, few.intervals, number);
+            overlap = omega (arith, begun (complete.count - 1) (omega arith), holds 0 some, from_zero);
+            few = omega (arith, few.slices, same, number);
+          }),
+        )
     by (inr none) =
         let z : complete.count ≡ 0 = omega arith in
         omega (arith, within, ap (λ n. each * n) z)
