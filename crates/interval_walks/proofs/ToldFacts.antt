@@ -1,12 +1,12 @@
 -- The complete intervals that hold a time, one after another.
-use Rattle.std.proofs.Common.{◌≡◌, ◌∙◌, ℕ, zero, suc, ◌+◌, ◌-◌, ◌*◌, ◌/◌, ◌<◌, ◌≤◌, false, cond, Option, List, [], ◌∷◌, ◌++◌, length, get_or, map, ap, sym, refl, arith, inl, inr, append_assoc}
+use Rattle.std.proofs.Common.{◌≡◌, ◌∙◌, ℕ, zero, suc, ◌+◌, ◌-◌, ◌*◌, ◌/◌, ◌<◌, ◌≤◌, false, cond, Option, List, [], ◌∷◌, ◌++◌, length, get_or, map, ap, sym, refl, subst, arith, inl, inr, append_assoc}
 use Rattle.std.specs.Prelude.{◌⊎◌, min, nat_le, nat_lt}
 use Rattle.std.specs.List.{filter, range_with_len}
 use Rattle.std.proofs.lemmas.Bool.{cases_lt, le-leb, le-ltb, lt-leb, lt-ltb}
 use Rattle.std.proofs.lemmas.List.{length-map, map-append}
 use Rattle.std.proofs.lemmas.List.FromFn.{map-range_with_len_more}
 use Rattle.std.proofs.lemmas.Nat.{le-div}
-use Rattle.std.proofs.Math.Nat.{div-mul-le_self}
+use Rattle.std.proofs.Math.Nat.{div-mul-le_self, lt-div-mul-add}
 use Rattle.stream_base.specs.declared.change.Change.{Change}
 use Rattle.stream_base.specs.declared.former.Former.{Former}
 use Rattle.stream_base.specs.Model.Windows.{starts_holding}
@@ -85,6 +85,18 @@ pub starts_in_time : (slide first count time upper k : ℕ) → count ≡ min (t
 starts_in_time slide first count time upper k e l =
     let t : (first + k) * slide ≤ time / slide * slide = times_mono (first + k) (time / slide) slide (omega arith) in
     omega (arith, div-mul-le_self time slide)
+
+pub starts_hold : (long slide time first k : ℕ) → 1 ≤ slide → first ≡ (time + slide - long) / slide → time < (first + k) * slide + long
+starts_hold long slide time first k moves e =
+    let q : time + slide - long < first * slide + slide = subst (λ n. time + slide - long < n * slide + slide) (sym e) (lt-div-mul-add {a = time + slide - long} {b = slide} moves) in
+    let t : first * slide ≤ (first + k) * slide = times_mono first (first + k) slide (omega arith) in
+    omega arith
+
+-- the one at a place
+pub start_at : (slide first count k : ℕ) → k < count → get_or (starts_from slide first count) k 0 ≡ (first + k) * slide
+start_at slide first zero k l = absurd (omega arith)
+start_at slide first (suc n) zero l = ap (λ n. n * slide) (let e : first ≡ first + 0 = omega arith in e)
+start_at slide first (suc n) (suc k) l = start_at slide (first + 1) n k (omega arith) ∙ ap (λ n. n * slide) (let e : first + 1 + k ≡ first + suc k = omega arith in e)
 
 -- one more
 pub starts_more : (slide first k low : ℕ) → low ≡ (first + k) * slide → starts_from slide first (k + 1) ≡ starts_from slide first k ++ low ∷ []

@@ -1,3 +1,4 @@
+pub mod Folds
 pub mod Spans
 pub mod Held
 pub mod Told

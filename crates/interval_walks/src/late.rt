@@ -5,13 +5,16 @@ ghost use Rattle.stream_base.specs.Model.Windows.{within};
 ghost use Rattle.stream_base.specs.Vectors.{Adds, room};
 ghost use Rattle.aggregates.specs.Bundled.{bundle_of};
 ghost use Rattle.slice_lists.specs.Slices.{values_of};
-ghost use Rattle.agg_store.specs.Stored.{tuples_of};
+ghost use Rattle.run_laws.specs.Runs.{runs_within};
+ghost use Rattle.agg_store.specs.Stored.{IsStore, tuples_of};
+ghost use Rattle.interval_walks.specs.Folds.{IsShared, MayShare, slices_under};
 ghost use Rattle.interval_walks.specs.Told.{again_or_new, complete_starts, ended, former_at, starts_from, told_at, told_late};
 ghost use Rattle.interval_walks.specs.Walks.{MayFold, StartsAt};
 
+use crate::folds::{MOST, fold_together, may_share};
 use crate::owner::{Owner, former};
 use crate::span::Span;
-use agg_laws::Steps;
+use agg_laws::{Monoid, Steps};
 use agg_store::AggStore;
 use aggregates::Bundle;
 use stream_base::{Change, Former, Func, Row};
@@ -34,6 +37,8 @@ pub fn complete_at(span: &Span, time: u64, water: u64) -> Complete
         ≡ length (complete_starts span.now.length span.now.slide time water) }
     ensures within { (k : ℕ) → k < result.count
         → (result.first + k) * span.now.slide ≤ time }
+    ensures holds { (k : ℕ) → k < result.count
+        → time < (result.first + k) * span.now.slide + span.now.length }
 {
     if water <= time {
         return Complete { first: 0, count: 0 };
@@ -58,7 +63,7 @@ fn ended(span: &Span, water: u64) -> u64
     }
 }
 
-/// Appends what stood of each.
+/// Appends what stood of each. Several that are close are folded together.
 pub fn append_formers<S: AggStore, L>(
     func: Func,
     span: &Span,
@@ -75,6 +80,34 @@ pub fn append_formers<S: AggStore, L>(
         (starts_from span.now.slide complete.first complete.count) }
     ensures adds { Adds complete.count into.old into.new }
     ensures cost { steps.new ≤ steps.old + 64 * ((S.stored store.now).reach + 2) * complete.count }
+    ensures shared { IsShared span.now (S.stored store.now).slices complete steps.old steps.new }
+{
+    if may_share(span, store, complete) {
+        append_shared_formers(func, span, store, complete, into, steps);
+    } else {
+        append_each_former(func, span, store, complete, into, steps);
+    }
+}
+
+// Appends what stood of each, folded on its own.
+fn append_each_former<S: AggStore, L>(
+    func: Func,
+    span: &Span,
+    store: &S,
+    complete: Complete,
+    into: &mut Vec<Option<Former>>,
+    steps: &mut Steps<L>,
+)
+    requires intervals { MayFold span.now (S.stored store.now).slices complete }
+    requires spare { complete.count ≤ room into.old }
+    ensures told { length (tuples_of (S.stored store.now)) < 2 ^ 64
+        → into.new.items ≡ into.old.items
+        ++ map (former_at func span.now.length (tuples_of (S.stored store.now)))
+        (starts_from span.now.slide complete.first complete.count) }
+    ensures adds { Adds complete.count into.old into.new }
+    ensures cost { steps.new ≤ steps.old + 64 * ((S.stored store.now).reach + 2) * complete.count }
+    ensures alone { complete.count ≤ 1 → steps.new ≤ steps.old
+        + length (slices_under span.now (S.stored store.now).slices complete) * complete.count }
 {
     for k in 0..complete.count {
         let low = (complete.first + k) * span.slide;
@@ -83,7 +116,38 @@ pub fn append_formers<S: AggStore, L>(
     }
 }
 
-/// Appends each as it shows now, with what stood of it before.
+// Appends what stood of each, folded together.
+fn append_shared_formers<S: AggStore, L>(
+    func: Func,
+    span: &Span,
+    store: &S,
+    complete: Complete,
+    into: &mut Vec<Option<Former>>,
+    steps: &mut Steps<L>,
+)
+    requires intervals { MayFold span.now (S.stored store.now).slices complete }
+    requires share { MayShare span.now (S.stored store.now).slices complete }
+    requires holds { IsStore (S.stored store.now) }
+    requires spare { complete.count ≤ room into.old }
+    ensures told { length (tuples_of (S.stored store.now)) < 2 ^ 64
+        → into.new.items ≡ into.old.items
+        ++ map (former_at func span.now.length (tuples_of (S.stored store.now)))
+        (starts_from span.now.slide complete.first complete.count) }
+    ensures adds { Adds complete.count into.old into.new }
+    ensures cost { steps.new ≤ steps.old
+        + length (slices_under span.now (S.stored store.now).slices complete)
+        + 4 * complete.count }
+{
+    let mut folds = [Bundle::unit(); MOST];
+    fold_together(span, store, complete, &mut folds, steps);
+    let folded = &folds[..];
+    for k in 0..complete.count {
+        into.push_reserved(former(func, &folded[k as usize]));
+    }
+}
+
+/// Appends each as it shows now, with what stood of it before. Several that are close are folded
+/// together.
 pub fn append_late<S: AggStore, L>(
     owner: Owner,
     span: &Span,
@@ -102,6 +166,36 @@ pub fn append_late<S: AggStore, L>(
         (starts_from span.now.slide complete.first complete.count) formers.now }
     ensures adds { Adds complete.count out.old out.new }
     ensures cost { steps.new ≤ steps.old + 64 * ((S.stored store.now).reach + 2) * complete.count }
+    ensures shared { IsShared span.now (S.stored store.now).slices complete steps.old steps.new }
+{
+    if may_share(span, store, complete) {
+        append_shared_late(owner, span, store, complete, formers, out, steps);
+    } else {
+        append_each_late(owner, span, store, complete, formers, out, steps);
+    }
+}
+
+// Appends each as it shows now, folded on its own.
+fn append_each_late<S: AggStore, L>(
+    owner: Owner,
+    span: &Span,
+    store: &S,
+    complete: Complete,
+    formers: &[Option<Former>],
+    out: &mut Vec<Change>,
+    steps: &mut Steps<L>,
+)
+    requires intervals { MayFold span.now (S.stored store.now).slices complete }
+    requires formers { complete.count ≤ length formers.now }
+    requires spare { complete.count ≤ room out.old }
+    ensures told { length (tuples_of (S.stored store.now)) < 2 ^ 64 → out.new.items ≡ out.old.items
+        ++ told_late (told_at owner.entry.window owner.entry.key.now owner.entry.func
+        span.now.length (tuples_of (S.stored store.now)))
+        (starts_from span.now.slide complete.first complete.count) formers.now }
+    ensures adds { Adds complete.count out.old out.new }
+    ensures cost { steps.new ≤ steps.old + 64 * ((S.stored store.now).reach + 2) * complete.count }
+    ensures alone { complete.count ≤ 1 → steps.new ≤ steps.old
+        + length (slices_under span.now (S.stored store.now).slices complete) * complete.count }
 {
     for k in 0..complete.count {
         let low = (complete.first + k) * span.slide;
@@ -111,11 +205,48 @@ pub fn append_late<S: AggStore, L>(
     }
 }
 
+// Appends each as it shows now, folded together.
+fn append_shared_late<S: AggStore, L>(
+    owner: Owner,
+    span: &Span,
+    store: &S,
+    complete: Complete,
+    formers: &[Option<Former>],
+    out: &mut Vec<Change>,
+    steps: &mut Steps<L>,
+)
+    requires intervals { MayFold span.now (S.stored store.now).slices complete }
+    requires formers { complete.count ≤ length formers.now }
+    requires share { MayShare span.now (S.stored store.now).slices complete }
+    requires holds { IsStore (S.stored store.now) }
+    requires spare { complete.count ≤ room out.old }
+    ensures told { length (tuples_of (S.stored store.now)) < 2 ^ 64 → out.new.items ≡ out.old.items
+        ++ told_late (told_at owner.entry.window owner.entry.key.now owner.entry.func
+        span.now.length (tuples_of (S.stored store.now)))
+        (starts_from span.now.slide complete.first complete.count) formers.now }
+    ensures adds { Adds complete.count out.old out.new }
+    ensures cost { steps.new ≤ steps.old
+        + length (slices_under span.now (S.stored store.now).slices complete)
+        + 4 * complete.count }
+{
+    let mut folds = [Bundle::unit(); MOST];
+    fold_together(span, store, complete, &mut folds, steps);
+    let folded = &folds[..];
+    for k in 0..complete.count {
+        let low = (complete.first + k) * span.slide;
+        let row = owner.row(low, low + span.length, &folded[k as usize]);
+        let stood = formers[k as usize];
+        out.push_reserved(told(row, stood));
+    }
+}
+
 // The fold of the interval that starts so.
 fn fold_interval<S: AggStore, L>(span: &Span, store: &S, low: u64, steps: &mut Steps<L>) -> Bundle
     requires { StartsAt span.now (S.stored store.now).slices low }
     ensures value { result ≡ bundle_of
         (values_of (within low (low + span.now.length) (tuples_of (S.stored store.now)))) }
+    ensures one_each { steps.new ≤ steps.old
+        + length (runs_within low (low + span.now.length) (S.stored store.now).slices) }
     ensures cost { steps.new ≤ steps.old + 64 * ((S.stored store.now).reach + 2) }
 {
     store.fold(low, low + span.length, steps)

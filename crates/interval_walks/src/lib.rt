@@ -9,6 +9,7 @@
 #![tactic(auto)]
 
 mod due;
+mod folds;
 mod held;
 mod late;
 mod next;

@@ -16,6 +16,7 @@ ghost use Rattle.agg_store.specs.Stored.{IsSliced, Stored, tuples_of};
 ghost use Rattle.time_lanes.specs.Calls.{AppendsWithin, IsServedUnder, MayComeTo, MayFollow, MayHold};
 ghost use Rattle.time_lanes.specs.Lane.{HasMoreRoom, HoldsTheSame, IsRefreshed, IsSameUpTo, Knows, KnowsAll};
 ghost use Rattle.time_lanes.specs.Late.{IsFound, IsLate, complete_holding, formers_of};
+ghost use Rattle.time_lanes.specs.Shared.{IsSharedAt};
 ghost use Rattle.time_lanes.specs.Moves.{MayMove, completed_starts, moment, slices_between, slices_due, slices_in_last};
 ghost use Rattle.interval_walks.specs.Spans.{IsWindowAt, is_served, last_end_of};
 
@@ -216,6 +217,8 @@ impl<Q: AggQueue<Bundle>> Lane<Q> {
             ≡ vec_len into.old + length (complete_holding def.kind time water) }
         ensures work { AppendsWithin (64 * ((S.stored store.now).reach + 2)) into.old into.new
             steps.old steps.new }
+        ensures shared { (def : Def) → IsWindowAt defs.now.windows window def
+            → IsSharedAt def.kind time water (S.stored store.now) steps.old steps.new }
     {
         let Served { def, span } = serve(defs, window);
         let found = complete_at(&span, time, water);
@@ -254,6 +257,8 @@ impl<Q: AggQueue<Bundle>> Lane<Q> {
             ≡ vec_len out.old + length (complete_holding def.kind time water) }
         ensures work { AppendsWithin (64 * ((S.stored store.now).reach + 2)) out.old out.new
             steps.old steps.new }
+        ensures shared { (def : Def) → IsWindowAt defs.now.windows window def
+            → IsSharedAt def.kind time water (S.stored store.now) steps.old steps.new }
     {
         let Served { def, span } = serve(defs, window);
         let owner = Owner {

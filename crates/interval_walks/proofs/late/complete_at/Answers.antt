@@ -2,7 +2,7 @@
 use Rattle.std.proofs.Common.{◌∙◌, ◌-◌, ◌/◌, ap, length, sym}
 use Rattle.std.specs.Prelude.{min}
 use Rattle.interval_walks.specs.Told.{starts_from}
-use Rattle.interval_walks.proofs.ToldFacts.{none_complete, starts_are, starts_in_time, starts_length}
+use Rattle.interval_walks.proofs.ToldFacts.{none_complete, starts_are, starts_hold, starts_in_time, starts_length}
 use Rattle.interval_walks.proofs.late.complete_at.Goals as goal
 
 pub returns-then-water-time-clause-starts : goal.returns-then-water-time-clause-starts
@@ -30,3 +30,8 @@ returns-clause-within c k below =
     let slide = c.args.span.now.slide in
     let first = c.saturating_sub.result / slide in
     starts_in_time slide first c.saturating_sub-2.result c.args.time c.ended.result k (c.saturating_sub-2.ensures ∙ ap (λ n. n - first) c.min.ensures) below
+
+pub returns-clause-holds : goal.returns-clause-holds
+returns-clause-holds c k below =
+    let span = c.args.span.now in
+    starts_hold span.length span.slide c.args.time (c.saturating_sub.result / span.slide) k span.within.moves (ap (λ n. n / span.slide) c.saturating_sub.ensures)

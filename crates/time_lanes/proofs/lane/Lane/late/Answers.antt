@@ -1,10 +1,12 @@
 -- What is told are the changes of the tuple.
-use Rattle.std.proofs.Common.{◌≡◌, ◌++◌, sym, subst}
+use Rattle.std.proofs.Common.{◌≡◌, ◌+◌, ◌*◌, ◌++◌, sym, subst}
 use Rattle.stream_base.specs.declared.def.Def.{Def}
 use Rattle.stream_base.specs.Model.Changes.{emissions}
 use Rattle.window_laws.specs.After.{with_tuple}
 use Rattle.time_lanes.specs.Late.{IsLate}
 use Rattle.time_lanes.specs.Moves.{moment}
+use Rattle.time_lanes.specs.Shared.{IsSharedAt}
+use Rattle.time_lanes.proofs.SharedFacts.{shared_at}
 use Rattle.time_lanes.proofs.LateFacts.{lane_late}
 use Rattle.interval_walks.proofs.ServedFacts.{same_window, span_of_kind}
 use Rattle.time_lanes.proofs.lane.Lane.late.Goals as goal
@@ -19,3 +21,12 @@ returns-clause-changes g c = λ def gone before marks x stands late.
     subst (λ (e : Def). out ≡ c.args.out.now.items ++ emissions c.args.key.now (moment (gone ++ before) marks c.args.water) (with_tuple (moment (gone ++ before) marks c.args.water) x) (c.args.window, e)) (sym same)
     (lane_late c.args.window c.args.key.now d c.args.time c.args.water gone before marks x c.args.formers.now s c.serve.ensures.timed c.serve.ensures.within (span_of_kind d.kind c.serve.ensures.timed c.serve.ensures.within) here c.serve.result.span.length c.serve.result.span.slide c.complete_at-found.result.first c.complete_at-found.result.count c.args.out.now.items out c.serve.ensures.length c.serve.ensures.slide c.complete_at-found.ensures.starts
     (c.append_late.ensures.told here.found.few))
+
+pub returns-clause-shared : goal.returns-clause-shared
+returns-clause-shared g c = λ def stands.
+    let d = c.serve.result.def in
+    let s = (g.S.AggStore.stored c.args.store.now) in
+    let same : def ≡ d = same_window c.args.defs.now.windows c.args.window def d stands c.serve.ensures.stands in
+    let later = c.append_late.new.steps in
+    subst (λ (e : Def). IsSharedAt e.kind c.args.time c.args.water s c.args.steps.now later) (sym same)
+    (shared_at d.kind c.args.time c.args.water s c.serve.result.span c.complete_at-found.result (64 * (s.reach + 2)) c.args.steps.now later c.serve.ensures.length c.serve.ensures.slide c.complete_at-found.ensures.starts c.complete_at-found.ensures.within c.complete_at-found.ensures.holds c.append_late.ensures.cost c.append_late.ensures.shared)

@@ -1,9 +1,11 @@
 -- One interval more is told.
-use Rattle.std.proofs.Common.{◌∙◌, ◌+◌, ◌*◌, arith, refl}
+use Rattle.std.proofs.Common.{◌∙◌, ◌+◌, ◌*◌, ap, arith, length, refl}
 use Rattle.agg_store.specs.Stored.{tuples_of}
+use Rattle.interval_walks.specs.Folds.{slices_under}
 use Rattle.interval_walks.specs.Told.{former_at}
+use Rattle.interval_walks.proofs.ShareFacts.{one_alone}
 use Rattle.interval_walks.proofs.ToldFacts.{at_most_times, former_more, one_more_time}
-use Rattle.interval_walks.proofs.late.append_formers.Goals as goal
+use Rattle.interval_walks.proofs.late.append_each_former.Goals as goal
 
 pub overflow_add-low : goal.overflow_add-low
 overflow_add-low g c =
@@ -20,5 +22,8 @@ loop-k-preserved g c =
           former_more (former_at c.args.func c.args.span.now.length tuples) c.args.into.now.items c.loop-k.into.items c.push_reserved.new.self.items slide c.args.complete.first c.loop-k.k low c.former.result refl (h.told few) (c.former.ensures tuples low (low + c.args.span.now.length) c.fold_interval-folded.ensures.value few) c.push_reserved.ensures.items;
       number = omega (arith, c.push_reserved.ensures.len, h.number);
       capacity = c.push_reserved.ensures.capacity ∙ h.capacity;
+      alone = λ one.
+          let own = ap length (one_alone (g.S.AggStore.stored c.args.store.now).slices c.args.complete.first c.args.complete.count c.loop-k.k slide c.args.span.now.length one c.loop-k-test.true) in
+          omega (arith, c.fold_interval-folded.ensures.one_each, h.alone one, own, one_more_time (length (slices_under c.args.span.now (g.S.AggStore.stored c.args.store.now).slices c.args.complete)) c.loop-k.k);
       cost = omega (arith, c.fold_interval-folded.ensures.cost, h.cost, one_more_time (64 * ((g.S.AggStore.stored c.args.store.now).reach + 2)) c.loop-k.k);
     }
