@@ -1,17 +1,19 @@
 -- What is noted of the ends of periods, and what is left of it behind a watermark.
 use Rattle.std.proofs.Common.{◌≡◌, ◌∙◌, ℕ, ◌<◌, ◌≤◌, Bool, true, false, cond, List, [], ◌∷◌, ◌++◌, map, take, drop, ap, sym, refl, subst, inl, inr, ⊎_elim, arith, Option, None, Some, Ok, Err}
-use Rattle.std.specs.Prelude.{◌⊎◌, ◌&&◌, Result, not, filter, is_some, nat_le, nat_lt, unwrap_or}
+use Rattle.std.specs.Prelude.{◌⊎◌, ◌&&◌, IfNone, IfSome, Result, not, slice_get, filter, is_some, nat_le, nat_lt, unwrap_or}
 use Rattle.std.specs.BTreeMap.{is_at}
 use Rattle.std.specs.BTreeSet.{insert_key}
 use Rattle.std.specs.Cmp.Lexicographic.{slice_cmp}
 use Rattle.std.specs.List.{Contains, position_or_len}
 use Rattle.std.specs.Map.{lookup}
-use Rattle.std.specs.Ordering.{is_lt, nat_cmp}
+use Rattle.std.specs.Cmp.{tied_itself}
+use Rattle.std.specs.Ordering.{is_eq, is_lt, nat_cmp}
 use Rattle.std.specs.BTreeMap.Range.{range_contains}
-use Rattle.std.specs.declared.ops.bounds.Bound.TheVariants.{Included, Unbounded}
+use Rattle.std.specs.declared.ops.Bound.TheVariants.{Included, Unbounded}
 use Rattle.std.specs.Result.{OnErr, OnOk}
 use Rattle.std.proofs.lemmas.Bool.{and_parts, false≢true, false_from_ne_true}
 use Rattle.std.proofs.lemmas.Bool.Decides.{nat_tests}
+use Rattle.std.proofs.lemmas.Cmp.{nat_cmp_total}
 use Rattle.std.proofs.lemmas.List.{take-append-drop}
 use Rattle.std.proofs.lemmas.List.Elements.{Contains-append_cases, Contains-append_left}
 use Rattle.std.proofs.lemmas.Map.Lookups.{exact_bytes, exact_unsigned}
@@ -24,7 +26,7 @@ use Rattle.stream_base.proofs.Rising.{none_in_nil, Contains-cons_cases, Contains
 use Rattle.model_laws.proofs.WatermarkFacts.{water_rises}
 use Rattle.watermark_table.specs.Watched as table
 use Rattle.tail_windows.specs.Following.{list_of}
-use Rattle.tail_windows.specs.Noted.{AreNoted, IsNoted, IsReady, keys_at}
+use Rattle.tail_windows.specs.Noted.{AreNoted, IsNoted, IsReached, IsReady, keys_at}
 use Rattle.tail_windows.specs.Samples.{ends_in, put_sample, row_before}
 use Rattle.tail_windows.specs.Tails.{end_of}
 use Rattle.tail_windows.specs.Walks.{moved_changes}
@@ -87,9 +89,12 @@ module _ {E : Type 0} (answer : Result (Unit {0}) E) (old new : List (ℕ × Lis
       by (Err u) no is = subst (λ l. Contains l k) (sym is) (as_many (is_at (nat_cmp at) a) refl)
 
   -- and it is noted itself
-  pub key_noted : is_at (nat_cmp at) at ≡ true → OnOk answer (IsNoted new at key)
-  key_noted itself = by answer (added at)
+  pub key_noted : OnOk answer (IsNoted new at key)
+  key_noted = by answer (added at)
     where
+      itself : is_at (nat_cmp at) at ≡ true
+      itself = ap is_eq (tied_itself nat_cmp_total at)
+
       by : (r : Result (Unit {0}) E) → OnOk r (keys_at new at ≡ cond (is_at (nat_cmp at) at) (insert_key (slice_cmp nat_cmp) (keys_at old at) key) (keys_at old at)) → OnOk r (IsNoted new at key)
       by (Ok u) is =
           let put : keys_at new at ≡ insert_key (slice_cmp nat_cmp) (keys_at old at) key = is ∙ ap (λ b. cond b (insert_key (slice_cmp nat_cmp) (keys_at old at) key) (keys_at old at)) itself in
@@ -101,6 +106,19 @@ pub noted_behind_first : (p : ℕ × List (List ℕ)) (rest : List (ℕ × List 
 noted_behind_first p rest at k later c =
     let other : is_at (nat_cmp at) p.0 ≡ false = false_from_ne_true (is_at (nat_cmp at) p.0) (λ here. let same : at ≡ p.0 = tells_apart exact_unsigned at p.0 here in absurd (omega arith)) in
     subst (λ b. Contains (unwrap_or (cond b (Some p.1) (lookup (is_at (nat_cmp at)) rest)) []) k) other c
+
+first_end : Option (ℕ × List (List ℕ)) → ℕ
+first_end None = 0
+first_end (Some p) = p.0
+
+-- once a first end that is reached has left, what is noted behind the watermark is there still
+pub popped : (old new : List (ℕ × List (List ℕ))) (water : ℕ) (r : Option (ℕ × List (List ℕ))) → IsReached old water → IfSome r (λ p. old ≡ p ∷ new) → IfNone r (new ≡ old)
+    → (at : ℕ) (k : List ℕ) → IsNoted old at k → water < at → IsNoted new at k
+unfolding first_end
+popped old new water None reached is none at k c later = subst (λ l. IsNoted l at k) (sym none) c
+popped old new water (Some p) (e, first, le) is none at k c later =
+    let same : p.0 ≡ e.0 = ap first_end (sym (ap (λ l. slice_get l 0) is) ∙ first) in
+    noted_behind_first p new at k (omega arith) (subst (λ l. IsNoted l at k) is c)
 
 -- ---- one sample more
 among_with : (samples : List Sample) (s x : Sample) → Contains (put_sample samples s) x → (s ≡ x) ⊎ Contains samples x
