@@ -85,8 +85,8 @@ module _ {E : Type 0} (answer : Result (Unit {0}) E) (old new : List (ℕ × Lis
 
       by : (r : Result (Unit {0}) E) → OnOk r (keys_at new a ≡ cond (is_at (nat_cmp at) a) (insert_key (slice_cmp nat_cmp) (keys_at old at) key) (keys_at old a))
           → OnErr r (keys_at new a ≡ cond (is_at (nat_cmp at) a) (keys_at old at) (keys_at old a)) → Contains (keys_at new a) k
-      by (Ok u) is no = subst (λ l. Contains l k) (sym is) (more (is_at (nat_cmp at) a) refl)
-      by (Err u) no is = subst (λ l. Contains l k) (sym is) (as_many (is_at (nat_cmp at) a) refl)
+      by (Ok u) is left = subst (λ l. Contains l k) (sym is) (more (is_at (nat_cmp at) a) refl)
+      by (Err u) put_in is = subst (λ l. Contains l k) (sym is) (as_many (is_at (nat_cmp at) a) refl)
 
   -- and it is noted itself
   pub key_noted : OnOk answer (IsNoted new at key)
@@ -155,8 +155,8 @@ module _ {E : Type 0} (answer : Result (Unit {0}) E) (period water : ℕ) (lists
       own_by false here d = kept at k (noted k at d late)
 
       by : (r : Result (Unit {0}) E) → OnOk r (list_of new k ≡ cond (is_at (slice_cmp nat_cmp key) k) (put_sample (list_of lists key) s) (list_of lists k)) → OnErr r (list_of new k ≡ list_of lists k) → IsNoted more at k
-      by (Ok u) is no = own_by (is_at (slice_cmp nat_cmp key) k) refl (subst (λ l. Contains (ends_in period l) at) is c)
-      by (Err u) no is = kept at k (noted k at (subst (λ l. Contains (ends_in period l) at) is c) late)
+      by (Ok u) is left = own_by (is_at (slice_cmp nat_cmp key) k) refl (subst (λ l. Contains (ends_in period l) at) is c)
+      by (Err u) put_in is = kept at k (noted k at (subst (λ l. Contains (ends_in period l) at) is c) late)
 
 -- ---- a move of the watermark
 -- of a key that isn't due nothing comes

@@ -27,8 +27,8 @@ returns g c e is =
     (λ j s. c.water-water.ensures.journal j s.waters)
     c.put.ensures.put c.put.ensures.refused c.put.ensures.changes)
 
-pub invariant_of-self : goal.invariant_of-self
-invariant_of-self g c =
+pub invariant_of-self-2 : goal.invariant_of-self-2
+invariant_of-self-2 g c =
     let period = (c.self.inside.def).period in
     let s = sample_at c.args.time (to_z w64 (of_z w64 c.args.value)) in
     let ready = c.self.invariant.1 in
@@ -42,4 +42,11 @@ invariant_of-self g c =
         noted = noted_with_sample c.put.result period (c.self.inside.waters).water c.self.inside.keys c.put.new.self c.self.inside.agenda c.note.new.self c.args.key.now s
             ready.noted c.note.ensures.kept own c.put.ensures.put c.put.ensures.refused;
       },
+    )
+
+pub invariant_of-self : goal.invariant_of-self
+invariant_of-self g c =
+    let ready = c.self.invariant.1 in (
+      c.self.invariant.0,
+      record { journal = ready.journal; stands = ready.stands; noted = λ k at d late. c.note.ensures.kept at k (ready.noted k at d late) },
     )
