@@ -4,9 +4,8 @@ use Rattle.std.proofs.lemmas.List.{append-nil}
 use Rattle.std.specs.Prelude.{Result}
 use Rattle.std.specs.BTreeMap.{is_at}
 use Rattle.std.specs.Cmp.Lexicographic.{slice_cmp}
-use Rattle.std.specs.List.{All, flat_map}
+use Rattle.std.specs.List.{All, Contains, flat_map}
 use Rattle.std.specs.List.Sorted.{IsStrictlySortedBy}
-use Rattle.std.specs.Map as map_specs
 use Rattle.std.specs.Ordering.{nat_cmp}
 use Rattle.std.specs.Result.{OnErr, OnOk}
 use Rattle.stream_base.specs.declared.entry.Entry.{Entry}
@@ -23,6 +22,7 @@ use Rattle.tail_windows.specs.Walks.{HasAppended, moved_changes}
 use Rattle.tail_windows.specs.declared.change.TailChange.{TailChange}
 use Rattle.tail_windows.specs.declared.change.TailChange.TheVariants.{Dropped}
 use Rattle.tail_windows.specs.declared.sample.Sample.{Sample}
+use Rattle.tail_windows.proofs.Walking.{nothing_appended}
 use Rattle.tail_windows.proofs.Follow.{late_is_dropped, mark_changes, older_tuples, stands_behind_late, stands_behind_mark, stands_behind_tuple, stands_behind_word, tuple_changes, word_changes}
 
 pub on_ok : {T E : Type 0} (r : Result T E) (P : Type 0) → P → OnOk r P
@@ -43,6 +43,16 @@ on_err_to (Err e) P Q f p = f p
 
 unchanged : (f : Followed) → IsOfSame f f
 unchanged f = record { def = refl; lateness = refl; sources = refl }
+
+-- after want of memory nothing is done
+pub nothing_follows : {E : Type 0} (f : Followed) (e : Entry) (before : List TailChange) (steps : ℕ) (x : E) → Follows f e (Err x) f before before steps steps
+nothing_follows f e before steps x = record {
+  same = unchanged f;
+  stands = λ j s. tt;
+  changes = λ j s. tt;
+  refused = λ j s. s;
+  appended = nothing_appended (f.def).count before steps;
+}
 
 module _ {E : Type 0} (f : Followed) (e : Entry) (before : List TailChange) (steps : ℕ) where
   -- a late entry is dropped
@@ -138,12 +148,14 @@ word_follows {E} f h same e before steps after later new water appended word tak
     → Follows {E = E} k e (Ok tt) (record { def = f.def; waters = new; lists = f.lists }) before after steps later) same
     (word_taken f e before steps after later new water word takes) appended changes
 
--- what a move of the watermark brings of all keys is what a word on progress does
-pub move_changes : {E : Type 0} (f h : Followed) → f ≡ h → (j : List Entry) (e : Entry) (answer : Result (Unit {0}) E) (before after : List TailChange) (new old : ℕ) → StandsFor f j → is_progress e.what ≡ true → new ≡ water_of (number_of_sources h) (j ++ e ∷ [])
-    → IsStrictlySortedBy (slice_cmp nat_cmp) (map_specs.keys_of f.lists) → old ≡ water_of (number_of_sources f) j
-    → OnOk answer (after ≡ before ++ flat_map (λ l. moved_changes f.def l.0 old new l.1) f.lists) → OnOk answer (after ≡ before ++ changes_behind h j e)
-move_changes f h same j e answer before after new old stands word is sorted at given =
+-- what a move of the watermark brings of the keys that are due is what a word on progress does
+pub move_changes : {E : Type 0} (f h : Followed) → f ≡ h → (j : List Entry) (e : Entry) (answer : Result (Unit {0}) E) (before after : List TailChange) (new old : ℕ) (due : List (List ℕ)) → StandsFor f j → is_progress e.what ≡ true → new ≡ water_of (number_of_sources h) (j ++ e ∷ [])
+    → IsStrictlySortedBy (slice_cmp nat_cmp) due → ((key : List ℕ) → ¬ Contains due key → moved_changes f.def key old new (list_of f.lists key) ≡ []) → old ≡ water_of (number_of_sources f) j
+    → OnOk answer (after ≡ before ++ flat_map (λ key. moved_changes f.def key old new (list_of f.lists key)) due) → OnOk answer (after ≡ before ++ changes_behind h j e)
+move_changes f h same j e answer before after new old due stands word is sorted others at given =
     subst (λ (k : Followed). new ≡ water_of (number_of_sources k) (j ++ e ∷ []) → OnOk answer (after ≡ before ++ changes_behind k j e)) same
-    (λ here. on_ok_to answer (after ≡ before ++ flat_map (λ l. moved_changes f.def l.0 old new l.1) f.lists) (after ≡ before ++ changes_behind f j e)
-    (λ eq. eq ∙ ap (λ w. before ++ flat_map (λ (l : List ℕ × List Sample). moved_changes f.def l.0 w new l.1) f.lists) at ∙ ap (λ l. before ++ l) (sym (word_changes f j e stands new word sorted here)))
+    (λ here. on_ok_to answer (after ≡ before ++ flat_map (λ key. moved_changes f.def key old new (list_of f.lists key)) due) (after ≡ before ++ changes_behind f j e)
+    (λ eq. eq ∙ ap (λ w. before ++ flat_map (λ key. moved_changes f.def key w new (list_of f.lists key)) due) at
+    ∙ ap (λ l. before ++ l) (sym (word_changes f j e stands new due word sorted here
+    (subst (λ w. (key : List ℕ) → ¬ Contains due key → moved_changes f.def key w new (list_of f.lists key) ≡ []) at others))))
     given) is

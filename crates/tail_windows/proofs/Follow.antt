@@ -2,9 +2,8 @@
 use Rattle.std.proofs.Common.{◌≡◌, ◌∙◌, ℕ, ℤ, ◌<◌, ◌≤◌, Bool, true, false, cond, List, [], ◌∷◌, ◌++◌, length, ap, ap₂, sym, refl, subst, None, Some}
 use Rattle.std.specs.BTreeMap.{is_at}
 use Rattle.std.specs.Cmp.Lexicographic.{slice_cmp}
-use Rattle.std.specs.List.{All, flat_map}
+use Rattle.std.specs.List.{All, Contains, flat_map}
 use Rattle.std.specs.List.Sorted.{IsStrictlySortedBy}
-use Rattle.std.specs.Map as map_specs
 use Rattle.std.specs.Ordering.{is_eq, nat_cmp}
 use Rattle.std.specs.Cmp.{tied_itself}
 use Rattle.std.proofs.lemmas.Bool.{false≢true}
@@ -35,7 +34,7 @@ use Rattle.tail_windows.specs.declared.change.TailChange.TheVariants.{Dropped}
 use Rattle.tail_windows.specs.declared.def.TailDef.{TailDef}
 use Rattle.tail_windows.specs.declared.sample.Sample.{Sample}
 use Rattle.tail_windows.proofs.Changed.{by_a_move}
-use Rattle.tail_windows.proofs.Keyed.{by_keys, flat_map_one, other_tuple}
+use Rattle.tail_windows.proofs.Keyed.{flat_map_one, other_tuple, same_flat}
 use Rattle.tail_windows.proofs.Stripping.{put_of_samples}
 use Rattle.tail_windows.proofs.TailLaws.{nothing_at_rest}
 
@@ -152,14 +151,16 @@ module _ (f : Followed) (journal : List Entry) (e : Entry) (stands : StandsFor f
         ∙ ap₂ (λ l s. samples_of (kept_of l s other (journal ++ e ∷ []))) (sym same.lateness) (sym same.sources);
   }
 
-  -- what it brings: of each key what the move of the watermark does
-  pub word_changes : (new : ℕ) → is_progress e.what ≡ true → IsStrictlySortedBy (slice_cmp nat_cmp) (map_specs.keys_of f.lists) → new ≡ water_of (number_of_sources f) (journal ++ e ∷ [])
-      → changes_behind f journal e ≡ flat_map (λ l. moved_changes f.def l.0 (water_of (number_of_sources f) journal) new l.1) f.lists
-  word_changes new word sorted is =
+  -- what it brings: of each key that is due what the move of the watermark does
+  pub word_changes : (new : ℕ) (due : List (List ℕ)) → is_progress e.what ≡ true → IsStrictlySortedBy (slice_cmp nat_cmp) due → new ≡ water_of (number_of_sources f) (journal ++ e ∷ [])
+      → ((key : List ℕ) → ¬ Contains due key → moved_changes f.def key (water_of (number_of_sources f) journal) new (list_of f.lists key) ≡ [])
+      → changes_behind f journal e ≡ flat_map (λ key. moved_changes f.def key (water_of (number_of_sources f) journal) new (list_of f.lists key)) due
+  word_changes new due word sorted is others =
       on_time_changes f.def lateness sources journal e (not_late_on_progress lateness (water_of sources journal) e.what word)
       ∙ ap (flat_map (tail_changes_of_key f.def lateness sources journal e)) (keys_of_water journal e word)
       ∙ flat_map_same (tail_changes_of_key f.def lateness sources journal e) (λ key. moved_changes f.def key old new (list_of f.lists key)) (keys_of journal) (λ key c. of_key key)
-      ∙ sym (by_keys (λ key samples. moved_changes f.def key old new samples) f.lists (keys_of journal) (λ key. refl) sorted (keys_in_order journal) (λ key absent. stands.lists key ∙ ap samples_of (nothing_kept lateness sources key journal absent)))
+      ∙ same_flat (λ key. moved_changes f.def key old new (list_of f.lists key)) (keys_of journal) due (keys_in_order journal) sorted
+      (λ key absent. ap (moved_changes f.def key old new) (stands.lists key ∙ ap samples_of (nothing_kept lateness sources key journal absent))) others
     where
       lateness : ℕ
       lateness = lateness_of f

@@ -68,18 +68,6 @@ same_flat f one two s t a b =
         (λ absent. absurd (some_left (f k) h (none k absent)))
         (is_key_or_not k cs)
 
-flat_map_of_map : {X Y Z : Type 0} (f : X → Y) (g : Y → List Z) (xs : List X) → flat_map g (map f xs) ≡ flat_map (λ x. g (f x)) xs
-flat_map_of_map f g [] = refl
-flat_map_of_map f g (x ∷ xs) = ap (λ l. g (f x) ++ l) (flat_map_of_map f g xs)
-
--- a key that isn't there has no sample
-pub no_list : (lists : List (List ℕ × List Sample)) (key : List ℕ) → ¬ Contains (keys_of lists) key → list_of lists key ≡ []
-no_list lists key absent = by (lookup (is_at (slice_cmp nat_cmp key)) lists) refl
-  where
-    by : (o : Option (List Sample)) → lookup (is_at (slice_cmp nat_cmp key)) lists ≡ o → unwrap_or o [] ≡ []
-    by None e = refl
-    by (Some l) e = absurd (absent (Contains-keys_from_lookup (tells_apart exact_bytes) key lists (ap is_some e)))
-
 none_of : {X : Type 0} (o : Option X) → is_some o ≡ false → o ≡ None
 none_of None h = refl
 none_of (Some x) h = absurd (false≢true (sym h))
@@ -103,17 +91,6 @@ own_or_other lists key other = by (is_at (slice_cmp nat_cmp key) other) refl
     by : (b : Bool) → is_at (slice_cmp nat_cmp key) other ≡ b → cond b (list_of lists key) (list_of lists other) ≡ list_of lists other
     by true at = ap (list_of lists) (tells_apart exact_bytes key other at)
     by false at = refl
-
--- what comes of all lists is what comes of the keys of a journal
-pub by_keys : {Y : Type 0} (g : List ℕ → List Sample → List Y) (lists : List (List ℕ × List Sample)) (keys : List (List ℕ)) → ((k : List ℕ) → g k [] ≡ []) → IsStrictlySortedBy (slice_cmp nat_cmp) (keys_of lists) → IsStrictlySortedBy (slice_cmp nat_cmp) keys
-    → ((k : List ℕ) → ¬ Contains keys k → list_of lists k ≡ []) → flat_map (λ e. g e.0 e.1) lists ≡ flat_map (λ k. g k (list_of lists k)) keys
-by_keys g lists keys none s t absent =
-    flat_map_same (λ e. g e.0 e.1) (λ e. g e.0 (list_of lists e.0)) lists
-    (λ e c. ap (g e.0) (sym (ap (λ o. unwrap_or o []) (lookup-from_Contains (eq_by_cmp_equiv nat_list_cmp_total) e.0 e.1 lists (IsDistinct-from_sorted (slice_cmp nat_cmp) (keys_of lists) s) c))))
-    ∙ sym (flat_map_of_map (λ (e : List ℕ × List Sample). e.0) (λ k. g k (list_of lists k)) lists)
-    ∙ same_flat (λ k. g k (list_of lists k)) (keys_of lists) keys s t
-    (λ k no. ap (g k) (no_list lists k no) ∙ none k)
-    (λ k no. ap (g k) (absent k no) ∙ none k)
 
 -- ---- one key of a journal
 pub flat_map_one : {X Y : Type 0} {cmp : X → X → Ordering} (o : IsTotalOrder cmp) (f : X → List Y) (xs : List X) (x : X) → IsStrictlySortedBy cmp xs → Contains xs x → ((y : X) → (y ≡ x → ⊥) → f y ≡ []) → flat_map f xs ≡ f x

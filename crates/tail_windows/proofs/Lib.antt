@@ -6,6 +6,7 @@ pub mod Folding
 pub mod Follow
 pub mod Inserted
 pub mod Keyed
+pub mod Noting
 pub mod Places
 pub mod Stripping
 pub mod TailLaws

@@ -12,6 +12,8 @@
 //! are gone through, and where it comes in order and after the watermark, none.
 #![tactic(auto)]
 
+mod agenda;
+mod batch;
 mod change;
 mod def;
 pub mod examples;

@@ -10,9 +10,11 @@ ghost use Rattle.tail_windows.specs.Following.{Follows, IsOfSame, StandsFor, cha
 ghost use Rattle.tail_windows.specs.Walks.{HasAppended, IsTailDef};
 ghost use Rattle.tail_windows.specs.declared.change.TailChange.TheVariants.{Dropped};
 
+use crate::agenda::Agenda;
 use crate::change::TailChange;
 use crate::def::TailDef;
 use crate::sample::Sample;
+use crate::select::end_of;
 use crate::timelines::Timelines;
 use agg_laws::Steps;
 use std::alloc::Global;
@@ -27,17 +29,20 @@ pub struct Tails {
     def: TailDef,
     waters: Waters,
     keys: Timelines,
+    agenda: Agenda,
 }
 
 impl Model for Tails {
     ghost use Rattle.tail_windows.specs.Following.{Followed};
+    ghost use Rattle.tail_windows.specs.Noted.{IsReady};
     ghost use Rattle.tail_windows.specs.Walks.{IsTailDef};
 
     ghost Value = { Followed };
 
     ghost view = { λ s. record { def = s.def; waters = s.waters; lists = s.keys } };
 
-    ghost invariant = { λ s. IsTailDef s.def };
+    ghost invariant = { λ s. IsTailDef s.def
+        × IsReady (s.def).period s.waters s.keys s.agenda };
 }
 
 impl Tails {
@@ -55,6 +60,7 @@ impl Tails {
             def,
             waters: Waters::new(alloc, sources, lateness)?,
             keys: Timelines::new(alloc),
+            agenda: Agenda::new(alloc),
         })
     }
 
@@ -149,6 +155,7 @@ impl Tails {
     {
         let water = self.waters.water();
         let sample = Sample { time, value };
+        self.agenda.note(end_of(&self.def, time), key, water)?;
         self.keys.put(&self.def, key, sample, water, out, steps)
     }
 
@@ -179,6 +186,7 @@ impl Tails {
         let water = self.waters.after(source, time);
         self.append_move(water, out, steps)?;
         self.waters.raise(source, time);
+        self.agenda.pass(water);
         Ok(())
     }
 
@@ -195,6 +203,7 @@ impl Tails {
         let water = self.waters.after_idle(source);
         self.append_move(water, out, steps)?;
         self.waters.idle(source);
+        self.agenda.pass(water);
         Ok(())
     }
 
@@ -211,6 +220,7 @@ impl Tails {
         let water = self.waters.after(source, FINAL);
         self.append_move(water, out, steps)?;
         self.waters.end(source);
+        self.agenda.pass(water);
         Ok(())
     }
 
@@ -230,7 +240,9 @@ impl Tails {
             steps.old steps.new }
     {
         let old = self.waters.water();
-        self.keys.append_move(&self.def, old, water, out, steps)
+        let due = self.agenda.due(water)?;
+        self.keys
+            .append_move(&self.def, &due, old, water, out, steps)
     }
 
     fn is_late(&self, time: u64) -> bool

@@ -20,7 +20,7 @@ use crate::sample::Sample;
 use crate::timeline::Timeline;
 use agg_laws::Steps;
 use std::alloc::Global;
-use std::collections::BTreeMap;
+use std::collections::{BTreeMap, BTreeSet};
 use std::marker::Model;
 use stream_base::{KeyText, NoMemory};
 
@@ -87,10 +87,11 @@ impl Timelines {
         self.put_there(def, key, sample, water, out, steps)
     }
 
-    /// Appends what a move of the watermark brings of each key, by the bytes of the keys.
+    /// Appends what a move of the watermark brings of some keys, by the bytes of the keys.
     pub fn append_move<L>(
         &self,
         def: &TailDef,
+        due: &BTreeSet<KeyText>,
         old: u64,
         new: u64,
         out: &mut Vec<TailChange>,
@@ -98,15 +99,38 @@ impl Timelines {
     ) -> Result<(), NoMemory>
         requires { IsTailDef def.now }
         ensures changes { OnOk result (out.new.items ≡ out.old.items
-            ++ flat_map (λ e. moved_changes def.now e.0 old new e.1) self.now) }
-        ensures by_key { IsStrictlySortedBy (slice_cmp nat_cmp) (keys_of self.now) }
+            ++ flat_map (λ k. moved_changes def.now k old new (list_of self.now k))
+            (due.now).keys) }
+        ensures by_key { IsStrictlySortedBy (slice_cmp nat_cmp) (due.now).keys }
         ensures appended { HasAppended def.now.count out.old.items out.new.items
             steps.old steps.new }
     {
-        for (key, timeline) in self.lists.iter() {
-            timeline.append_move(def, key, old, new, out, steps)?;
+        for key in due.iter() {
+            self.append_key(def, key, old, new, out, steps)?;
         }
         Ok(())
+    }
+
+    // Appends what a move of the watermark brings of a key.
+    fn append_key<L>(
+        &self,
+        def: &TailDef,
+        key: &KeyText,
+        old: u64,
+        new: u64,
+        out: &mut Vec<TailChange>,
+        steps: &mut Steps<L>,
+    ) -> Result<(), NoMemory>
+        requires { IsTailDef def.now }
+        ensures changes { OnOk result (out.new.items ≡ out.old.items
+            ++ moved_changes def.now key.now old new (list_of self.now key.now)) }
+        ensures appended { HasAppended def.now.count out.old.items out.new.items
+            steps.old steps.new }
+    {
+        match self.lists.get(key) {
+            Some(timeline) => timeline.append_move(def, key, old, new, out, steps),
+            None => Ok(()),
+        }
     }
 
     // Gives a key that has no timeline an empty one.

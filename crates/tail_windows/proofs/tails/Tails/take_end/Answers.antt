@@ -5,6 +5,7 @@ use Rattle.stream_base.specs.Model.Watermark.{water_of}
 use Rattle.watermark_table.specs.Watched.{end_entry}
 use Rattle.tail_windows.specs.Following.{Followed, number_of_sources}
 use Rattle.tail_windows.proofs.Answering.{word_follows}
+use Rattle.tail_windows.proofs.Noting.{ready_behind}
 use Rattle.tail_windows.proofs.tails.Tails.take_end.Goals as goal
 
 pub returns : goal.returns
@@ -13,3 +14,10 @@ returns g c =
     let same : f ≡ c.args.self.now = c.self.view_is in
     word_follows {E = NoMemory} f c.args.self.now same (end_entry c.args.source) c.args.out.now.items c.args.steps.now c.append_move.new.out.items c.append_move.new.steps c.end.new.self c.end.result c.append_move.ensures.appended refl c.end.ensures
     (λ j s t. c.in_ok-append_move.ensures.changes j (end_entry c.args.source) t refl (c.after-water.ensures.ended j s.waters refl ∙ ap (λ (h : Followed). water_of (number_of_sources h) (j ++ end_entry c.args.source ∷ [])) same))
+
+pub invariant_of-self : goal.invariant_of-self
+invariant_of-self g c = (
+  c.self.invariant.0,
+  ready_behind (c.self.inside.def).period c.self.inside.waters c.end.new.self c.self.inside.keys c.self.inside.agenda c.pass.new.self (end_entry c.args.source) c.end.result c.after-water.result c.end.ensures
+      (λ j s. c.after-water.ensures.ended j s refl) c.pass.ensures c.self.invariant.1,
+)
