@@ -87,22 +87,22 @@ pub fn scotty<F: Files, K: Sink, G: Gate, R: Threads + Wait + Sync>(
         → ¬ (IsWatch (map string_bytes words.now))
         → ¬ (IsLast (map string_bytes words.now)) → files.new ≡ files.old }
 {
-    match run_of(words) {
-        Some(command) => run(alloc, rt, &command, files, sink, gate),
-        None => match made_of(words) {
-            Some(command) => make(alloc, rt, &command, sink, gate),
-            None => match check_of(words) {
-                Some(command) => check(alloc, rt, &command, files, sink),
-                None => match watch_of(words) {
-                    Some(command) => watch(alloc, rt, &command, files, sink, gate),
-                    None => match last_of(words) {
-                        Some(command) => tail(alloc, rt, &command, files, sink, gate),
-                        None => print_fault(&Fault::Usage, sink),
-                    },
-                },
-            },
-        },
+    if let Some(command) = run_of(words) {
+        return run(alloc, rt, &command, files, sink, gate);
     }
+    if let Some(command) = made_of(words) {
+        return make(alloc, rt, &command, sink, gate);
+    }
+    if let Some(command) = check_of(words) {
+        return check(alloc, rt, &command, files, sink);
+    }
+    if let Some(command) = watch_of(words) {
+        return watch(alloc, rt, &command, files, sink, gate);
+    }
+    if let Some(command) = last_of(words) {
+        return tail(alloc, rt, &command, files, sink, gate);
+    }
+    print_fault(&Fault::Usage, sink)
 }
 
 fn run<F: Files, K: Sink, G: Gate, R: Threads + Wait + Sync>(
