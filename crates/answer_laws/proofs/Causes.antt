@@ -18,11 +18,11 @@ use Rattle.window_defs.specs.declared.defs_fault.DefsFault.{DefsFault}
 use Rattle.window_defs.specs.declared.defs_fault.DefsFault.TheVariants.{Long}
 use Rattle.emission_text.specs.declared.fault.Fault.{Fault}
 use Rattle.emission_text.specs.declared.fault.Fault.TheVariants.{Usage, Defs, Unopened, Row, Read, FullSource, FullShard, ReportOpen, ReportRead, ReportFull, NoMemory}
-use Rattle.scotty_run.specs.Causes.{AreAllRead, AreRefused, IsInTrouble, StopsAtDefs, StopsAtSources, count_routed, stream_at}
+use Rattle.run_inputs.specs.Causes.{AreAllRead, AreRefused, IsInTrouble, StopsAtDefs, StopsAtSources, count_routed, stream_at}
 use Rattle.scotty_run.specs.InMemory.{Tells}
-use Rattle.scotty_run.specs.Outside.{Asks, Opens, Telling, came_at}
-use Rattle.scotty_run.specs.Statuses.{status_of}
-use Rattle.scotty_run.specs.declared.status.Status.TheVariants as status
+use Rattle.run_inputs.specs.Outside.{Asks, Opens, Telling, came_at}
+use Rattle.run_inputs.specs.Statuses.{status_of}
+use Rattle.run_inputs.specs.declared.status.Status.TheVariants as status
 use Rattle.answer_laws.specs.Once.{AreWell}
 use Rattle.answer_laws.proofs.Told.{source_told, tells_both, well_at, well_back, well_before, well_is_quiet, well_is_unrefused, word_is_all}
 

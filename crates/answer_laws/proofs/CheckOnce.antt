@@ -12,14 +12,14 @@ use Rattle.emission_text.specs.Findings.{finding_line}
 use Rattle.emission_text.specs.declared.fault.Fault.{Fault}
 use Rattle.emission_text.specs.declared.fault.Fault.TheVariants.{Usage as FUsage, Defs, Unopened, Row, Read, FullSource, FullShard, ReportOpen, ReportRead, ReportFull, NoMemory as FNoMemory}
 use Rattle.scotty_run.specs.Answer.{IsCheckAnswer, IsFound, IsStopped, Says}
-use Rattle.scotty_run.specs.Causes.{AreDefinitionsRead}
-use Rattle.scotty_run.specs.Judging.{IsFindingOfFiles, IsReportRead, StopsAtCheck, StopsAtReport, StopsBehindDefs}
+use Rattle.run_inputs.specs.Causes.{AreDefinitionsRead}
+use Rattle.run_inputs.specs.Judging.{IsFindingOfFiles, IsReportRead, StopsAtCheck, StopsAtReport, StopsBehindDefs}
 use Rattle.scotty_run.specs.InMemory.{Tells}
-use Rattle.scotty_run.specs.Outside.{Asks, Opens, Telling, behind, came_at}
-use Rattle.scotty_run.specs.Statuses.{finding_status, status_of}
-use Rattle.scotty_run.specs.Words.{Check}
-use Rattle.scotty_run.specs.declared.status.Status.{Status}
-use Rattle.scotty_run.specs.declared.status.Status.TheVariants.{Done, Usage, BadDefs, OpenFault, BadRow, ReadFault, Full, NoMemory, WriteFault, Unlawful}
+use Rattle.run_inputs.specs.Outside.{Asks, Opens, Telling, behind, came_at}
+use Rattle.run_inputs.specs.Statuses.{finding_status, status_of}
+use Rattle.command_words.specs.Words.{Check}
+use Rattle.run_inputs.specs.declared.status.Status.{Status}
+use Rattle.run_inputs.specs.declared.status.Status.TheVariants.{Done, Usage, BadDefs, OpenFault, BadRow, ReadFault, Full, NoMemory, WriteFault, Unlawful}
 use Rattle.answer_laws.specs.Once.{AreWell, Wrote}
 use Rattle.answer_laws.proofs.Causes.{AreToldAll, IsEarly, IsFullOf, IsTroubled, all_of_read, all_once, all_or_troubled, asked_by, defs_stop, definitions_once, early_once, early_or_read, sources_stop, trouble_once}
 use Rattle.answer_laws.proofs.Told.{asked_first, definitions_told, tells_both, well_at, well_back, well_behind, well_is_quiet, well_is_unrefused, well_whole}

@@ -2,9 +2,9 @@
 use Rattle.std.proofs.Common.{◌≡◌, ◌∙◌, ℕ, List, sym, refl}
 use Rattle.std.proofs.lemmas.List.{append_cancel_left}
 use Rattle.scotty_run.specs.Answer.{IsMadeAnswer, made_summary}
-use Rattle.scotty_run.specs.Words.{Made}
-use Rattle.scotty_run.specs.declared.status.Status.{Status}
-use Rattle.scotty_run.specs.declared.status.Status.TheVariants.{Done, Usage, BadDefs, OpenFault, BadRow, ReadFault, Full, NoMemory, WriteFault, Unlawful}
+use Rattle.command_words.specs.Words.{Made}
+use Rattle.run_inputs.specs.declared.status.Status.{Status}
+use Rattle.run_inputs.specs.declared.status.Status.TheVariants.{Done, Usage, BadDefs, OpenFault, BadRow, ReadFault, Full, NoMemory, WriteFault, Unlawful}
 use Rattle.answer_laws.specs.Once.{Wrote}
 
 module _ {K : Type 0} (taken : K → List ℕ) (faults : K → ℕ) (m : Made) where

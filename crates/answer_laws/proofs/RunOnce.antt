@@ -23,13 +23,13 @@ use Rattle.emission_text.specs.Report.{form_of}
 use Rattle.emission_text.specs.declared.fault.Fault.{Fault}
 use Rattle.emission_text.specs.declared.fault.Fault.TheVariants.{FullShard}
 use Rattle.scotty_run.specs.Answer.{IsAnswer, IsReportOf, IsReportOfFiles, IsStopped, Says}
-use Rattle.scotty_run.specs.Causes.{StopsAtFiles, count_routed, stream_at}
+use Rattle.run_inputs.specs.Causes.{StopsAtFiles, count_routed, stream_at}
 use Rattle.scotty_run.specs.InMemory.{Tells}
-use Rattle.scotty_run.specs.Outside.{Opens, Telling, behind}
-use Rattle.scotty_run.specs.Statuses.{status_of}
-use Rattle.scotty_run.specs.Words.{Run}
-use Rattle.scotty_run.specs.declared.status.Status.{Status}
-use Rattle.scotty_run.specs.declared.status.Status.TheVariants.{Done, Usage, BadDefs, OpenFault, BadRow, ReadFault, Full, NoMemory, WriteFault, Unlawful}
+use Rattle.run_inputs.specs.Outside.{Opens, Telling, behind}
+use Rattle.run_inputs.specs.Statuses.{status_of}
+use Rattle.command_words.specs.Words.{Run}
+use Rattle.run_inputs.specs.declared.status.Status.{Status}
+use Rattle.run_inputs.specs.declared.status.Status.TheVariants.{Done, Usage, BadDefs, OpenFault, BadRow, ReadFault, Full, NoMemory, WriteFault, Unlawful}
 use Rattle.answer_laws.specs.Once.{AreWell, MayDiffer, Wrote}
 use Rattle.answer_laws.proofs.Causes.{AreToldAll, IsEarly, IsFullOf, IsTroubled, all_of_read, all_once, all_or_troubled, asked_by, defs_stop, definitions_once, early_once, early_or_read, sources_stop, trouble_once}
 use Rattle.answer_laws.proofs.Told.{asked_first, definitions_told, well_behind}

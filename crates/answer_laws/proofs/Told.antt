@@ -7,9 +7,9 @@ use Rattle.outside.specs.Outside.{Came, KeepsWord, Reads, back, refused}
 use Rattle.source_feed.specs.FeedView.{given_then}
 use Rattle.window_defs.specs.Reading.{reading_of}
 use Rattle.std.specs.Prelude.{Ok}
-use Rattle.scotty_run.specs.Causes.{AreDefinitionsRead, HasFailedRead, IsSourceRead, stream_at}
+use Rattle.run_inputs.specs.Causes.{AreDefinitionsRead, HasFailedRead, IsSourceRead, stream_at}
 use Rattle.scotty_run.specs.InMemory.{Tells}
-use Rattle.scotty_run.specs.Outside.{Asks, Opens, Telling, all_read, behind, came_at}
+use Rattle.run_inputs.specs.Outside.{Asks, Opens, Telling, all_read, behind, came_at}
 use Rattle.answer_laws.specs.Once.{AreWell, IsWell}
 
 some_same : {X : Type 0} {x y : X} → Some x ≡ Some y → x ≡ y

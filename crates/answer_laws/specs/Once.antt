@@ -4,10 +4,10 @@ use Rattle.outside.specs.Outside.{Came, KeepsWord, Reads, Rose, back}
 use Rattle.emission_text.specs.Faults.{fault_line}
 use Rattle.emission_text.specs.declared.fault.Fault.TheVariants.{FullShard}
 use Rattle.scotty_run.specs.Answer.{IsAnswer, IsCheckAnswer, IsMadeAnswer}
-use Rattle.scotty_run.specs.Outside.{Opens, Telling}
-use Rattle.scotty_run.specs.Words.{Check, Made, Run}
-use Rattle.scotty_run.specs.declared.status.Status.{Status}
-use Rattle.scotty_run.specs.declared.status.Status.TheVariants.{Done, NoMemory}
+use Rattle.run_inputs.specs.Outside.{Opens, Telling}
+use Rattle.command_words.specs.Words.{Check, Made, Run}
+use Rattle.run_inputs.specs.declared.status.Status.{Status}
+use Rattle.run_inputs.specs.declared.status.Status.TheVariants.{Done, NoMemory}
 
 -- the source of an open came back, from a file that tells its bytes; no read of it failed, and it gave how these begin, and all of them where its end was seen
 pub record IsWell (told : Option (List ℕ)) (came : Came) : Type 0 where

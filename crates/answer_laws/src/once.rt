@@ -1,8 +1,8 @@
 //! How often the same words may end in another way, over the same files.
 ghost use Rattle.std.specs.Prelude.{◌≡◌, ◌⊎◌, ℕ, List};
-ghost use Rattle.scotty_run.specs.Outside.{Telling};
-ghost use Rattle.scotty_run.specs.Words.{Check, Made, Run};
-ghost use Rattle.scotty_run.specs.declared.status.Status.{Status};
+ghost use Rattle.run_inputs.specs.Outside.{Telling};
+ghost use Rattle.command_words.specs.Words.{Check, Made, Run};
+ghost use Rattle.run_inputs.specs.declared.status.Status.{Status};
 ghost use Rattle.answer_laws.specs.Once.{CheckMayEnd, MadeMayEnd, MayDiffer, RunMayEnd};
 
 use model_laws::routes::journals_of_one_source_hold_its_routed_entries;

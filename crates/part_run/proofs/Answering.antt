@@ -4,8 +4,8 @@ use Rattle.window_defs.specs.declared.defs_fault.DefsFault.TheVariants.{Long, To
 use Rattle.window_defs.specs.declared.defs_fault.DefsFault.TheVariants.{NoMemory as NoRoom}
 use Rattle.emission_text.specs.Sending.{Appends, Fails}
 use Rattle.emission_text.specs.declared.fault.Fault.TheVariants.{Usage, Defs, Unopened, Row, Read, FullSource, FullShard, ReportOpen, ReportRead, ReportFull, NoMemory}
-use Rattle.scotty_run.specs.declared.status.Status.{Status}
-use Rattle.scotty_run.specs.declared.status.Status.TheVariants as status
+use Rattle.run_inputs.specs.declared.status.Status.{Status}
+use Rattle.run_inputs.specs.declared.status.Status.TheVariants as status
 use Rattle.part_run.specs.Answer.{IsAnswer, IsStopped}
 use Rattle.part_run.specs.Faults.{SaysPart, part_status}
 use Rattle.part_run.specs.declared.part_fault.PartFault.{PartFault}

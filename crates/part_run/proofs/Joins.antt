@@ -10,7 +10,7 @@ use Rattle.report_join.specs.declared.join_why.JoinWhy.{JoinWhy}
 use Rattle.report_join.specs.declared.join_why.JoinWhy.TheVariants.{Shape, Entry}
 use Rattle.emission_text.specs.declared.fault.Fault.{Fault}
 use Rattle.emission_text.specs.declared.fault.Fault.TheVariants.{Usage, NoMemory}
-use Rattle.scotty_run.specs.Outside.{Opens}
+use Rattle.run_inputs.specs.Outside.{Opens}
 use Rattle.part_run.specs.Joining.{AreShardReports, AreTexts, IsFirstWrong, IsFormOf, IsJoinOf, IsJoinOfFiles, IsWrongAt, StopsAtReports, StopsAtTexts, StopsJoin, WrongAt, report_fault}
 use Rattle.part_run.specs.declared.part_fault.PartFault.{PartFault}
 use Rattle.part_run.specs.declared.part_fault.PartFault.TheVariants.{Run, LongPart, UnreadDefs, NotReport, Misplaced}

@@ -6,9 +6,9 @@ use Rattle.stream_base.specs.Limits.{Definitions}
 use Rattle.source_feed.specs.FeedView.{FeedView}
 use Rattle.source_feed.specs.declared.whole.TheConstants.{SOURCE_MAX}
 use Rattle.emission_text.specs.declared.fault.Fault.TheVariants.{Usage}
-use Rattle.scotty_run.specs.Causes.{AreDefinitionsRead, StopsAtDefs}
-use Rattle.scotty_run.specs.Outside.{Opens}
-use Rattle.scotty_run.specs.Reading.{IsFresh, IsSameFeed}
+use Rattle.run_inputs.specs.Causes.{AreDefinitionsRead, StopsAtDefs}
+use Rattle.run_inputs.specs.Outside.{Opens}
+use Rattle.run_inputs.specs.Reading.{IsFresh, IsSameFeed}
 use Rattle.part_text.specs.Parting.{IsNew, IsSameSource}
 use Rattle.part_run.specs.Parting.{AreDefsOfFile, HoldsPartOfFiles, IsPartOfFiles, IsShortPart, SpellsParts, StopsAtPart, StopsDefs, StopsPart, StopsSpelling}
 use Rattle.part_run.specs.declared.part_fault.PartFault.{PartFault}

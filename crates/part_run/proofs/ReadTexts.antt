@@ -10,12 +10,12 @@ use Rattle.source_feed.specs.declared.whole_fault.WholeFault.{WholeFault}
 use Rattle.source_feed.specs.declared.whole_fault.WholeFault.TheVariants.{Read as WholeRead, TooLong as WholeTooLong, NoMemory as WholeMemory}
 use Rattle.emission_text.specs.declared.fault.Fault.{Fault}
 use Rattle.emission_text.specs.declared.fault.Fault.TheVariants as stop
-use Rattle.scotty_run.specs.Causes.{HasFailedRead}
-use Rattle.scotty_run.specs.Judging.{IsReportRead}
-use Rattle.scotty_run.specs.Outside.{AreOver, Asks, CameBack, IsOver, Opens, OpensInOrder, Telling, WasReadWhole, all_read, came_at, opens_of}
-use Rattle.scotty_run.proofs.Opened.{more_in_order}
-use Rattle.scotty_run.proofs.Results.{if_ok}
-use Rattle.scotty_run.proofs.WholeFiles.{IsReadSo, report_read}
+use Rattle.run_inputs.specs.Causes.{HasFailedRead}
+use Rattle.run_inputs.specs.Judging.{IsReportRead}
+use Rattle.run_inputs.specs.Outside.{AreOver, Asks, CameBack, IsOver, Opens, OpensInOrder, Telling, WasReadWhole, all_read, came_at, opens_of}
+use Rattle.run_inputs.proofs.Opened.{more_in_order}
+use Rattle.run_inputs.proofs.Results.{if_ok}
+use Rattle.run_inputs.proofs.WholeFiles.{IsReadSo, report_read}
 use Rattle.part_run.specs.Joining.{AreTexts, IsStuckAt, IsTextRead, StopsAtReports, StopsAtText, text_fault}
 
 -- ---- one report

@@ -2,7 +2,7 @@
 use Rattle.std.proofs.Common.{◌≡◌, ◌∙◌, ◌-◌, ◌≤◌, ◌^◌, ◌<◌, ℕ, List, [], ◌∷◌, All, get_or, length, map, drop, ap, sym, subst, arith, codes}
 use Rattle.std.specs.Prelude.{◌⊎◌, IfNone, decimal, None, Some}
 use Rattle.std.specs.declared.option.Option.{Option}
-use Rattle.scotty_run.specs.Words.{IsName, IsNumberWithin}
+use Rattle.command_words.specs.Words.{IsName, IsNumberWithin}
 use Rattle.std.proofs.lemmas.Fmt.{decimal_injective}
 use Rattle.part_run.specs.Words.{IsDefs, IsDefsOf, IsJoin, IsJoinOf, IsPart, IsPartOf, Part}
 

@@ -2,8 +2,8 @@
 use Rattle.std.specs.Prelude.{◌≡◌, ℕ, List}
 use Rattle.emission_text.specs.Sending.{Appends, Fails}
 use Rattle.emission_text.specs.declared.fault.Fault.TheVariants as stop
-use Rattle.scotty_run.specs.declared.status.Status.{Status}
-use Rattle.scotty_run.specs.declared.status.Status.TheVariants.{Done, Usage, BadDefs, OpenFault, BadRow, ReadFault, Full, NoMemory, WriteFault, Unlawful}
+use Rattle.run_inputs.specs.declared.status.Status.{Status}
+use Rattle.run_inputs.specs.declared.status.Status.TheVariants.{Done, Usage, BadDefs, OpenFault, BadRow, ReadFault, Full, NoMemory, WriteFault, Unlawful}
 use Rattle.part_run.specs.Faults.{SaysPart, part_status}
 use Rattle.part_run.specs.declared.part_fault.PartFault.{PartFault}
 use Rattle.part_run.specs.declared.part_fault.PartFault.TheVariants.{Run}

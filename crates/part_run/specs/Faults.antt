@@ -3,9 +3,9 @@ use Rattle.std.specs.Prelude.{◌⊎◌, ℕ, List, [], ◌∷◌, codes, decima
 use Rattle.stream_base.specs.Model.Text.{line_of}
 use Rattle.emission_text.specs.Faults.{fault_line}
 use Rattle.emission_text.specs.Sending.{Appends, Fails}
-use Rattle.scotty_run.specs.Statuses.{status_of}
-use Rattle.scotty_run.specs.declared.status.Status.{Status}
-use Rattle.scotty_run.specs.declared.status.Status.TheVariants.{BadDefs, Full, Unlawful}
+use Rattle.run_inputs.specs.Statuses.{status_of}
+use Rattle.run_inputs.specs.declared.status.Status.{Status}
+use Rattle.run_inputs.specs.declared.status.Status.TheVariants.{BadDefs, Full, Unlawful}
 use Rattle.part_run.specs.declared.part_fault.PartFault.{PartFault}
 use Rattle.part_run.specs.declared.part_fault.PartFault.TheVariants.{Run, LongPart, UnreadDefs, NotReport, Misplaced}
 

@@ -8,8 +8,8 @@ use Rattle.report_join.specs.declared.join_why.JoinWhy.{JoinWhy}
 use Rattle.report_join.specs.declared.join_why.JoinWhy.TheVariants.{Shape, Entry}
 use Rattle.emission_text.specs.declared.fault.Fault.{Fault}
 use Rattle.emission_text.specs.declared.fault.Fault.TheVariants as stop
-use Rattle.scotty_run.specs.Causes.{HasFailedRead}
-use Rattle.scotty_run.specs.Outside.{Asks, CameBack, Opens, WasReadWhole, came_at}
+use Rattle.run_inputs.specs.Causes.{HasFailedRead}
+use Rattle.run_inputs.specs.Outside.{Asks, CameBack, Opens, WasReadWhole, came_at}
 use Rattle.source_feed.specs.declared.whole_fault.WholeFault.{WholeFault}
 use Rattle.source_feed.specs.declared.whole_fault.WholeFault.TheVariants.{Read as WholeRead, TooLong as WholeTooLong, NoMemory as WholeMemory}
 use Rattle.part_run.specs.declared.part_fault.PartFault.{PartFault}

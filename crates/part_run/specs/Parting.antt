@@ -10,8 +10,8 @@ use Rattle.part_text.specs.DefinitionsText.{definitions_text}
 use Rattle.part_text.specs.Holding.{IsHeld}
 use Rattle.emission_text.specs.declared.fault.Fault.{Fault}
 use Rattle.emission_text.specs.declared.fault.Fault.TheVariants.{NoMemory}
-use Rattle.scotty_run.specs.Causes.{AreAllRead, AreDefinitionsRead, StopsAtDefs, StopsAtSources}
-use Rattle.scotty_run.specs.Outside.{Opens, behind}
+use Rattle.run_inputs.specs.Causes.{AreAllRead, AreDefinitionsRead, StopsAtDefs, StopsAtSources}
+use Rattle.run_inputs.specs.Outside.{Opens, behind}
 use Rattle.part_run.specs.Words.{Part}
 use Rattle.part_run.specs.declared.part_fault.PartFault.{PartFault}
 use Rattle.part_run.specs.declared.part_fault.PartFault.TheVariants.{Run, LongPart, UnreadDefs, NotReport, Misplaced}

@@ -1,6 +1,6 @@
 -- The words of the command line.
 use Rattle.std.specs.Prelude.{◌≡◌, ◌≤◌, ◌<◌, ◌⊎◌, ℕ, List, [], ◌∷◌, length, All, codes, decimal}
-use Rattle.scotty_run.specs.Words.{IsName}
+use Rattle.command_words.specs.Words.{IsName}
 
 -- a part: the name of the definitions, how many shards, the number of one, and the name of the source, alone in its list
 pub record Part : Type 0 where

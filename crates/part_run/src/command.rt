@@ -1,7 +1,7 @@
 //! The top call.
 ghost use Rattle.std.specs.Prelude.{◌≡◌, ◌↔◌, ◌∷◌, [], ℕ, List, map, string_bytes};
 ghost use Rattle.emission_text.specs.declared.fault.Fault.TheVariants.{Usage as UsageFault};
-ghost use Rattle.scotty_run.specs.Outside.{OpensInOrder, opens_of};
+ghost use Rattle.run_inputs.specs.Outside.{OpensInOrder, opens_of};
 ghost use Rattle.part_run.specs.Answer.{IsAnswer};
 ghost use Rattle.part_run.specs.Faults.{SaysPart};
 ghost use Rattle.part_run.specs.Joining.{IsJoinOfFiles, StopsJoin};
@@ -16,7 +16,7 @@ use crate::printing::print_fault;
 use crate::words::{defs_of, join_of, part_of};
 use emission_text::Fault;
 use outside::{Files, Sink};
-use scotty_run::Status;
+use run_inputs::Status;
 use std::alloc::Global;
 
 /// Runs the command that the words say, over any files and any sink: writes the part of a source for

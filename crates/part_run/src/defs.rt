@@ -1,6 +1,6 @@
 //! The definitions of parts.
 ghost use Rattle.std.specs.Prelude.{◌∷◌, [], IfOk, IfErr};
-ghost use Rattle.scotty_run.specs.Outside.{OpensInOrder, opens_of};
+ghost use Rattle.run_inputs.specs.Outside.{OpensInOrder, opens_of};
 ghost use Rattle.part_run.specs.Answer.{IsAnswer};
 ghost use Rattle.part_run.specs.Parting.{AreDefsOfFile, SpellsParts, StopsDefs, StopsSpelling};
 
@@ -9,7 +9,7 @@ use crate::printing::{print_fault, print_text};
 use emission_text::Fault;
 use outside::{Files, Sink};
 use part_text::{DefsTextFault, part_defs_bytes};
-use scotty_run::{Status, read_definitions};
+use run_inputs::{Status, read_definitions};
 use std::alloc::Global;
 use stream_base::Defs;
 

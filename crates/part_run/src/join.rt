@@ -4,7 +4,7 @@ ghost use Rattle.part_laws.specs.Joined.{body_of, header_line, joined, shards_fr
 ghost use Rattle.report_check.specs.Findings.{lists_of};
 ghost use Rattle.report_join.specs.ShardReports.{IsJudged, form_told};
 ghost use Rattle.emission_text.specs.Sending.{Appends, Fails, Puts, Writes};
-ghost use Rattle.scotty_run.specs.Outside.{OpensInOrder, opens_of};
+ghost use Rattle.run_inputs.specs.Outside.{OpensInOrder, opens_of};
 ghost use Rattle.part_run.specs.Answer.{IsAnswer};
 ghost use Rattle.part_run.specs.Joining.{AreShardReports, IsFormOf, IsJoinOf, IsJoinOfFiles, IsWrongAt, StopsAtTexts, StopsJoin, WrongAt, report_fault};
 
@@ -14,7 +14,7 @@ use crate::reports::read_reports;
 use emission_text::{Fault, Pending, SinkFault, put_numbered, put_pieces};
 use outside::{Files, Sink};
 use report_join::{JoinWhy, body_of, is_second_form, judge_shard_report};
-use scotty_run::Status;
+use run_inputs::Status;
 use std::alloc::Global;
 
 /// Writes the report of all shards, of which the files of these names hold one each, in the order of

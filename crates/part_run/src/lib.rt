@@ -1,8 +1,8 @@
 //! The commands of the program that parts sources and joins reports, over any files and any sink.
 //!
 //! *From* the words of the command line *to* a status. *Stands on* `part_text` and `report_join` for
-//! parts and reports, and on `scotty_run` for words, files and statuses. *Promise*: the contract of
-//! `scotty_part`, the call that the program makes.
+//! parts and reports, on `command_words` for words, and on `run_inputs` for files and statuses.
+//! *Promise*: the contract of `scotty_part`, the call that the program makes.
 #![tactic(auto)]
 
 mod command;

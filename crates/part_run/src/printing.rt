@@ -8,7 +8,7 @@ use byte_pieces::Pieces;
 use emission_text::{Pending, SinkFault, put_numbered, put_pieces, write_fault};
 use itoa::Buffer;
 use outside::Sink;
-use scotty_run::{Status, status_of};
+use run_inputs::{Status, status_of};
 
 /// Writes a text.
 pub fn print_text<K: Sink>(text: &[u8], sink: &mut K) -> Status

@@ -1,6 +1,6 @@
 //! The reports that are joined are read, one after another.
 ghost use Rattle.std.specs.Prelude.{◌≡◌, ◌≤◌, length, map, string_bytes, Ok, Err, IfOk, IfErr};
-ghost use Rattle.scotty_run.specs.Outside.{Ends, ReadsFile};
+ghost use Rattle.run_inputs.specs.Outside.{Ends, ReadsFile};
 ghost use Rattle.report_check.specs.Findings.{lists_of};
 ghost use Rattle.source_feed.specs.declared.whole_fault.WholeFault.{WholeFault};
 ghost use Rattle.part_run.specs.Joining.{AreTexts, IsTextRead, StopsAtReports, StopsAtText, text_fault};

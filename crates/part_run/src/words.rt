@@ -2,7 +2,7 @@
 ghost use Rattle.std.specs.Prelude.{◌≡◌, ◌≤◌, ◌↔◌, ◌⊎◌, ℕ, List, map, decimal, length, string_bytes, All, IsTrue, IfSome, IfNone};
 ghost use Rattle.part_run.specs.Words.{IsDefs, IsDefsOf, IsJoin, IsJoinOf, IsPart, IsPartOf, Part};
 
-use scotty_run::{are_names, is_name, number_within, says};
+use command_words::{are_names, is_name, number_within, says};
 use std::marker::Model;
 
 /// A part: the name of the definitions, how many shards there are, the number of one, and the name of

@@ -1,6 +1,6 @@
 use outside::{MemFile, MemFiles, MemSink};
 use part_run::scotty_part;
-use scotty_run::Status;
+use run_inputs::Status;
 use std::alloc::{AllocError, Global};
 use std::process::Abort;
 use std::test::Fail;

@@ -1,6 +1,6 @@
 use crate::cases::{Case, file, hold, run};
 use outside::MemSink;
-use scotty_run::Status;
+use run_inputs::Status;
 use std::test::Fail;
 
 const DEFS: &str =

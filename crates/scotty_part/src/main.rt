@@ -5,7 +5,7 @@
 #![tactic(auto)]
 
 use part_run::scotty_part;
-use scotty_run::Status;
+use run_inputs::Status;
 use std::env;
 use std::io::ErrorKind;
 use std::process::ExitCode;

@@ -17,9 +17,9 @@ use Rattle.emission_text.specs.declared.report_form.ReportForm.{ReportForm}
 use Rattle.emission_text.specs.declared.report_form.ReportForm.TheVariants.{One, Two}
 use Rattle.emission_text.proofs.Reports.{report_text-alike}
 use Rattle.scotty_run.specs.Answer.{IsReportOfFiles}
-use Rattle.scotty_run.specs.Causes.{AreShardsOfFiles, count_routed}
-use Rattle.scotty_run.specs.Outside.{Opens}
-use Rattle.scotty_run.specs.Words.{Run}
+use Rattle.run_inputs.specs.Causes.{AreShardsOfFiles, count_routed}
+use Rattle.run_inputs.specs.Outside.{Opens}
+use Rattle.command_words.specs.Words.{Run}
 use Rattle.scotty_run.proofs.Counting.{sum_within}
 
 -- ---- the report

@@ -21,11 +21,11 @@ use Rattle.emission_text.proofs.Reports.{report_text-alike}
 use Rattle.emission_text.specs.declared.fault.Fault.{Fault}
 use Rattle.emission_text.specs.declared.fault.Fault.TheVariants.{Usage, Defs, Unopened, Row, Read, FullSource, FullShard, ReportOpen, ReportRead, ReportFull, NoMemory}
 use Rattle.scotty_run.specs.Answer.{IsTextOfFiles}
-use Rattle.scotty_run.specs.Causes.{AreAllRead, IsOverfull, StopsAtSources, count_routed}
-use Rattle.scotty_run.specs.Jobs.{job_of_watch}
-use Rattle.scotty_run.specs.Outside.{Opens}
+use Rattle.run_inputs.specs.Causes.{AreAllRead, IsOverfull, StopsAtSources, count_routed}
+use Rattle.command_words.specs.Jobs.{job_of_watch}
+use Rattle.run_inputs.specs.Outside.{Opens}
 use Rattle.scotty_run.specs.Watching.{IsBoardOf, IsFullBoard, IsWatchedOfFiles, watched_text}
-use Rattle.scotty_run.specs.Words.{Watch}
+use Rattle.command_words.specs.Words.{Watch}
 
 -- ---- one shard gets all entries
 all_go : (what : What) → goes_to 1 0 what ≡ true

@@ -10,12 +10,12 @@ use Rattle.emission_text.specs.Sending.{Appends, Fails}
 use Rattle.emission_text.specs.declared.fault.Fault.{Fault}
 use Rattle.emission_text.specs.declared.fault.Fault.TheVariants.{Usage, Defs, Unopened, Row, Read, FullSource, FullShard, ReportOpen, ReportRead, ReportFull, NoMemory}
 use Rattle.scotty_run.specs.Answer.{IsCheckAnswer, IsStopped, Says}
-use Rattle.scotty_run.specs.Judging.{IsFindingOfFiles, StopsAtCheck, StopsBehindDefs}
-use Rattle.scotty_run.specs.Outside.{Opens, behind}
-use Rattle.scotty_run.specs.Statuses.{finding_status, status_of}
-use Rattle.scotty_run.specs.Words.{Check}
-use Rattle.scotty_run.specs.declared.status.Status.{Status}
-use Rattle.scotty_run.specs.declared.status.Status.TheVariants as status
+use Rattle.run_inputs.specs.Judging.{IsFindingOfFiles, StopsAtCheck, StopsBehindDefs}
+use Rattle.run_inputs.specs.Outside.{Opens, behind}
+use Rattle.run_inputs.specs.Statuses.{finding_status, status_of}
+use Rattle.command_words.specs.Words.{Check}
+use Rattle.run_inputs.specs.declared.status.Status.{Status}
+use Rattle.run_inputs.specs.declared.status.Status.TheVariants as status
 
 no_usage_behind : (c : Check) (d : Definitions) (opens : Opens) → StopsBehindDefs c d opens Usage → ⊥
 no_usage_behind c d opens (inl h) = h

@@ -16,13 +16,13 @@ use Rattle.fan_in.specs.declared.gathered.FeedEnd.{FeedEnd}
 use Rattle.fan_in.specs.declared.outcome.Outcome.{Outcome}
 use Rattle.fan_in.specs.declared.outcome.Outcome.TheVariants.{Done, Fault, Full}
 use Rattle.fan_in.specs.Gathering.{AreFreshFeeds, AreGathered, Bears, HoldsPart, IsBack, IsFault, NamesOneOf}
-use Rattle.scotty_run.specs.Opening.{AreUnread, IsUnread}
-use Rattle.scotty_run.specs.Outside.{Asks, Opens, Telling, came_at}
-use Rattle.scotty_run.specs.Words.{AreFew}
+use Rattle.run_inputs.specs.Opening.{AreUnread, IsUnread}
+use Rattle.run_inputs.specs.Outside.{Asks, Opens, Telling, came_at}
+use Rattle.command_words.specs.Words.{AreFew}
 use Rattle.scotty_run.proofs.Gathers.{IsGathering, Shows}
-use Rattle.scotty_run.proofs.Opened.{some_of}
-use Rattle.scotty_run.proofs.SameFeed.{faults_before, place_stays, seen_as, word_stays}
-use Rattle.scotty_run.proofs.Shown.{shows_fault, shows_whole}
+use Rattle.run_inputs.proofs.Opened.{some_of}
+use Rattle.run_inputs.proofs.SameFeed.{faults_before, place_stays, seen_as, word_stays}
+use Rattle.run_inputs.proofs.Shown.{shows_fault, shows_whole}
 
 -- the feeds of a run weren't read yet
 pub fresh_feeds : {S : Type 0} (reads : S → Reads) (word : S → Option (List ℕ)) (base : ℕ) (told : Telling) (names : List (List ℕ)) (d : Definitions) (feeds : List (FileFeedState S)) (n : ℕ) → length feeds ≡ n → AreUnread reads word base told names d feeds → AreFreshFeeds (feed_view reads word) n feeds

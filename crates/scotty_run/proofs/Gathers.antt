@@ -13,11 +13,12 @@ use Rattle.fan_in.specs.declared.outcome.Outcome.{Outcome}
 use Rattle.fan_in.specs.declared.outcome.Outcome.TheVariants.{Done, Full}
 use Rattle.fan_in.specs.declared.outcome.Outcome.TheVariants.{Fault as Failed}
 use Rattle.fan_in.specs.Gathering.{HoldsPart, IsFault, IsGathered, NamesOneOf}
-use Rattle.scotty_run.specs.Causes.{AreAllRead, AreShardsOf, IsOverfull, IsSourceRead, StopsAtSources, count_routed}
-use Rattle.scotty_run.specs.Outside.{Asks, Opens}
-use Rattle.scotty_run.specs.Settling.{IsTrouble, fault_of}
+use Rattle.run_inputs.specs.Causes.{AreAllRead, AreShardsOf, IsOverfull, IsSourceRead, StopsAtSources, count_routed}
+use Rattle.run_inputs.specs.Outside.{Asks, Opens}
+use Rattle.run_inputs.specs.Reading.{fault_of}
+use Rattle.scotty_run.specs.Settling.{IsTrouble}
 use Rattle.scotty_run.proofs.Counting.{sum_beyond}
-use Rattle.scotty_run.proofs.Shown.{ShowsFault}
+use Rattle.run_inputs.proofs.Shown.{ShowsFault}
 
 -- what the outcome of a source shows of it
 abbrev pub Shows : Definitions → Opens → ℕ → List Entry → Outcome → Type 0

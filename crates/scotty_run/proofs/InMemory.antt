@@ -5,8 +5,8 @@ use Rattle.std.proofs.lemmas.List.{get_or-append-add}
 use Rattle.outside.specs.Outside.{Came, KeepsWord, back}
 use Rattle.scotty_run.specs.Answer.{IsReportOfFiles}
 use Rattle.scotty_run.specs.InMemory.{AllTell, IsReportOfTold, Tells}
-use Rattle.scotty_run.specs.Outside.{AreOver, IsOver, Opens, Telling, all_read}
-use Rattle.scotty_run.specs.Words.{Run}
+use Rattle.run_inputs.specs.Outside.{AreOver, IsOver, Opens, Telling, all_read}
+use Rattle.command_words.specs.Words.{Run}
 
 -- what was read up to its end is what is told
 word_is_all : (place : ℕ) (given bytes : List ℕ) → KeepsWord (all_read place given) bytes → bytes ≡ given

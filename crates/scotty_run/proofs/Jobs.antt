@@ -8,12 +8,12 @@ use Rattle.emission_text.specs.Sending.{Appends, Fails}
 use Rattle.emission_text.specs.declared.fault.Fault.{Fault}
 use Rattle.emission_text.specs.declared.fault.Fault.TheVariants.{Usage, Defs, Unopened, Row, Read, FullSource, FullShard, ReportOpen, ReportRead, ReportFull, NoMemory}
 use Rattle.scotty_run.specs.Answer.{IsJobAnswer, IsStopped, IsTextOfFiles, Says}
-use Rattle.scotty_run.specs.Causes.{StopsAtJob, StopsAtOrigin}
-use Rattle.scotty_run.specs.Jobs.{DefsOrigin, Job, of_file, of_words}
-use Rattle.scotty_run.specs.Outside.{Opens}
-use Rattle.scotty_run.specs.Statuses.{status_of}
-use Rattle.scotty_run.specs.declared.status.Status.{Status}
-use Rattle.scotty_run.specs.declared.status.Status.TheVariants as status
+use Rattle.run_inputs.specs.Causes.{StopsAtJob, StopsAtOrigin}
+use Rattle.command_words.specs.Jobs.{DefsOrigin, Job, of_file, of_words}
+use Rattle.run_inputs.specs.Outside.{Opens}
+use Rattle.run_inputs.specs.Statuses.{status_of}
+use Rattle.run_inputs.specs.declared.status.Status.{Status}
+use Rattle.run_inputs.specs.declared.status.Status.TheVariants as status
 
 no_usage_at : (defs : DefsOrigin) (opens : Opens) → StopsAtOrigin defs opens Usage → ⊥
 no_usage_at (of_file name) opens h = h

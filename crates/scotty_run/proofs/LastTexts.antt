@@ -13,9 +13,9 @@ use Rattle.tail_text.proofs.TextFacts.{tails_text-is_report}
 use Rattle.tail_text.proofs.TailLines.{journals_of-tail_report_of}
 use Rattle.scotty_run.specs.Answer.{IsTextOfFiles}
 use Rattle.outside.specs.Outside.{Came}
-use Rattle.scotty_run.specs.Causes.{AreAllRead, AreShardsOf, StopsAtSources}
-use Rattle.scotty_run.specs.LastWords.{LastRun, job_of_last, last_definitions}
-use Rattle.scotty_run.specs.Outside.{Opens, OpensInOrder, Telling, behind}
+use Rattle.run_inputs.specs.Causes.{AreAllRead, AreShardsOf, StopsAtSources}
+use Rattle.command_words.specs.LastWords.{LastRun, job_of_last, last_definitions}
+use Rattle.run_inputs.specs.Outside.{Opens, OpensInOrder, Telling, behind}
 use Rattle.scotty_run.specs.Tailing.{AreOfSources, AreShardsOfLast, AreTailsOf, IsTailReportOf, StopsAtLast}
 use Rattle.scotty_run.proofs.Answering.{few_routed, within}
 

@@ -19,8 +19,8 @@ use Rattle.fan_in.specs.declared.outcome.Outcome.TheVariants.{Done}
 use Rattle.fan_in.specs.Gathering.{AreFreshFeeds, AreGathered, Bears, IsFault}
 use Rattle.final_rows.specs.AtEnd.{rows_of_shards}
 use Rattle.scotty_run.specs.Making.{AreMadeFeeds, AreMadeShards, AreOfDefinitions, made_feed}
-use Rattle.scotty_run.specs.Words.{IsWithinLimits, Made}
-use Rattle.scotty_run.proofs.Opened.{some_of}
+use Rattle.command_words.specs.Words.{IsWithinLimits, Made}
+use Rattle.run_inputs.proofs.Opened.{some_of}
 
 abbrev Feed : Type 0
 Feed = FeedView

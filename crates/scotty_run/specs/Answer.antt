@@ -15,14 +15,14 @@ use Rattle.emission_text.specs.Report.{form_of}
 use Rattle.emission_text.specs.Sending.{Appends, Fails}
 use Rattle.emission_text.specs.declared.fault.Fault.{Fault}
 use Rattle.emission_text.specs.declared.fault.Fault.TheVariants as stop
-use Rattle.scotty_run.specs.Causes.{AreAllRead, AreDefinitionsOf, StopsAtJob, count_routed}
-use Rattle.scotty_run.specs.Jobs.{Job, files_of_defs, job_of_run}
-use Rattle.scotty_run.specs.Judging.{IsFindingOfFiles, StopsAtCheck}
-use Rattle.scotty_run.specs.Outside.{Opens, behind}
-use Rattle.scotty_run.specs.Statuses.{finding_status, status_of}
-use Rattle.scotty_run.specs.Words.{Check, Made, Run}
-use Rattle.scotty_run.specs.declared.status.Status.{Status}
-use Rattle.scotty_run.specs.declared.status.Status.TheVariants.{Done, Usage, BadDefs, OpenFault, BadRow, ReadFault, Full, NoMemory, WriteFault, Unlawful}
+use Rattle.run_inputs.specs.Causes.{AreAllRead, AreDefinitionsOf, StopsAtJob, count_routed}
+use Rattle.command_words.specs.Jobs.{Job, files_of_defs, job_of_run}
+use Rattle.run_inputs.specs.Judging.{IsFindingOfFiles, StopsAtCheck}
+use Rattle.run_inputs.specs.Outside.{Opens, behind}
+use Rattle.run_inputs.specs.Statuses.{finding_status, status_of}
+use Rattle.command_words.specs.Words.{Check, Made, Run}
+use Rattle.run_inputs.specs.declared.status.Status.{Status}
+use Rattle.run_inputs.specs.declared.status.Status.TheVariants.{Done, Usage, BadDefs, OpenFault, BadRow, ReadFault, Full, NoMemory, WriteFault, Unlawful}
 
 -- the text is the report of the journals that stand in it, and these hold each source's entries where they belong, once each and in the source's order
 pub record IsReportOf (run : Run) (d : Definitions) (sources : List (List Entry)) (text : List ℕ) : Type 0 where

@@ -5,9 +5,9 @@ use Rattle.stream_base.specs.declared.entry.Entry.{Entry}
 use Rattle.source_feed.specs.FeedView.{given_then}
 use Rattle.window_defs.specs.Reading.{reading_of}
 use Rattle.scotty_run.specs.Answer.{IsReportOf}
-use Rattle.scotty_run.specs.Causes.{stream_at}
-use Rattle.scotty_run.specs.Outside.{Telling}
-use Rattle.scotty_run.specs.Words.{Run}
+use Rattle.run_inputs.specs.Causes.{stream_at}
+use Rattle.run_inputs.specs.Outside.{Telling}
+use Rattle.command_words.specs.Words.{Run}
 
 -- the file of this name tells these bytes, and this holds of them
 abbrev pub Tells : Telling → List ℕ → (List ℕ → Type 0) → Type 0

@@ -1,16 +1,6 @@
-pub mod Words
-pub mod Jobs
-pub mod Outside
-pub mod Opening
-pub mod Statuses
-pub mod Causes
 pub mod Settling
 pub mod Answer
-pub mod Reading
-pub mod Judging
 pub mod Making
 pub mod InMemory
 pub mod Watching
-pub mod LastWords
-pub mod Commands
 pub mod Tailing

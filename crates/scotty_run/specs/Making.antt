@@ -5,7 +5,7 @@ use Rattle.shard_core.specs.Shard.{Sharded}
 use Rattle.source_feed.specs.FeedView.{FeedView}
 use Rattle.source_feed.specs.Generated.{made_definitions, made_sources, made_stream}
 use Rattle.source_feed.specs.MadeView.{no_origin}
-use Rattle.scotty_run.specs.Words.{IsWithinLimits, Made}
+use Rattle.command_words.specs.Words.{IsWithinLimits, Made}
 
 -- the feed of a generated source that wasn't read yet
 abbrev pub made_feed : ℕ → ℕ → ℕ → ℕ → FeedView

@@ -1,19 +1,12 @@
 -- What a run makes of what became of its sources.
 use Rattle.std.specs.Prelude.{◌≡◌, ◌≤◌, ◌<◌, ◌⊎◌, ℕ, List, length, min, All, Contains, Option, Some, None, slice_index_or}
 use Rattle.source_feed.specs.declared.feed_fault.FeedFault.{FeedFault}
-use Rattle.source_feed.specs.declared.feed_fault.FeedFault.TheVariants.{Read as FeedRead, TooLong as FeedTooLong, Row as FeedRow, NoMemory as FeedMemory}
 use Rattle.emission_text.specs.declared.fault.Fault.{Fault}
-use Rattle.emission_text.specs.declared.fault.Fault.TheVariants.{Row, Read, FullSource, FullShard, NoMemory}
+use Rattle.emission_text.specs.declared.fault.Fault.TheVariants.{FullShard}
 use Rattle.fan_in.specs.declared.outcome.Outcome.{Outcome}
 use Rattle.fan_in.specs.declared.outcome.Outcome.TheVariants as outcome
 use Rattle.fan_in.specs.Gathering.{IsFault}
-
--- the fault of a run for that of the feed of this source
-abbrev pub fault_of : ℕ → FeedFault → Fault
-fault_of source FeedRead = Read (Some source)
-fault_of source FeedTooLong = FullSource source
-fault_of source (FeedRow number why) = Row source number why
-fault_of source FeedMemory = NoMemory
+use Rattle.run_inputs.specs.Reading.{fault_of}
 
 -- the fault is that of the first source whose outcome is one
 pub record IsFirstFault (outcomes : List Outcome) (fault : Fault) : Type 0 where

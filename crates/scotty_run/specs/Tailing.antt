@@ -9,10 +9,10 @@ use Rattle.tail_windows.specs.Report.{tail_report_of}
 use Rattle.tail_text.specs.Texts.{ByPosition, in_vectors, tail_changes_in, tails_text}
 use Rattle.emission_text.specs.declared.fault.Fault.{Fault}
 use Rattle.scotty_run.specs.Answer.{IsJobAnswer}
-use Rattle.scotty_run.specs.Causes.{AreShardsOf, StopsAtJob}
-use Rattle.scotty_run.specs.LastWords.{LastRun, job_of_last, last_definitions}
-use Rattle.scotty_run.specs.Outside.{Opens}
-use Rattle.scotty_run.specs.declared.status.Status.{Status}
+use Rattle.run_inputs.specs.Causes.{AreShardsOf, StopsAtJob}
+use Rattle.command_words.specs.LastWords.{LastRun, job_of_last, last_definitions}
+use Rattle.run_inputs.specs.Outside.{Opens}
+use Rattle.run_inputs.specs.declared.status.Status.{Status}
 use Rattle.scotty_run.specs.declared.tailed.Tailed.{Tailed}
 
 -- the text is the report of tails of the journals that stand in it, and these hold each source's entries where they belong, once each and in the source's order

@@ -5,23 +5,19 @@ use Rattle.stream_base.specs.declared.entry.Entry.{Entry}
 use Rattle.stream_base.specs.declared.limits.TheConstants.{JOURNAL_MAX}
 use Rattle.stream_base.specs.Model.Text.{report_1, report_of}
 use Rattle.live_board.specs.Tallies.{turns}
-use Rattle.live_board.specs.Watched.{AreEntriesOf, AreReadsOf, IsWatched, entries_in}
+use Rattle.live_board.specs.Watched.{AreReadsOf, IsWatched, entries_in}
 use Rattle.live_board.specs.declared.tally.Tally.{Tally}
 use Rattle.live_board.specs.declared.watched.Watched.{Watched}
 use Rattle.board_text.specs.Reads.{reads_text}
 use Rattle.scotty_run.specs.Answer.{IsJobAnswer}
-use Rattle.scotty_run.specs.Causes.{AreAllRead, AreDefinitionsRead, StopsAtJob}
-use Rattle.scotty_run.specs.Jobs.{job_of_watch}
-use Rattle.scotty_run.specs.Outside.{Opens, behind}
-use Rattle.scotty_run.specs.Words.{Watch}
-use Rattle.scotty_run.specs.declared.status.Status.{Status}
+use Rattle.run_inputs.specs.Causes.{AreAllRead, AreDefinitionsRead, StopsAtJob}
+use Rattle.command_words.specs.Jobs.{job_of_watch}
+use Rattle.run_inputs.specs.Outside.{Opens, behind}
+use Rattle.command_words.specs.Words.{Watch}
+use Rattle.run_inputs.specs.declared.status.Status.{Status}
 use Rattle.emission_text.specs.Report.{report_text}
 use Rattle.emission_text.specs.declared.fault.Fault.{Fault}
 use Rattle.emission_text.specs.declared.fault.Fault.TheVariants.{FullShard, NoMemory}
-
--- entries of sources, in their order: each list is of its own source, with each entry within its limits, and closed by the end
-abbrev pub AreEntries : List (List Entry) → Type 0
-AreEntries all = (i : ℕ) → i < length all → AreEntriesOf i (slice_index_or all i [])
 
 -- the text is the report of one journal, which has the entries of all sources, taken in turn, and then the lines of reads, so many lists of them; each list has so many reads and one, tallies of the journal's first entries, of which none counts less than the one before it, and the last counts all
 pub record IsBoardOf (w : Watch) (d : Definitions) (sources : List (List Entry)) (text : List ℕ) : Type 0 where

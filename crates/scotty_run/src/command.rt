@@ -4,32 +4,30 @@ ghost use Rattle.emission_text.specs.Findings.{finding_line};
 ghost use Rattle.emission_text.specs.Report.{form_of, report_text};
 ghost use Rattle.emission_text.specs.Sending.{Appends, Fails};
 ghost use Rattle.scotty_run.specs.Answer.{IsAnswer, IsCheckAnswer, IsMadeAnswer, Says};
-ghost use Rattle.scotty_run.specs.Causes.{AreShardsOfFiles, StopsAtFiles};
-ghost use Rattle.scotty_run.specs.Commands.{IsCommand};
-ghost use Rattle.scotty_run.specs.LastWords.{IsLast, IsLastOf, LastRun};
-ghost use Rattle.scotty_run.specs.Outside.{Ends, OpensInOrder, opens_of};
+ghost use Rattle.run_inputs.specs.Causes.{AreShardsOfFiles, StopsAtFiles};
+ghost use Rattle.command_words.specs.Commands.{IsCommand};
+ghost use Rattle.command_words.specs.LastWords.{IsLast, IsLastOf, LastRun};
+ghost use Rattle.run_inputs.specs.Outside.{Ends, OpensInOrder, opens_of};
 ghost use Rattle.tail_text.specs.Texts.{AreAsLong, in_vectors};
-ghost use Rattle.scotty_run.specs.Statuses.{finding_status, status_of};
+ghost use Rattle.run_inputs.specs.Statuses.{finding_status, status_of};
 ghost use Rattle.scotty_run.specs.Tailing.{IsLastAnswer, tailed_text};
 ghost use Rattle.scotty_run.specs.Watching.{IsWatchAnswer, watched_text};
-ghost use Rattle.scotty_run.specs.Words.{Check, IsCheck, IsCheckOf, IsMadeOf, IsRun, IsRunOf, IsWatch, IsWatchOf, Made, Run, Watch};
+ghost use Rattle.command_words.specs.Words.{Check, IsCheck, IsCheckOf, IsMadeOf, IsRun, IsRunOf, IsWatch, IsWatchOf, Made, Run, Watch};
 
-use crate::definitions::read_definitions;
 use crate::gathering::gather_sources;
-use crate::judging::find;
-use crate::last_words::{LastWords, last_of};
 use crate::making::{make_rows, print_summary};
-use crate::status::{Status, status_of, status_of_finding};
 use crate::tailed::Tailed;
 use crate::tailing::{tail_files, write_tailed};
 use crate::watching::{watch_files, write_watched};
-use crate::words::{
-    CheckWords, MadeWords, RunWords, WatchWords, check_of, made_of, run_of, watch_of,
+use command_words::{
+    CheckWords, LastWords, MadeWords, RunWords, WatchWords, check_of, last_of, made_of, run_of,
+    watch_of,
 };
 use emission_text::{Fault, ReportForm, write_fault, write_finding, write_form};
 use live_board::Watched;
 use outside::{Files, Gate, Sink};
 use report_check::Finding;
+use run_inputs::{Status, find, read_definitions, status_of, status_of_finding};
 use shard_core::Shard;
 use std::alloc::Global;
 use std::sync::Wait;
@@ -89,22 +87,22 @@ pub fn scotty<F: Files, K: Sink, G: Gate, R: Threads + Wait + Sync>(
         → ¬ (IsWatch (map string_bytes words.now))
         → ¬ (IsLast (map string_bytes words.now)) → files.new ≡ files.old }
 {
-    match run_of(words) {
-        Some(command) => run(alloc, rt, &command, files, sink, gate),
-        None => match made_of(words) {
-            Some(command) => make(alloc, rt, &command, sink, gate),
-            None => match check_of(words) {
-                Some(command) => check(alloc, rt, &command, files, sink),
-                None => match watch_of(words) {
-                    Some(command) => watch(alloc, rt, &command, files, sink, gate),
-                    None => match last_of(words) {
-                        Some(command) => tail(alloc, rt, &command, files, sink, gate),
-                        None => print_fault(&Fault::Usage, sink),
-                    },
-                },
-            },
-        },
+    if let Some(command) = run_of(words) {
+        return run(alloc, rt, &command, files, sink, gate);
     }
+    if let Some(command) = made_of(words) {
+        return make(alloc, rt, &command, sink, gate);
+    }
+    if let Some(command) = check_of(words) {
+        return check(alloc, rt, &command, files, sink);
+    }
+    if let Some(command) = watch_of(words) {
+        return watch(alloc, rt, &command, files, sink, gate);
+    }
+    if let Some(command) = last_of(words) {
+        return tail(alloc, rt, &command, files, sink, gate);
+    }
+    print_fault(&Fault::Usage, sink)
 }
 
 fn run<F: Files, K: Sink, G: Gate, R: Threads + Wait + Sync>(

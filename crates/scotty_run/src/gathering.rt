@@ -1,15 +1,16 @@
 //! Sources are gathered into shards.
 ghost use Rattle.std.specs.Prelude.{length, map, string_bytes};
-ghost use Rattle.scotty_run.specs.Causes.{AreShardsOf, StopsAtSources};
-ghost use Rattle.scotty_run.specs.Outside.{Ends, GivesBack};
-ghost use Rattle.scotty_run.specs.Words.{AreFew};
+ghost use Rattle.run_inputs.specs.Causes.{AreShardsOf, StopsAtSources};
+ghost use Rattle.run_inputs.specs.Outside.{Ends, GivesBack};
+ghost use Rattle.command_words.specs.Words.{AreFew};
 
-use crate::opening::{close_feeds, open_sources};
 use crate::settling::trouble_of;
-use crate::way::Way;
+use crate::ways::gather;
+use command_words::Way;
 use emission_text::Fault;
 use fan_in::{FeedEnd, Gathered, Plan, Unstarted};
 use outside::{Files, Gate};
+use run_inputs::{close_feeds, open_sources};
 use shard_core::Shard;
 use source_feed::FileFeed;
 use std::alloc::Global;
@@ -43,7 +44,7 @@ pub fn gather_sources<F: Files, G: Gate, R: Threads + Wait + Sync>(
         sources: names.len() as u16,
         shards,
     };
-    match way.gather(rt, alloc, &plan, feeds, gate) {
+    match gather(way, rt, alloc, &plan, feeds, gate) {
         Ok(Gathered { shards, ends }) => {
             let trouble = trouble_of(&ends);
             close_ends(files, ends);

@@ -2,8 +2,8 @@
 ghost use Rattle.std.specs.Prelude.{◌∷◌, ℕ, List};
 ghost use Rattle.scotty_run.specs.Answer.{IsReportOfFiles};
 ghost use Rattle.scotty_run.specs.InMemory.{AllTell, IsReportOfTold};
-ghost use Rattle.scotty_run.specs.Outside.{AreOver, Opens, Telling};
-ghost use Rattle.scotty_run.specs.Words.{Run};
+ghost use Rattle.run_inputs.specs.Outside.{AreOver, Opens, Telling};
+ghost use Rattle.command_words.specs.Words.{Run};
 
 /// Where files tell their bytes, as those in memory do, a report of what they gave is one of what
 /// they tell.

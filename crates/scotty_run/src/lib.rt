@@ -6,32 +6,15 @@
 #![tactic(auto)]
 
 mod command;
-mod definitions;
 mod gathering;
 mod in_memory;
-mod judging;
-mod last_words;
 mod making;
-mod opening;
-mod reading;
 mod settling;
-mod status;
 mod tailed;
 mod tailing;
 mod watching;
-mod way;
-mod words;
+mod ways;
 
 pub use command::scotty;
-pub use definitions::read_definitions;
 pub use in_memory::report_is_of_what_files_tell;
-pub use last_words::{LastWords, last_of};
-pub use opening::{close_feeds, open_sources};
-pub use settling::fault_of;
-pub use status::{Status, status_of};
-pub use way::Way;
-pub use words::{
-    CheckWords, MadeWords, RunWords, WatchWords, are_names, check_of,
-    commands_are_told_apart_by_their_words, is_name, made_of, number_within, run_of, says,
-    watch_of,
-};
+pub use run_inputs::Status;

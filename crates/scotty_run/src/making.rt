@@ -8,13 +8,14 @@ ghost use Rattle.final_rows.specs.AtEnd.{rows_of_shards};
 ghost use Rattle.scotty_run.specs.Making.{AreMadeFeeds, AreMadeShards, AreOfDefinitions};
 
 use crate::settling::trouble_of;
-use crate::status::Status;
-use crate::words::MadeWords;
+use crate::ways::gather;
 use agg_laws::Steps;
+use command_words::MadeWords;
 use emission_text::write_summary;
 use fan_in::{Gathered, Plan, Unstarted};
 use final_rows::sort_rows;
 use outside::{Gate, Sink};
+use run_inputs::Status;
 use shard_core::Shard;
 use source_feed::{MadeFeed, made_defs};
 use std::alloc::Global;
@@ -59,7 +60,7 @@ fn make_shards<G: Gate, R: Threads + Wait + Sync>(
         sources: made.sources,
         shards: made.shards,
     };
-    match made.way.gather(rt, alloc, &plan, feeds, gate) {
+    match gather(made.way, rt, alloc, &plan, feeds, gate) {
         Ok(Gathered { shards, ends }) => match trouble_of(&ends) {
             None => Ok(shards),
             Some(_) => Err(NoMemory),

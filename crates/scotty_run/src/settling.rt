@@ -1,11 +1,11 @@
 //! What a run is answered with, by what became of its sources.
 ghost use Rattle.std.specs.Prelude.{◌≡◌, ◌≤◌, All, length, map, IfSome, IfNone};
 ghost use Rattle.fan_in.specs.declared.outcome.Outcome.TheVariants.{Done};
-ghost use Rattle.scotty_run.specs.Settling.{AreNoFaults, IsFirstFault, IsLeastFull, IsTrouble, fault_of, least_with};
+ghost use Rattle.scotty_run.specs.Settling.{AreNoFaults, IsFirstFault, IsLeastFull, IsTrouble, least_with};
 
 use emission_text::Fault;
 use fan_in::{FeedEnd, Outcome};
-use source_feed::FeedFault;
+use run_inputs::fault_of;
 
 /// The fault of the first source that has one; where none has, that of the least full shard, if an
 /// outcome names one.
@@ -34,24 +34,6 @@ fn first_fault<F>(ends: &[FeedEnd<F>]) -> Option<Fault>
         }
     }
     None
-}
-
-/// The fault of a run for that of the feed of this source.
-pub fn fault_of(source: u16, fault: FeedFault) -> Fault
-    ensures { result ≡ fault_of source fault }
-{
-    match fault {
-        FeedFault::Read => Fault::Read {
-            place: Some(source),
-        },
-        FeedFault::TooLong => Fault::FullSource { source },
-        FeedFault::Row { number, why } => Fault::Row {
-            source,
-            number,
-            why,
-        },
-        FeedFault::NoMemory => Fault::NoMemory,
-    }
 }
 
 fn least_full<F>(ends: &[FeedEnd<F>]) -> Option<u16>

@@ -2,15 +2,14 @@
 ghost use Rattle.std.specs.Prelude.{◌≡◌, ◌<◌, All, IfErr, IfOk, length, map};
 ghost use Rattle.emission_text.specs.Sending.{Writes};
 ghost use Rattle.tail_text.specs.Texts.{AreAsLong, in_vectors, tail_changes_in};
-ghost use Rattle.scotty_run.specs.LastWords.{last_definitions};
-ghost use Rattle.scotty_run.specs.Outside.{Ends};
+ghost use Rattle.command_words.specs.LastWords.{last_definitions};
+ghost use Rattle.run_inputs.specs.Outside.{Ends};
 ghost use Rattle.scotty_run.specs.Tailing.{AreOfSources, AreShardsOfLast, AreTailsOf, HasTails, IsTailedOf, StopsAtLast, tailed_text};
 
 use crate::gathering::gather_sources;
-use crate::last_words::LastWords;
 use crate::tailed::Tailed;
-use crate::way::Way;
 use agg_laws::Steps;
+use command_words::{LastWords, Way};
 use emission_text::{Fault, SinkFault};
 use outside::{Files, Gate, Sink};
 use shard_core::Shard;

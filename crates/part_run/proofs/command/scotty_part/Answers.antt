@@ -1,6 +1,6 @@
 -- Words are those of one command at most, so what holds of the command that was read holds of each that they tell.
 use Rattle.std.proofs.Common.{◌∷◌, [], ℕ, List, map, string_bytes, subst}
-use Rattle.scotty_run.specs.Outside.{OpensInOrder, opens_of}
+use Rattle.run_inputs.specs.Outside.{OpensInOrder, opens_of}
 use Rattle.part_run.specs.Answer.{IsAnswer}
 use Rattle.part_run.specs.Joining.{IsJoinOfFiles, StopsJoin}
 use Rattle.part_run.specs.Parting.{AreDefsOfFile, IsShortPart, StopsDefs, StopsPart}

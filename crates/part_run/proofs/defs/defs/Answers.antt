@@ -1,6 +1,6 @@
 -- The definitions were written, or a fault's line.
 use Rattle.std.proofs.Common.{subst, sym}
-use Rattle.scotty_run.specs.Outside.{opens_of}
+use Rattle.run_inputs.specs.Outside.{opens_of}
 use Rattle.part_run.specs.Parting.{AreDefsOfFile, StopsDefs}
 use Rattle.part_run.proofs.Answering.{stops, writes}
 use Rattle.part_run.proofs.Parting.{no_usage_in_defs}

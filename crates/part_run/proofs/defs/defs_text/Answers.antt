@@ -1,5 +1,5 @@
 -- The definitions of the file are spelled, or it stops the command.
-use Rattle.scotty_run.specs.Outside.{opens_of}
+use Rattle.run_inputs.specs.Outside.{opens_of}
 use Rattle.part_run.proofs.Parting.{defs_of_file, defs_stopped}
 use Rattle.part_run.proofs.defs.defs_text.Goals as goal
 

@@ -2,7 +2,7 @@
 use Rattle.std.proofs.Common.{◌≡◌, ◌∙◌, ◌≤◌, List, ℕ, arith, length, map, string_bytes, subst, sym}
 use Rattle.std.proofs.lemmas.List.{length-map}
 use Rattle.report_check.specs.Findings.{lists_of}
-use Rattle.scotty_run.specs.Outside.{opens_of}
+use Rattle.run_inputs.specs.Outside.{opens_of}
 use Rattle.part_run.specs.declared.part_fault.PartFault.TheVariants.{Run}
 use Rattle.part_run.specs.Joining.{AreTexts, IsJoinOf, IsJoinOfFiles, StopsAtTexts, StopsJoin}
 use Rattle.part_run.proofs.Answering.{answers_as, stops}

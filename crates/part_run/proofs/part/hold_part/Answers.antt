@@ -1,8 +1,8 @@
 -- The definitions are read, and behind them the source.
 use Rattle.std.proofs.Common.{ap, inl, inr, refl, subst}
-use Rattle.scotty_run.specs.Causes.{AreDefinitionsRead, StopsAtDefs, StopsAtSources}
-use Rattle.scotty_run.specs.Outside.{opens_of}
-use Rattle.scotty_run.proofs.Endings.{definitions_as, ends_at, ends_behind}
+use Rattle.run_inputs.specs.Causes.{AreDefinitionsRead, StopsAtDefs, StopsAtSources}
+use Rattle.run_inputs.specs.Outside.{opens_of}
+use Rattle.run_inputs.proofs.Endings.{definitions_as, ends_at, ends_behind}
 use Rattle.part_run.specs.Parting.{HoldsPartIn, HoldsPartOfFiles, StopsAtPart}
 use Rattle.part_run.specs.Words.{Part}
 use Rattle.part_run.proofs.part.hold_part.Goals as goal

@@ -1,6 +1,6 @@
 -- The part was written, or a fault's line.
 use Rattle.std.proofs.Common.{subst}
-use Rattle.scotty_run.specs.Outside.{opens_of}
+use Rattle.run_inputs.specs.Outside.{opens_of}
 use Rattle.part_run.specs.Parting.{HoldsPartOfFiles, IsShortPart, StopsPart}
 use Rattle.part_run.specs.declared.part_fault.PartFault.TheVariants.{Run, LongPart}
 use Rattle.part_run.proofs.Answering.{stops, writes}

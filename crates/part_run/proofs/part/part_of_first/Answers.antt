@@ -1,8 +1,8 @@
 -- The only feed is read to its end, or up to a fault.
 use Rattle.std.proofs.Common.{◌∙◌, ◌<◌, ℕ, List, [], length, ap, sym, subst, arith, Err}
 use Rattle.source_feed.specs.FileFeedState.{FileFeedState, feed_view}
-use Rattle.scotty_run.specs.Reading.{IsFresh}
-use Rattle.scotty_run.proofs.Draining.{draining_more, draining_stops, none_drained, same_more}
+use Rattle.run_inputs.specs.Reading.{IsFresh}
+use Rattle.run_inputs.proofs.Draining.{draining_more, draining_stops, none_drained, same_more}
 use Rattle.part_text.specs.Holding.{IsHeld}
 use Rattle.part_run.proofs.Parting.{new_feed, same_feed}
 use Rattle.part_run.proofs.part.part_of_first.Goals as goal

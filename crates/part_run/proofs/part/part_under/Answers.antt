@@ -2,11 +2,11 @@
 use Rattle.std.proofs.Common.{◌≡◌, ◌∙◌, ◌∷◌, [], List, length, map, string_bytes, refl, sym, Ok}
 use Rattle.stream_base.specs.declared.entry.Entry.{Entry}
 use Rattle.part_laws.specs.Parts.{part_text}
-use Rattle.scotty_run.specs.Outside.{opens_of}
-use Rattle.scotty_run.specs.Reading.{AreDrained}
-use Rattle.scotty_run.proofs.Draining.{fresh, place_at, read_of, stops_of, tells_at}
-use Rattle.scotty_run.proofs.Results.{if_ok}
-use Rattle.scotty_run.proofs.Returned.{came_back, opened_in_order, opening_stops}
+use Rattle.run_inputs.specs.Outside.{opens_of}
+use Rattle.run_inputs.specs.Reading.{AreDrained}
+use Rattle.run_inputs.proofs.Draining.{fresh, place_at, read_of, stops_of, tells_at}
+use Rattle.run_inputs.proofs.Results.{if_ok}
+use Rattle.run_inputs.proofs.Returned.{came_back, opened_in_order, opening_stops}
 use Rattle.part_text.specs.Holding.{IsHeld}
 use Rattle.part_run.specs.Parting.{HoldsPartIn}
 use Rattle.part_run.proofs.part.part_under.Goals as goal

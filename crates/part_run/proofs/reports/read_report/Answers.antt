@@ -3,9 +3,9 @@ use Rattle.std.proofs.Common.{◌≡◌, ◌∙◌, ◌+◌, ℕ, length, ap, re
 use Rattle.outside.specs.Outside.{KeepsWord, back}
 use Rattle.std.specs.Prelude.{IfSome}
 use Rattle.source_feed.specs.declared.whole.TheConstants.{SOURCE_MAX}
-use Rattle.scotty_run.specs.Outside.{IsOver, opens_of}
-use Rattle.scotty_run.proofs.Returned.{one_in_order}
-use Rattle.scotty_run.proofs.WholeFiles.{IsReadSo, read_so}
+use Rattle.run_inputs.specs.Outside.{IsOver, opens_of}
+use Rattle.run_inputs.proofs.Returned.{one_in_order}
+use Rattle.run_inputs.proofs.WholeFiles.{IsReadSo, read_so}
 use Rattle.part_run.proofs.ReadTexts.{text_read, text_stop}
 use Rattle.part_run.proofs.reports.read_report.Goals as goal
 

@@ -1,8 +1,8 @@
 -- Words that aren't `join`, a number, and as many names join no reports.
 use Rattle.std.proofs.Common.{◌≡◌, ◌∷◌, ◌∙◌, ◌-◌, All, Global, List, String, ap, drop, length, map, string_bytes, subst, sym, take}
 use Rattle.std.proofs.lemmas.List.{length-map}
-use Rattle.scotty_run.specs.Words.{IsName}
-use Rattle.scotty_run.proofs.WordFacts.{take-all_of}
+use Rattle.command_words.specs.Words.{IsName}
+use Rattle.command_words.proofs.WordFacts.{take-all_of}
 use Rattle.part_run.proofs.WordFacts.{no_join, two_up}
 use Rattle.part_run.proofs.words.join_of.Goals as goal
 use Rattle.part_run.proofs.words.join_of.Goals.{then-reports-shards, else-reports-shards, else-says-via-then-says+else-whole, else-says-via-else-says}

@@ -1,6 +1,6 @@
 -- A shard that isn't written below the shards makes the words no part.
 use Rattle.std.proofs.Common.{◌≡◌, ◌∷◌, map, drop, string_bytes}
-use Rattle.scotty_run.proofs.WordFacts.{four_up}
+use Rattle.command_words.proofs.WordFacts.{four_up}
 use Rattle.part_run.specs.Words.{IsPart}
 use Rattle.part_run.proofs.WordFacts.{if_none, no_shard}
 use Rattle.part_run.proofs.words.part_of.Goals as goal

@@ -1,6 +1,6 @@
 use Rattle.std.proofs.Common.{sym, subst}
 use Rattle.scotty_run.specs.Answer.{IsCheckAnswer}
-use Rattle.scotty_run.specs.Outside.{opens_of}
+use Rattle.run_inputs.specs.Outside.{opens_of}
 use Rattle.scotty_run.proofs.Checking.{check_finds, check_stops}
 use Rattle.scotty_run.proofs.command.check.Goals as goal
 

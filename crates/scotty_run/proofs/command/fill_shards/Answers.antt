@@ -1,9 +1,9 @@
 -- The definitions are read, and behind them the sources are gathered.
 use Rattle.std.proofs.Common.{ap, inl, inr, refl, subst}
-use Rattle.scotty_run.specs.Causes.{AreDefinitionsRead, AreShardsOf, AreShardsOfFiles, StopsAtDefs, StopsAtFiles, StopsAtSources}
-use Rattle.scotty_run.specs.Outside.{Ends, opens_of}
-use Rattle.scotty_run.specs.Words.{Run}
-use Rattle.scotty_run.proofs.Endings.{definitions_as, ends_at, ends_behind}
+use Rattle.run_inputs.specs.Causes.{AreDefinitionsRead, AreShardsOf, AreShardsOfFiles, StopsAtDefs, StopsAtFiles, StopsAtSources}
+use Rattle.run_inputs.specs.Outside.{Ends, opens_of}
+use Rattle.command_words.specs.Words.{Run}
+use Rattle.run_inputs.proofs.Endings.{definitions_as, ends_at, ends_behind}
 use Rattle.scotty_run.proofs.command.fill_shards.Goals as goal
 
 pub returns-in-Err : goal.returns-in-Err

@@ -3,11 +3,11 @@ use Rattle.shard_core.specs.Shard.{Sharded}
 use Rattle.emission_text.specs.Report.{form_of, report_text}
 use Rattle.emission_text.specs.Sending.{Appends, Fails}
 use Rattle.scotty_run.specs.Answer.{IsAnswer, IsReportOf}
-use Rattle.scotty_run.specs.Causes.{AreShardsOfFiles}
-use Rattle.scotty_run.specs.Jobs.{job_of_run}
-use Rattle.scotty_run.specs.Outside.{opens_of}
-use Rattle.scotty_run.specs.Words.{Run}
-use Rattle.scotty_run.specs.declared.status.Status.TheVariants as status
+use Rattle.run_inputs.specs.Causes.{AreShardsOfFiles}
+use Rattle.command_words.specs.Jobs.{job_of_run}
+use Rattle.run_inputs.specs.Outside.{opens_of}
+use Rattle.command_words.specs.Words.{Run}
+use Rattle.run_inputs.specs.declared.status.Status.TheVariants as status
 use Rattle.scotty_run.proofs.Answering.{text_is}
 use Rattle.scotty_run.proofs.Jobs.{stops, writes}
 use Rattle.scotty_run.proofs.command.run.Goals as goal

@@ -1,13 +1,13 @@
 -- Words are those of one command at most, so what holds of the command that was read holds of each that they tell.
 use Rattle.std.proofs.Common.{◌∷◌, map, string_bytes, subst}
 use Rattle.scotty_run.specs.Answer.{IsAnswer, IsCheckAnswer, IsMadeAnswer}
-use Rattle.scotty_run.specs.Outside.{OpensInOrder, opens_of}
-use Rattle.scotty_run.specs.LastWords.{LastRun}
+use Rattle.run_inputs.specs.Outside.{OpensInOrder, opens_of}
+use Rattle.command_words.specs.LastWords.{LastRun}
 use Rattle.scotty_run.specs.Tailing.{IsLastAnswer}
 use Rattle.scotty_run.specs.Watching.{IsWatchAnswer}
-use Rattle.scotty_run.specs.Words.{Check, Made, Run, Watch}
-use Rattle.scotty_run.proofs.LastFacts.{one_last}
-use Rattle.scotty_run.proofs.WordFacts.{one_check, one_made, one_run, one_watch}
+use Rattle.command_words.specs.Words.{Check, Made, Run, Watch}
+use Rattle.command_words.proofs.LastFacts.{one_last}
+use Rattle.command_words.proofs.WordFacts.{one_check, one_made, one_run, one_watch}
 use Rattle.scotty_run.proofs.command.scotty.Goals as goal
 
 pub returns-in-Some-clause-answer : goal.returns-in-Some-clause-answer

@@ -1,8 +1,8 @@
 -- What the files came to is written, or their fault is.
 use Rattle.std.proofs.Common.{sym, subst}
 use Rattle.tail_text.specs.Texts.{in_vectors}
-use Rattle.scotty_run.specs.LastWords.{job_of_last}
-use Rattle.scotty_run.specs.Outside.{opens_of}
+use Rattle.command_words.specs.LastWords.{job_of_last}
+use Rattle.run_inputs.specs.Outside.{opens_of}
 use Rattle.scotty_run.specs.Tailing.{IsLastAnswer, IsTailReportOf, tailed_text}
 use Rattle.scotty_run.proofs.Jobs.{stops, writes}
 use Rattle.scotty_run.proofs.LastTexts.{as_long, last_text}

@@ -1,7 +1,7 @@
 use Rattle.std.proofs.Common.{sym, subst}
 use Rattle.live_board.specs.declared.watched.Watched.{Watched}
-use Rattle.scotty_run.specs.Jobs.{job_of_watch}
-use Rattle.scotty_run.specs.Outside.{opens_of}
+use Rattle.command_words.specs.Jobs.{job_of_watch}
+use Rattle.run_inputs.specs.Outside.{opens_of}
 use Rattle.scotty_run.specs.Watching.{IsBoardOf, IsWatchAnswer, watched_text}
 use Rattle.scotty_run.proofs.Jobs.{stops, writes}
 use Rattle.scotty_run.proofs.Boards.{board_text}

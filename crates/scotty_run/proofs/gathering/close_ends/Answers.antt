@@ -2,7 +2,7 @@
 use Rattle.std.proofs.Common.{◌≡◌, ◌≢◌, ℕ, subst, arith}
 use Rattle.std.specs.Prelude.{IfSome}
 use Rattle.outside.specs.Outside.{KeepsWord, back}
-use Rattle.scotty_run.proofs.Opened.{all_given, none_given, one_given}
+use Rattle.run_inputs.proofs.Opened.{all_given, none_given, one_given}
 use Rattle.scotty_run.proofs.gathering.close_ends.Goals as goal
 
 pub loop-end-init : goal.loop-end-init

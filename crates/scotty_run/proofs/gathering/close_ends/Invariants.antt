@@ -1,6 +1,6 @@
 -- The last feeds are given back.
 use Rattle.std.proofs.Common.{vec_len}
-use Rattle.scotty_run.proofs.Opened.{AreGivenDownTo}
+use Rattle.run_inputs.proofs.Opened.{AreGivenDownTo}
 use Rattle.scotty_run.proofs.gathering.close_ends.Given as goal
 
 abbrev pub invariant-loop-end : goal.invariant-loop-end

@@ -4,13 +4,13 @@ use Rattle.std.proofs.lemmas.List.{length-map}
 use Rattle.fan_in.specs.Gathering.{AreGathered}
 use Rattle.fan_in.specs.declared.outcome.Outcome.TheVariants.{Done}
 use Rattle.source_feed.specs.FileFeedState.{feed_view}
-use Rattle.scotty_run.specs.Outside.{GivesBack, opens_of}
+use Rattle.run_inputs.specs.Outside.{GivesBack, opens_of}
 use Rattle.scotty_run.specs.Settling.{IsTrouble}
-use Rattle.scotty_run.specs.Words.{AreFew}
+use Rattle.command_words.specs.Words.{AreFew}
 use Rattle.scotty_run.proofs.Ends.{fresh_feeds, gathering, place_at, tells_at}
-use Rattle.scotty_run.proofs.Opened.{are_placed}
+use Rattle.run_inputs.proofs.Opened.{are_placed}
 use Rattle.scotty_run.proofs.Gathers.{shards_of, stops_at}
-use Rattle.scotty_run.proofs.Returned.{came_back, opened_in_order, opening_stops}
+use Rattle.run_inputs.proofs.Returned.{came_back, opened_in_order, opening_stops}
 use Rattle.scotty_run.proofs.gathering.gather_sources.Goals as goal
 
 pub gather-requires-clause-fresh : goal.gather-requires-clause-fresh

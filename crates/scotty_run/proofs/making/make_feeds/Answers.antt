@@ -1,7 +1,7 @@
 -- One feed more.
 use Rattle.std.proofs.Common.{◌≡◌, ◌∙◌, [], ◌∷◌, length, length-append, ap, arith, sym, subst}
 use Rattle.scotty_run.specs.Making.{AreMadeFeeds, made_feed}
-use Rattle.scotty_run.specs.Words.{Made}
+use Rattle.command_words.specs.Words.{Made}
 use Rattle.scotty_run.proofs.Makings.{made_more}
 use Rattle.scotty_run.proofs.making.make_feeds.Goals as goal
 

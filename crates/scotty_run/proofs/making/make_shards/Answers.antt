@@ -3,7 +3,7 @@ use Rattle.std.proofs.Common.{◌≡◌, All, length, map, sym, subst}
 use Rattle.fan_in.specs.Gathering.{AreGathered}
 use Rattle.fan_in.specs.declared.outcome.Outcome.TheVariants.{Done}
 use Rattle.scotty_run.specs.Making.{AreMadeFeeds}
-use Rattle.scotty_run.specs.Words.{Made, made_of}
+use Rattle.command_words.specs.Words.{Made, made_of}
 use Rattle.scotty_run.proofs.Makings.{fresh_feeds, made_shards}
 use Rattle.scotty_run.proofs.making.make_shards.Goals as goal
 

@@ -1,12 +1,12 @@
 -- The words tell the definitions, and behind them the sources are gathered.
 use Rattle.std.proofs.Common.{◌≡◌, List, map, string_bytes, ap, refl, subst}
 use Rattle.emission_text.specs.declared.fault.Fault.TheVariants.{NoMemory}
-use Rattle.scotty_run.specs.Causes.{AreShardsOf, StopsAtSources}
-use Rattle.scotty_run.specs.LastWords.{LastRun}
-use Rattle.scotty_run.specs.Outside.{OpensInOrder, opens_of}
+use Rattle.run_inputs.specs.Causes.{AreShardsOf, StopsAtSources}
+use Rattle.command_words.specs.LastWords.{LastRun}
+use Rattle.run_inputs.specs.Outside.{OpensInOrder, opens_of}
 use Rattle.scotty_run.specs.Tailing.{AreShardsOfLast, StopsAtLast}
 use Rattle.scotty_run.proofs.LastTexts.{none_opened, shards_as, sources_stop, stops_as}
-use Rattle.scotty_run.proofs.Results.{if_err, if_ok}
+use Rattle.run_inputs.proofs.Results.{if_err, if_ok}
 use Rattle.scotty_run.proofs.tailing.last_shards.Goals as goal
 
 pub returns-in-Err : goal.returns-in-Err

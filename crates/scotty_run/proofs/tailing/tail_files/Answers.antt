@@ -2,10 +2,10 @@
 use Rattle.std.proofs.Common.{◌≡◌, subst, sym}
 use Rattle.emission_text.specs.declared.fault.Fault.{Fault}
 use Rattle.emission_text.specs.declared.fault.Fault.TheVariants.{NoMemory}
-use Rattle.scotty_run.specs.Outside.{opens_of}
+use Rattle.run_inputs.specs.Outside.{opens_of}
 use Rattle.scotty_run.specs.Tailing.{AreShardsOfLast, HasTails, IsTailedOf, StopsAtLast}
 use Rattle.scotty_run.proofs.LastTexts.{of_sources, sources_stop}
-use Rattle.scotty_run.proofs.Results.{if_err, if_ok}
+use Rattle.run_inputs.proofs.Results.{if_err, if_ok}
 use Rattle.scotty_run.proofs.tailing.tail_files.Goals as goal
 
 pub tail_shards-requires : goal.tail_shards-requires

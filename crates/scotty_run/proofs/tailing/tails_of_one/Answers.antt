@@ -3,8 +3,8 @@ use Rattle.std.proofs.Common.{◌≡◌, ◌∙◌, ◌<◌, ◌≤◌, ℕ, len
 use Rattle.std.proofs.lemmas.List.{length-map}
 use Rattle.stream_base.specs.declared.entry.Entry.{Entry}
 use Rattle.tail_text.specs.Texts.{tail_changes_in}
-use Rattle.scotty_run.specs.LastWords.{LastRun}
-use Rattle.scotty_run.proofs.Results.{if_ok}
+use Rattle.command_words.specs.LastWords.{LastRun}
+use Rattle.run_inputs.proofs.Results.{if_ok}
 use Rattle.scotty_run.proofs.tailing.tails_of_one.Goals as goal
 
 pub tails_of-requires-clause-def : goal.tails_of-requires-clause-def

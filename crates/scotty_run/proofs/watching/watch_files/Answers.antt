@@ -1,10 +1,10 @@
 -- The definitions are read, and behind them the sources.
 use Rattle.std.proofs.Common.{ap, inl, inr, refl, subst}
-use Rattle.scotty_run.specs.Causes.{AreDefinitionsRead, StopsAtDefs, StopsAtSources}
-use Rattle.scotty_run.specs.Outside.{opens_of}
+use Rattle.run_inputs.specs.Causes.{AreDefinitionsRead, StopsAtDefs, StopsAtSources}
+use Rattle.run_inputs.specs.Outside.{opens_of}
 use Rattle.scotty_run.specs.Watching.{IsWatchedIn, IsWatchedOfFiles, StopsAtWatch}
-use Rattle.scotty_run.specs.Words.{Watch}
-use Rattle.scotty_run.proofs.Endings.{definitions_as, ends_at, ends_behind}
+use Rattle.command_words.specs.Words.{Watch}
+use Rattle.run_inputs.proofs.Endings.{definitions_as, ends_at, ends_behind}
 use Rattle.scotty_run.proofs.watching.watch_files.Goals as goal
 
 pub returns-in-Err : goal.returns-in-Err

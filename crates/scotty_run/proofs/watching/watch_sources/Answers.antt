@@ -2,11 +2,12 @@
 use Rattle.std.proofs.Common.{◌≡◌, ◌∙◌, List, length, map, string_bytes, ap, arith, subst, sym, Ok}
 use Rattle.std.proofs.lemmas.List.{length-map}
 use Rattle.report_check.specs.Findings.{lists_of}
-use Rattle.scotty_run.specs.Causes.{AreAllRead, StopsAtSources}
-use Rattle.scotty_run.specs.Outside.{Ends, opens_of}
-use Rattle.scotty_run.specs.Watching.{AreEntries, IsFullBoard, IsWatchedIn, IsWatchedOf}
-use Rattle.scotty_run.specs.Words.{Watch}
-use Rattle.scotty_run.proofs.Results.{if_err, if_ok}
+use Rattle.run_inputs.specs.Causes.{AreAllRead, StopsAtSources}
+use Rattle.run_inputs.specs.Outside.{Ends, opens_of}
+use Rattle.run_inputs.specs.Reading.{AreEntries}
+use Rattle.scotty_run.specs.Watching.{IsFullBoard, IsWatchedIn, IsWatchedOf}
+use Rattle.command_words.specs.Words.{Watch}
+use Rattle.run_inputs.proofs.Results.{if_err, if_ok}
 use Rattle.scotty_run.proofs.Boards.{board_stops, stops_among}
 use Rattle.scotty_run.proofs.watching.watch_sources.Goals as goal
 

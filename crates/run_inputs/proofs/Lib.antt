@@ -1,0 +1,9 @@
+pub mod Results
+pub mod Opened
+pub mod Returned
+pub mod WholeFiles
+pub mod SameFeed
+pub mod Shown
+pub mod Endings
+pub mod Draining
+pub mod EntryFacts

@@ -1,8 +1,0 @@
--- The words of all commands.
-use Rattle.std.specs.Prelude.{◌⊎◌, ℕ, List}
-use Rattle.scotty_run.specs.LastWords.{IsLast}
-use Rattle.scotty_run.specs.Words.{IsCheck, IsMade, IsRun, IsWatch}
-
--- the words are those of a command
-abbrev pub IsCommand : List (List ℕ) → Type 0
-IsCommand words = IsRun words ⊎ IsMade words ⊎ IsCheck words ⊎ IsWatch words ⊎ IsLast words
