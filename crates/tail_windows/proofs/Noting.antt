@@ -1,6 +1,6 @@
 -- What is noted of the ends of periods, and what is left of it behind a watermark.
 use Rattle.std.proofs.Common.{◌≡◌, ◌∙◌, ℕ, ◌<◌, ◌≤◌, Bool, true, false, cond, List, [], ◌∷◌, ◌++◌, map, take, drop, ap, sym, refl, subst, inl, inr, ⊎_elim, arith, Option, None, Some, Ok, Err}
-use Rattle.std.specs.Prelude.{◌⊎◌, ◌&&◌, IfNone, IfSome, Result, not, slice_get, filter, is_some, nat_le, nat_lt, unwrap_or}
+use Rattle.std.specs.Prelude.{◌⊎◌, ◌&&◌, IfNone, IfSome, Result, not, slice_get, is_some, nat_le, nat_lt, unwrap_or}
 use Rattle.std.specs.BTreeMap.{is_at}
 use Rattle.std.specs.BTreeSet.{insert_key}
 use Rattle.std.specs.Cmp.Lexicographic.{slice_cmp}

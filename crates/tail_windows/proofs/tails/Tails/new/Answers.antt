@@ -1,10 +1,8 @@
 -- No entry, and no key.
 use Rattle.std.proofs.Common.{[], ℕ, List, subst, sym}
 use Rattle.tail_windows.specs.Following.{StandsFor}
-use Rattle.tail_windows.specs.Noted.{IsReady}
 use Rattle.tail_windows.specs.declared.sample.Sample.{Sample}
 use Rattle.tail_windows.proofs.Follow.{stands_for_none}
-use Rattle.tail_windows.proofs.Noting.{ready_for_none}
 use Rattle.tail_windows.proofs.tails.Tails.new.Goals as goal
 
 pub returns-clause-stands : goal.returns-clause-stands
