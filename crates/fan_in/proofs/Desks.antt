@@ -14,17 +14,12 @@ use Rattle.stream_base.specs.Model.What.{is_end}
 use Rattle.shard_core.specs.declared.applied.Applied.{Applied}
 use Rattle.shard_core.specs.declared.applied.ApplyFault.{ApplyFault}
 use Rattle.shard_core.specs.declared.applied.ApplyFault.TheVariants.{Ended}
-use Rattle.turnstile.specs.declared.keeps.Keeps.{Ghosts}
 use Rattle.turnstile.specs.declared.pass.Pass.{Pass}
 use Rattle.turnstile.specs.History.{by_number, of_number}
 use Rattle.turnstile.specs.Passes.{number, seen, made, IsTurn}
 use Rattle.fan_in.specs.declared.fixed_part.FixedPart.{FixedPart}
-use Rattle.fan_in.specs.Desks.{AreBySource, BookedState, booked_with, entries_of, fixed_of, items_of}
+use Rattle.fan_in.specs.Desks.{AreBySource, BookedState, booked_items, booked_with, entries_of, fixed_of, items_of}
 use Rattle.fan_in.specs.Offers.{Books, HoldsCause, IsOffered, IsOpen, IsRefused}
-
--- what both kinds of desks keep
-abbrev these : Ghosts BookedState Entry FixedPart
-these = record { items = items_of; fixed = fixed_of }
 
 cancel : {A : Type 0} (xs ys zs : List A) → xs ++ ys ≡ xs ++ zs → ys ≡ zs
 cancel [] ys zs e = e
@@ -82,8 +77,8 @@ own_end s (i ∷ is) h =
     rw test (end_more s i (eqb i.1.source s) (entries_of is) (filter (λ (e : ℕ × Entry). eqb e.0 (s + 1)) is) refl more)
 
 -- a turn at a desk by sources is one that books
-pub booked_of : (entry : Entry) (old new : Pass BookedState Entry FixedPart these) (reply : Result Applied ApplyFault)
-    → IsTurn {g = these} (λ before after n r. Books entry before after n r × AreBySource (items_of before)) old new reply → IsTurn {g = these} (λ before after n r. Books entry before after n r) old new reply
+pub booked_of : (entry : Entry) (old new : Pass BookedState Entry FixedPart booked_items) (reply : Result Applied ApplyFault)
+    → IsTurn {g = booked_items} (λ before after n r. Books entry before after n r × AreBySource (items_of before)) old new reply → IsTurn {g = booked_items} (λ before after n r. Books entry before after n r) old new reply
 booked_of entry old new reply t = record {
   before = t.before;
   after = t.after;
@@ -100,8 +95,8 @@ booked_of entry old new reply t = record {
 }
 
 -- where a source has ended at a desk by sources, its pass made its end
-pub ended_of : (entry : Entry) (old new : Pass BookedState Entry FixedPart these) (reply : Result Applied ApplyFault)
-    → IsTurn {g = these} (λ before after n r. Books entry before after n r × AreBySource (items_of before)) old new reply → number old ≡ entry.source + 1 → reply ≡ Err Ended → has_ended entry.source (made old) ≡ true
+pub ended_of : (entry : Entry) (old new : Pass BookedState Entry FixedPart booked_items) (reply : Result Applied ApplyFault)
+    → IsTurn {g = booked_items} (λ before after n r. Books entry before after n r × AreBySource (items_of before)) old new reply → number old ≡ entry.source + 1 → reply ≡ Err Ended → has_ended entry.source (made old) ≡ true
 ended_of entry old new reply t n e =
     let s : ℕ = entry.source in
     let items : List (ℕ × Entry) = items_of t.before in
@@ -110,8 +105,8 @@ ended_of entry old new reply t n e =
     let journal : has_ended s (entries_of items) ≡ has_ended s (t.before.shard).journal = ap (has_ended s) (entries-items t.before does.numbered) in
     ap (has_ended s) (sym own) ∙ ap (λ (m : ℕ). has_ended s (of_number m items)) n ∙ sym (own_end s items t.call.1) ∙ journal ∙ does.cause
 
-pub offered_of : (entry : Entry) (old new : Pass BookedState Entry FixedPart these) (reply : Result Applied ApplyFault)
-    → IsTurn {g = these} (λ before after n r. Books entry before after n r) old new reply → IfOk reply (IsOffered {g = these} entry old new)
+pub offered_of : (entry : Entry) (old new : Pass BookedState Entry FixedPart booked_items) (reply : Result Applied ApplyFault)
+    → IsTurn {g = booked_items} (λ before after n r. Books entry before after n r) old new reply → IfOk reply (IsOffered {g = booked_items} entry old new)
 offered_of entry old new (Ok r) t =
     let does : Books entry t.before t.after (number old) (Ok r) = t.call in
     let after : items_of t.after ≡ items_of t.before ++ (number old, entry) ∷ [] = ap items_of does.booked ∙ one_more t.before (number old) entry does.numbered in
@@ -130,8 +125,8 @@ offered_of entry old new (Ok r) t =
     }
 offered_of entry old new (Err f) t = tt
 
-pub refused_of : (entry : Entry) (old new : Pass BookedState Entry FixedPart these) (reply : Result Applied ApplyFault)
-    → IsTurn {g = these} (λ before after n r. Books entry before after n r) old new reply → IfErr reply (IsRefused {g = these} entry old new)
+pub refused_of : (entry : Entry) (old new : Pass BookedState Entry FixedPart booked_items) (reply : Result Applied ApplyFault)
+    → IsTurn {g = booked_items} (λ before after n r. Books entry before after n r) old new reply → IfErr reply (IsRefused {g = booked_items} entry old new)
 refused_of entry old new (Ok r) t = tt
 refused_of entry old new (Err f) t =
     let does : Books entry t.before t.after (number old) (Err f) = t.call in

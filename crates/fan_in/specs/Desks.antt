@@ -3,6 +3,7 @@ use Rattle.std.specs.Prelude.{◌≡◌, ◌+◌, ◌++◌, ℕ, List, [], ◌�
 use Rattle.std.specs.List.{zip}
 use Rattle.stream_base.specs.declared.entry.Entry.{Entry}
 use Rattle.shard_core.specs.Shard.{Sharded, sharded_with}
+use Rattle.turnstile.specs.declared.keeps.Keeps.{Ghosts}
 use Rattle.fan_in.specs.declared.fixed_part.FixedPart.{FixedPart}
 
 -- a shard, and the numbers of the passes that made its entries, in the order of the journal
@@ -29,3 +30,7 @@ AreBySource items = All (λ item. item.0 ≡ (item.1).source + 1) items
 -- the entries of items
 abbrev pub entries_of : List (ℕ × Entry) → List Entry
 entries_of items = map (λ item. item.1) items
+
+-- what each desk keeps
+abbrev pub booked_items : Ghosts BookedState Entry FixedPart
+booked_items = record { items = items_of; fixed = fixed_of }

@@ -4,12 +4,11 @@ ghost use Rattle.stream_base.specs.Model.Watermark.{has_ended};
 ghost use Rattle.turnstile.specs.Passes.{number, fixed, made, IsPassOf};
 ghost use Rattle.fan_in.specs.Offers.{IsAnswered, MayOffer};
 
-use crate::by_source::{BySource, SourceDesk};
+use crate::turns::by_source::{BySource, SourceDesk};
 use agg_laws::Steps;
 use outside::Gate;
 use shard_core::{Applied, ApplyFault};
 use std::sync::Wait;
-use std::thread::Threads;
 use stream_base::Entry;
 use turnstile::{Call, Pass};
 
@@ -48,13 +47,14 @@ impl<G: Gate> Call<BySource> for GatedTurn<'_, '_, G> {
 
 // What `offer` does at a desk by sources, with the gate passed inside the turn before the entry is
 // applied. The source has ended only where this pass, which is the source's, made its end.
-pub(crate) fn offer_gated<G: Gate, R: Threads + Wait>(
+pub(crate) fn offer_gated<G: Gate, R: Wait>(
     rt: &R,
     gate: &G,
     desk: &SourceDesk,
     pass: &mut Pass<BySource>,
     shard: u16,
     entry: &Entry,
+    steps: &mut Steps<()>,
 ) -> Result<Applied, ApplyFault>
     requires own { IsPassOf desk.now pass.old }
     requires may { IfSome (fixed pass.old) (MayOffer entry.now) }
@@ -63,12 +63,11 @@ pub(crate) fn offer_gated<G: Gate, R: Threads + Wait>(
     ensures answered { IsAnswered entry.now pass.old pass.new result }
     ensures ended { IsErrOf result Ended → has_ended entry.now.source (made pass.old) ≡ true }
 {
-    let mut steps = Steps::start(rt);
     let call = GatedTurn {
         gate,
         shard,
         entry,
-        steps: &mut steps,
+        steps,
     };
     desk.turn(rt, pass, call)
 }

@@ -14,41 +14,27 @@
 #![tactic(auto)]
 
 mod booked;
-mod by_source;
-mod closing;
 mod desk;
 mod fixed_part;
-mod floor;
 mod gated;
-mod gather;
 mod gathered;
-mod hand_back;
 mod hand_out;
-mod job;
-mod mail_gather;
-mod mail_job;
-mod outbox;
+mod mail;
 mod outcome;
-mod owner;
-mod owner_job;
 mod place;
 mod plan;
-mod post;
-mod read_out;
+mod port;
+mod reader;
 mod reading;
-mod run_tasks;
-mod send_out;
-mod sending;
-mod settling;
 mod side_by_side;
-mod task;
+mod turns;
 mod work;
 
 pub use booked::Booked;
 pub use desk::{Desk, offer};
 pub use fixed_part::FixedPart;
-pub use gather::TurnFeeds;
 pub use gathered::{FeedEnd, Gathered, Unstarted};
-pub use mail_gather::MailFeeds;
+pub use mail::gather::MailFeeds;
 pub use outcome::Outcome;
 pub use plan::Plan;
+pub use turns::gather::TurnFeeds;
