@@ -15,11 +15,12 @@
 
 mod booked;
 mod desk;
+mod door;
 mod fixed_part;
-mod gated;
 mod gathered;
 mod hand_out;
 mod mail;
+mod numbering;
 mod outcome;
 mod place;
 mod plan;
@@ -30,11 +31,12 @@ mod side_by_side;
 mod turns;
 mod work;
 
-pub use booked::Booked;
+pub use booked::{Booked, BookedBy};
 pub use desk::{Desk, offer};
 pub use fixed_part::FixedPart;
 pub use gathered::{FeedEnd, Gathered, Unstarted};
 pub use mail::gather::MailFeeds;
+pub use numbering::{AnyPass, Numbering};
 pub use outcome::Outcome;
 pub use plan::Plan;
 pub use turns::gather::TurnFeeds;

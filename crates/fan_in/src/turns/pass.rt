@@ -3,7 +3,7 @@ ghost use Rattle.stream_base.specs.declared.limits.TheConstants.{JOURNAL_MAX};
 ghost use Rattle.turnstile.specs.Passes.{number, fixed, made, seen, IsPassOf, IsSamePass};
 ghost use Rattle.fan_in.specs.Seating.{pass_laws};
 
-use crate::gated::offer_gated;
+use crate::desk::offer_through;
 use crate::outcome::Outcome;
 use crate::port::Port;
 use crate::turns::by_source::{BySource, SourceDesk};
@@ -40,8 +40,9 @@ impl Port for Pass<BySource> {
         shard: u16,
         entry: &Entry,
     ) -> Outcome {
-        let mut steps = Steps::start(rt);
-        match offer_gated(rt, gate, inlet, self, shard, entry, &mut steps) {
+        let mut steps = Steps::<()>::start(rt);
+        let door = (gate, 16 + shard);
+        match offer_through(rt, &door, inlet, self, entry, &mut steps) {
             Ok(_) => Outcome::Done,
             Err(ApplyFault::Full) => Outcome::Full { shard },
             // This pass alone makes entries of the source, and hasn't made its end.
