@@ -1,5 +1,5 @@
 -- What an offer comes to.
-use Rattle.std.proofs.Common.{◌≡◌, ◌≤◌, ◌+◌, append-nil, arith, suc, ℕ, Bool, true, false, cond, eqb, eq-eqb, ne_eqb, List, [], ◌∷◌, ◌++◌, length, drop, Option, Ok, Err, sym, refl, ap, subst, ◌∙◌}
+use Rattle.std.proofs.Common.{◌≡◌, ◌≤◌, ◌+◌, append-nil, arith, length-append, suc, ℕ, Bool, true, false, cond, eqb, eq-eqb, ne_eqb, List, [], ◌∷◌, ◌++◌, length, drop, Option, Ok, Err, sym, refl, ap, subst, ◌∙◌}
 use Rattle.std.specs.Prelude.{◌&&◌, ◌||◌, All, IfSome, IfOk, IfErr, OnOk, OnErr}
 use Rattle.std.specs.List.{filter, zip}
 use native.Mathlib.Decide.{ℕ_discrete}
@@ -14,17 +14,12 @@ use Rattle.stream_base.specs.Model.What.{is_end}
 use Rattle.shard_core.specs.declared.applied.Applied.{Applied}
 use Rattle.shard_core.specs.declared.applied.ApplyFault.{ApplyFault}
 use Rattle.shard_core.specs.declared.applied.ApplyFault.TheVariants.{Ended}
-use Rattle.turnstile.specs.declared.keeps.Keeps.{Ghosts}
 use Rattle.turnstile.specs.declared.pass.Pass.{Pass}
 use Rattle.turnstile.specs.History.{by_number, of_number}
 use Rattle.turnstile.specs.Passes.{number, seen, made, IsTurn}
 use Rattle.fan_in.specs.declared.fixed_part.FixedPart.{FixedPart}
-use Rattle.fan_in.specs.Desks.{AreBySource, BookedState, booked_with, entries_of, fixed_of, items_of}
-use Rattle.fan_in.specs.Offers.{Books, HoldsCause, IsOffered, IsOpen, IsRefused}
-
--- what both kinds of desks keep
-abbrev these : Ghosts BookedState Entry FixedPart
-these = record { items = items_of; fixed = fixed_of }
+use Rattle.fan_in.specs.Desks.{BookedState, booked_items, booked_with, entries_of, fixed_of, items_of}
+use Rattle.fan_in.specs.Offers.{Books, FoundEnded, HoldsCause, IsOffered, IsOpen, IsRefused}
 
 cancel : {A : Type 0} (xs ys zs : List A) → xs ++ ys ≡ xs ++ zs → ys ≡ zs
 cancel [] ys zs e = e
@@ -57,11 +52,14 @@ entries-items b h = seconds-zip b.numbers (b.shard).journal (sym h)
 pub length-items : (b : BookedState) → length b.numbers ≡ length (b.shard).journal → length (b.shard).journal ≡ length (items_of b)
 length-items b h = ap length (sym (entries-items b h)) ∙ length-map (items_of b) (λ i. i.1)
 
--- a booking under the number of its source's pass keeps the entries by their sources
-pub still_by_source : (before after : BookedState) (n : ℕ) (entry : Entry) (reply : Result Applied ApplyFault) → Books entry before after n reply → n ≡ entry.source + 1 → AreBySource (items_of before) → AreBySource (items_of after)
-still_by_source before after n entry (Ok r) b is h =
-    subst AreBySource (sym (ap items_of b.booked ∙ one_more before n entry b.numbered)) (All-push (λ (item : ℕ × Entry). item.0 ≡ (item.1).source + 1) (items_of before) (n, entry) h is)
-still_by_source before after n entry (Err f) b is h = subst (λ x. AreBySource (items_of x)) (sym b.refused) h
+-- a booking adds one number and one entry
+pub one_more_each : (before : BookedState) (n : ℕ) (entry : Entry) → length before.numbers ≡ length (before.shard).journal → length (booked_with before n entry).numbers ≡ length ((booked_with before n entry).shard).journal
+one_more_each before n entry h = omega (arith, length-append before.numbers (n ∷ []), length-append (before.shard).journal (entry ∷ []))
+
+-- a booking under a number that the entry may have keeps those of the others
+pub still_made : (may : ℕ → Entry → Type 0) (before : BookedState) (n : ℕ) (entry : Entry) → length before.numbers ≡ length (before.shard).journal → may n entry → All (λ item. may item.0 item.1) (items_of before) → All (λ item. may item.0 item.1) (items_of (booked_with before n entry))
+still_made may before n entry numbered is h =
+    subst (λ (items : List (ℕ × Entry)). All (λ item. may item.0 item.1) items) (sym (one_more before n entry numbered)) (All-push (λ (item : ℕ × Entry). may item.0 item.1) (items_of before) (n, entry) h is)
 
 same_test : (n m s : ℕ) → n ≡ m + 1 → Dec (m ≡ s) → eqb n (s + 1) ≡ eqb m s
 same_test n m s e (yes is) = eq-eqb n (s + 1) (e ∙ ap (λ k. k + 1) is) ∙ sym (eq-eqb m s is)
@@ -73,7 +71,7 @@ end_more s i true entries own u h = ap (λ (x : Bool). (eqb i.1.source s && is_e
 end_more s i false entries own u h = rw u h
 
 -- a source's end is among the entries under the number of its pass, or nowhere
-own_end : (s : ℕ) (items : List (ℕ × Entry)) → AreBySource items → has_ended s (entries_of items) ≡ has_ended s (of_number (s + 1) items)
+own_end : (s : ℕ) (items : List (ℕ × Entry)) → All (λ item. item.0 ≡ (item.1).source + 1) items → has_ended s (entries_of items) ≡ has_ended s (of_number (s + 1) items)
 own_end s [] h = refl
 own_end s (i ∷ is) h =
     let here : i.0 ≡ i.1.source + 1 = h 0 i (omega arith) in
@@ -81,10 +79,10 @@ own_end s (i ∷ is) h =
     let more : has_ended s (entries_of is) ≡ has_ended s (of_number (s + 1) is) = own_end s is (λ k d l. h (suc k) d (omega arith)) in
     rw test (end_more s i (eqb i.1.source s) (entries_of is) (filter (λ (e : ℕ × Entry). eqb e.0 (s + 1)) is) refl more)
 
--- a turn at a desk by sources is one that books
-pub booked_of : (entry : Entry) (old new : Pass BookedState Entry FixedPart these) (reply : Result Applied ApplyFault)
-    → IsTurn {g = these} (λ before after n r. Books entry before after n r × AreBySource (items_of before)) old new reply → IsTurn {g = these} (λ before after n r. Books entry before after n r) old new reply
-booked_of entry old new reply t = record {
+-- a turn that books under a number that the entry may have
+pub booked_of : (may : ℕ → Entry → Type 0) (entry : Entry) (old new : Pass BookedState Entry FixedPart booked_items) (reply : Result Applied ApplyFault)
+    → IsTurn {g = booked_items} (λ before after n r. Books entry before after n r × All (λ item. may item.0 item.1) (items_of before)) old new reply → IsTurn {g = booked_items} (λ before after n r. Books entry before after n r) old new reply
+booked_of may entry old new reply t = record {
   before = t.before;
   after = t.after;
   added = t.added;
@@ -99,19 +97,25 @@ booked_of entry old new reply t = record {
   makes = t.makes;
 }
 
--- where a source has ended at a desk by sources, its pass made its end
-pub ended_of : (entry : Entry) (old new : Pass BookedState Entry FixedPart these) (reply : Result Applied ApplyFault)
-    → IsTurn {g = these} (λ before after n r. Books entry before after n r × AreBySource (items_of before)) old new reply → number old ≡ entry.source + 1 → reply ≡ Err Ended → has_ended entry.source (made old) ≡ true
-ended_of entry old new reply t n e =
-    let s : ℕ = entry.source in
-    let items : List (ℕ × Entry) = items_of t.before in
+-- where the source has ended, the turn found its end
+pub found_ended : (may : ℕ → Entry → Type 0) (entry : Entry) (old new : Pass BookedState Entry FixedPart booked_items) (reply : Result Applied ApplyFault)
+    → IsTurn {g = booked_items} (λ before after n r. Books entry before after n r × All (λ item. may item.0 item.1) (items_of before)) old new reply → reply ≡ Err Ended → FoundEnded {g = booked_items} may entry old
+found_ended may entry old new reply t e =
     let does : Books entry t.before t.after (number old) (Err Ended) = subst (λ (r : Result Applied ApplyFault). Books entry t.before t.after (number old) r) e t.call.0 in
-    let own : of_number (number old) items ≡ made old = t.own in
-    let journal : has_ended s (entries_of items) ≡ has_ended s (t.before.shard).journal = ap (has_ended s) (entries-items t.before does.numbered) in
-    ap (has_ended s) (sym own) ∙ ap (λ (m : ℕ). has_ended s (of_number m items)) n ∙ sym (own_end s items t.call.1) ∙ journal ∙ does.cause
+    record {
+      found = items_of t.before;
+      made_by = t.call.1;
+      own = t.own;
+      ended = ap (has_ended entry.source) (entries-items t.before does.numbered) ∙ does.cause;
+    }
 
-pub offered_of : (entry : Entry) (old new : Pass BookedState Entry FixedPart these) (reply : Result Applied ApplyFault)
-    → IsTurn {g = these} (λ before after n r. Books entry before after n r) old new reply → IfOk reply (IsOffered {g = these} entry old new)
+-- where each entry has the number of its source's pass, that pass made the end
+pub ended_of : (entry : Entry) (old : Pass BookedState Entry FixedPart booked_items) → FoundEnded {g = booked_items} (λ n e. n ≡ e.source + 1) entry old → number old ≡ entry.source + 1 → has_ended entry.source (made old) ≡ true
+ended_of entry old f n =
+    ap (has_ended entry.source) (sym f.own) ∙ ap (λ (m : ℕ). has_ended entry.source (of_number m f.found)) n ∙ sym (own_end entry.source f.found f.made_by) ∙ f.ended
+
+pub offered_of : (entry : Entry) (old new : Pass BookedState Entry FixedPart booked_items) (reply : Result Applied ApplyFault)
+    → IsTurn {g = booked_items} (λ before after n r. Books entry before after n r) old new reply → IfOk reply (IsOffered {g = booked_items} entry old new)
 offered_of entry old new (Ok r) t =
     let does : Books entry t.before t.after (number old) (Ok r) = t.call in
     let after : items_of t.after ≡ items_of t.before ++ (number old, entry) ∷ [] = ap items_of does.booked ∙ one_more t.before (number old) entry does.numbered in
@@ -130,8 +134,8 @@ offered_of entry old new (Ok r) t =
     }
 offered_of entry old new (Err f) t = tt
 
-pub refused_of : (entry : Entry) (old new : Pass BookedState Entry FixedPart these) (reply : Result Applied ApplyFault)
-    → IsTurn {g = these} (λ before after n r. Books entry before after n r) old new reply → IfErr reply (IsRefused {g = these} entry old new)
+pub refused_of : (entry : Entry) (old new : Pass BookedState Entry FixedPart booked_items) (reply : Result Applied ApplyFault)
+    → IsTurn {g = booked_items} (λ before after n r. Books entry before after n r) old new reply → IfErr reply (IsRefused {g = booked_items} entry old new)
 refused_of entry old new (Ok r) t = tt
 refused_of entry old new (Err f) t =
     let does : Books entry t.before t.after (number old) (Err f) = t.call in

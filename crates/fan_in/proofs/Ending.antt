@@ -10,10 +10,9 @@ use Rattle.turnstile.specs.declared.keeps.Keeps.{Ghosts}
 use Rattle.turnstile.specs.declared.pass.Pass.{Pass}
 use Rattle.turnstile.specs.declared.turnstile.Turnstile.{Turnstile}
 use Rattle.turnstile.specs.Passes.{born, fixed, made}
-use Rattle.fan_in.specs.Closings.{AreClosed, AreStanding, EndAt, IsClosed, IsSettled, LoseLast, SettlesLast, last_of}
+use Rattle.fan_in.specs.Closings.{AreClosed, AreStanding, EndAt, IsClosed, IsSettled, LoseLast, MadeOwn, SettlesLast, last_of}
 use Rattle.fan_in.specs.Desks.{BookedState}
 use Rattle.fan_in.specs.Floors.{IsSeat, IsZero}
-use Rattle.fan_in.specs.Reading.{MadeOwn}
 use Rattle.fan_in.specs.declared.fixed_part.FixedPart.{FixedPart}
 
 module _ {g : Ghosts BookedState Entry FixedPart} (f : Option FixedPart) (sources n : ℕ) (first : List (Vec (Pass BookedState Entry FixedPart g) Global)) where

@@ -3,6 +3,7 @@ use Rattle.std.proofs.Common.{◌≡◌, ◌≤◌, ◌<◌, ◌+◌, arith, ℕ
 use Rattle.std.specs.Prelude.{All, IfSome, Vec}
 use Rattle.std.specs.declared.alloc.Global.{Global}
 use Rattle.stream_base.specs.declared.entry.Entry.{Entry}
+use Rattle.stream_base.specs.declared.limits.TheConstants.{JOURNAL_MAX}
 use Rattle.stream_base.specs.Model.Routes.{routed}
 use Rattle.shard_core.specs.Shard.{Sharded}
 use Rattle.source_feed.specs.FeedView.{FeedView}
@@ -12,23 +13,20 @@ use Rattle.source_feed.specs.declared.feed_fault.FeedFault.TheVariants.{Read, No
 use Rattle.turnstile.specs.declared.keeps.Keeps.{Ghosts}
 use Rattle.turnstile.specs.declared.pass.Pass.{Pass}
 use Rattle.turnstile.specs.declared.turnstile.Turnstile.{Turnstile}
-use Rattle.turnstile.specs.Passes.{made}
-use Rattle.fan_in.specs.Closings.{AreStanding, IsClosed, IsSettled}
+use Rattle.turnstile.specs.Passes.{made, seen}
+use Rattle.fan_in.specs.Closings.{AreStanding, IsClosed, IsSettled, MadeOwn}
 use Rattle.fan_in.specs.Desks.{BookedState}
 use Rattle.fan_in.specs.Floors.{AreSeats, IsFloor}
-use Rattle.fan_in.specs.Gathering.{Bears, HoldsPart, IsBack, IsFault, IsFresh, NamesOneOf}
-use Rattle.fan_in.specs.Reading.{AreSame, HasMade, HaveMade, IsReadyAt, MadeOwn}
+use Rattle.fan_in.specs.Gathering.{GaveStream, HoldsFirst, FeedEnded, IsFault, IsFresh, NamesOneOf}
+use Rattle.fan_in.specs.Ports.{HasHanded}
+use Rattle.fan_in.specs.Reading.{AreSame, HaveHanded, IsReadyAt}
 use Rattle.fan_in.specs.Works.{without_shards}
 use Rattle.fan_in.specs.declared.fixed_part.FixedPart.{FixedPart}
 use Rattle.fan_in.specs.declared.outcome.Outcome.{Outcome}
 use Rattle.fan_in.specs.declared.outcome.Outcome.TheVariants.{Done, Fault, Full}
+use Rattle.fan_in.proofs.Backs.{back_without}
 use Rattle.fan_in.proofs.Lists.{some_of}
-
--- a feed is handed back as before where no shard can be handed out
-pub back_without : (start back : FeedView) (o : Outcome) (old new : ℕ) → IsBack start back o old new → IsBack start back (without_shards o) old new
-back_without start back Done old new b = record { of_source = b.of_source; shows = inr refl; origin = b.origin; seen = b.seen; bears = tt; read = λ e. absurd (let f : NoMemory ≡ Read = cc in cc); quiet = λ _. b.quiet (λ e. cc) }
-back_without start back (Full shard) old new b = record { of_source = b.of_source; shows = inr refl; origin = b.origin; seen = b.seen; bears = tt; read = λ e. absurd (let f : NoMemory ≡ Read = cc in cc); quiet = λ _. b.quiet (λ e. cc) }
-back_without start back (Fault fault) old new b = b
+use Rattle.fan_in.specs.Seating.{pass_port}
 
 pub fault_without : (o : Outcome) → IsFault (without_shards o)
 fault_without Done = tt
@@ -41,15 +39,15 @@ named_without shards (Full shard) = tt
 named_without shards (Fault fault) = tt
 
 -- the outcome stays where shards are handed out
-pub back_of : {X : Type 0} (state : X → FeedView) (faults : X → ℕ) (a x y : X) (o p : Outcome) → y ≡ x → (p ≡ without_shards o) ⊎ (p ≡ o) → IsBack (state a) (state x) o (faults a) (faults x) → IsBack (state a) (state y) p (faults a) (faults y)
+pub back_of : {X : Type 0} (state : X → FeedView) (faults : X → ℕ) (a x y : X) (o p : Outcome) → y ≡ x → (p ≡ without_shards o) ⊎ (p ≡ o) → FeedEnded (state a) (state x) o (faults a) (faults x) → FeedEnded (state a) (state y) p (faults a) (faults y)
 back_of state faults a x y o p e choice b =
-    subst (λ z. IsBack (state a) (state z) p (faults a) (faults z)) (sym e)
-    (⊎_elim (λ w. subst (λ q. IsBack (state a) (state x) q (faults a) (faults x)) (sym w) (back_without (state a) (state x) o (faults a) (faults x) b)) (λ w. subst (λ q. IsBack (state a) (state x) q (faults a) (faults x)) (sym w) b) choice)
+    subst (λ z. FeedEnded (state a) (state z) p (faults a) (faults z)) (sym e)
+    (⊎_elim (λ w. subst (λ q. FeedEnded (state a) (state x) q (faults a) (faults x)) (sym w) (back_without (state a) (state x) o (faults a) (faults x) b)) (λ w. subst (λ q. FeedEnded (state a) (state x) q (faults a) (faults x)) (sym w) b) choice)
 
 module _ {g : Ghosts BookedState Entry FixedPart} where
   -- a feed that wasn't read is ready to be read at the desks of its seats
   pub ready : (start : FeedView) (i : ℕ) (desks : List (Turnstile BookedState Entry FixedPart)) (f : FixedPart) (row : List (Pass BookedState Entry FixedPart g)) → IsFresh i start → AreSeats (Some f) i desks row → All (λ p. made p ≡ []) row → i < f.sources
-      → length desks ≤ 16 → IsReadyAt desks start Done row
+      → length desks ≤ 16 → IsReadyAt pass_port desks start Done row
   ready start i desks f row fresh seats blank l few = record {
     stand = record {
       few = few;
@@ -61,19 +59,18 @@ module _ {g : Ghosts BookedState Entry FixedPart} where
       unanswered = fresh.unanswered;
       unread = fresh.blank;
       done = refl;
-      known = λ k p lk.
-          let ld : k < length desks = let m = seats.many in omega arith in
-          let seat = seats.each k (some_of desks k ld) p ld in
-          subst (λ (o : Option FixedPart). IfSome o (λ f. start.source < f.sources)) (sym seat.fixed_is) (subst (λ s. s < f.sources) (sym fresh.of_source) l);
       own_source = λ k p lk.
           let ld : k < length desks = let m = seats.many in omega arith in
-          (seats.each k (some_of desks k ld) p ld).number_is ∙ ap (λ s. s + 1) (sym fresh.of_source);
+          let seat = seats.each k (some_of desks k ld) p ld in (
+            seat.number_is ∙ ap (λ s. s + 1) (sym fresh.of_source),
+            subst (λ (o : Option FixedPart). IfSome o (λ f. start.source < f.sources)) (sym seat.fixed_is) (subst (λ s. s < f.sources) (sym fresh.of_source) l),
+          );
       blank = blank;
     };
   }
 
   pub standing : (f : Option FixedPart) (sources : ℕ) (desks : List (Turnstile BookedState Entry FixedPart)) (zeros : List (Pass BookedState Entry FixedPart g)) (rows rows' : List (Vec (Pass BookedState Entry FixedPart g) Global))
-      → IsFloor f sources desks zeros rows → length rows' ≡ sources → ((i : ℕ) (row : Vec (Pass BookedState Entry FixedPart g) Global) → i < sources → AreSame (get_or rows i row).items (get_or rows' i row).items)
+      → IsFloor f sources desks zeros rows → length rows' ≡ sources → ((i : ℕ) (row : Vec (Pass BookedState Entry FixedPart g) Global) → i < sources → AreSame pass_port (get_or rows i row).items (get_or rows' i row).items)
       → ((i : ℕ) (row : Vec (Pass BookedState Entry FixedPart g) Global) → i < sources → MadeOwn i (get_or rows' i row).items) → AreStanding f sources desks zeros rows'
   standing f sources desks zeros rows rows' floor many same own = record {
     zeros_are = floor.zeros_are;
@@ -90,17 +87,17 @@ module _ {g : Ghosts BookedState Entry FixedPart} where
     own = own;
   }
 
-  part : (shards k i : ℕ) (entries : List Entry) (o : Outcome) (f : Option FixedPart) (shard : Sharded) (p : Pass BookedState Entry FixedPart g) → IsClosed f shard → IsSettled shard i p → HasMade (routed shards k entries) k o p
-      → HoldsPart shards k i entries o shard.journal
+  part : (shards k i : ℕ) (entries : List Entry) (o : Outcome) (f : Option FixedPart) (shard : Sharded) (p : Pass BookedState Entry FixedPart g) → IsClosed f shard → IsSettled shard i p → HasHanded (routed shards k entries) k o (made p) (length (seen p) ≡ JOURNAL_MAX)
+      → HoldsFirst shards k i entries o shard.journal
   part shards k i entries o f shard p closed settled has = record {
     prefix = (has.begins.0, has.begins.1 ∙ ap (λ l. l ++ has.begins.0) (sym settled.journal));
     whole = λ e. settled.journal ∙ has.whole e;
-    full = λ e. let a = has.full e in let b = settled.seen_of in let c = closed.short in omega arith;
+    full = λ e. let a = has.is_full e in let b = settled.seen_of in let c = closed.short in omega arith;
     lacks = λ e. subst (λ (l : List Entry). length l < length (routed shards k entries)) (sym settled.journal) (has.lacks e);
   }
 
   -- of the entries that a feed gave, a shard holds its part
   pub parts_of : (entries : List Entry) (shards k i : ℕ) (o : Outcome) (f : Option FixedPart) (shard : Sharded) (row : List (Pass BookedState Entry FixedPart g)) → IsClosed f shard → k < length row
-      → ((p : Pass BookedState Entry FixedPart g) → IsSettled shard i (get_or row k p)) → HaveMade shards entries o row → HoldsPart shards k i entries o shard.journal
+      → ((p : Pass BookedState Entry FixedPart g) → IsSettled shard i (get_or row k p)) → HaveHanded pass_port shards entries o row → HoldsFirst shards k i entries o shard.journal
   parts_of entries shards k i o f shard row closed l settled h =
       let p = some_of row k l in part shards k i entries o f shard (get_or row k p) closed (settled p) (h k p l)

@@ -17,7 +17,7 @@ use Rattle.mail_lane.proofs.Letters.{messages_of-among, never_empty, sent_by-pas
 use Rattle.fan_in.specs.declared.outcome.Outcome.{Outcome}
 use Rattle.fan_in.specs.declared.outcome.Outcome.TheVariants.{Done}
 use Rattle.fan_in.specs.Owning.{HasNoted, HasStray, entries_in, note_of}
-use Rattle.fan_in.specs.Sending.{AreFrom, EndsLast}
+use Rattle.fan_in.specs.Reading.{AreFrom, EndsLast}
 use Rattle.fan_in.specs.Settling.{HoldsSent}
 
 -- where no entry but the last is an end, no source has ended before an entry

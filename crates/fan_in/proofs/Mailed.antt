@@ -9,32 +9,38 @@ use Rattle.source_feed.specs.declared.feed_fault.FeedFault.{FeedFault}
 use Rattle.mail_lane.specs.Lane.{Lane, SenderState}
 use Rattle.fan_in.specs.declared.outcome.Outcome.{Outcome}
 use Rattle.fan_in.specs.declared.outcome.Outcome.TheVariants.{Done}
-use Rattle.fan_in.specs.declared.owner_job.OwnerJob.{OwnerJob}
-use Rattle.fan_in.specs.Gathering.{IsBack, IsFresh}
+use Rattle.fan_in.specs.declared.mail.owner_job.OwnerJob.{OwnerJob}
+use Rattle.fan_in.specs.Gathering.{FeedEnded, IsFresh}
 use Rattle.fan_in.specs.Posts.{AreBoxesOf, IsPost}
-use Rattle.fan_in.specs.Sending.{AreFrom, AreSameSenders, IsOwnOutcome, IsReadyToSend}
+use Rattle.fan_in.specs.Reading.{AreFrom, AreSame, IsReadyAt}
 use Rattle.fan_in.specs.Settling.{AreSentRows, Follows}
+use Rattle.fan_in.specs.Sending.{sender_port}
 use Rattle.fan_in.proofs.Lists.{some_of}
 use Rattle.fan_in.proofs.Outcomes.{back_follows}
 
 -- a feed that wasn't read is ready to be read and sent
-pub ready : (start : FeedView) (i : ℕ) (lanes : List Lane) (row : List (SenderState Entry)) → length lanes ≤ 16 → IsFresh i start → AreBoxesOf i lanes row → All (λ s. s.sent ≡ []) row → IsReadyToSend lanes start Done row
+pub ready : (start : FeedView) (i : ℕ) (lanes : List Lane) (row : List (SenderState Entry)) → length lanes ≤ 16 → IsFresh i start → AreBoxesOf i lanes row → All (λ s. s.sent ≡ []) row → IsReadyAt sender_port lanes start Done row
 ready start i lanes row few fresh boxes blank = record {
-  lanes_are = record {
+  stand = record {
     few = few;
     many = boxes.many;
     own = λ k l s lt. (boxes.each k l s (let m = boxes.many in omega arith)).lane_is;
   };
-  running = fresh.running;
-  unanswered = fresh.unanswered;
-  unread = fresh.blank;
-  done = refl;
-  blank = blank;
+  ready = record {
+    running = fresh.running;
+    unanswered = fresh.unanswered;
+    unread = fresh.blank;
+    done = refl;
+    own_source = λ k s lk.
+        let ll : k < length lanes = let m = boxes.many in omega arith in
+        (boxes.each k (some_of lanes k ll) s ll).number_is ∙ sym fresh.of_source;
+    blank = blank;
+  };
 }
 
 -- the rows of senders after all feeds were read
 pub sent_rows : (d : Definitions) (sources : ℕ) (lanes : List Lane) (owners : List OwnerJob) (rows rows' : List (Vec (SenderState Entry) Global)) → IsPost d sources lanes owners rows → length rows' ≡ sources
-    → ((i : ℕ) (row row' : Vec (SenderState Entry) Global) → i < sources → AreSameSenders (get_or rows i row).items (get_or rows' i row').items)
+    → ((i : ℕ) (row row' : Vec (SenderState Entry) Global) → i < sources → AreSame sender_port (get_or rows i row).items (get_or rows' i row').items)
     → ((i k : ℕ) (row' : Vec (SenderState Entry) Global) (s : SenderState Entry) → i < sources → k < length (get_or rows' i row').items → AreFrom i (get_or (get_or rows' i row').items k s).sent) → AreSentRows sources lanes rows'
 sent_rows d sources lanes owners rows rows' post many same from = record {
   many = many;
@@ -58,7 +64,7 @@ sent_rows d sources lanes owners rows rows' post many same from = record {
     before i l = some_of rows i (let m = post.many in omega arith)
 
 -- a feed is handed back as it was when it had been read, with an outcome that follows its own
-pub back_at : {X : Type 0} (state : X → FeedView) (faults : X → ℕ) (n : ℕ) (a x y : X) (own o : Outcome) → y ≡ x → IsOwnOutcome own → Follows n own o → IsBack (state a) (state x) own (faults a) (faults x)
-    → IsBack (state a) (state y) o (faults a) (faults y)
-back_at state faults n a x y own o e w f b =
-    subst (λ z. IsBack (state a) (state z) o (faults a) (faults z)) (sym e) (back_follows n (state a) (state x) own o (faults a) (faults x) w f b)
+pub back_at : {X : Type 0} (state : X → FeedView) (faults : X → ℕ) (n : ℕ) (a x y : X) (own o : Outcome) → y ≡ x → Follows n own o → FeedEnded (state a) (state x) own (faults a) (faults x)
+    → FeedEnded (state a) (state y) o (faults a) (faults y)
+back_at state faults n a x y own o e f b =
+    subst (λ z. FeedEnded (state a) (state z) o (faults a) (faults z)) (sym e) (back_follows n (state a) (state x) own o (faults a) (faults x) f b)

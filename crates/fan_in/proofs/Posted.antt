@@ -12,9 +12,9 @@ use Rattle.stream_base.specs.declared.entry.Entry.{Entry}
 use Rattle.mail_lane.specs.declared.letter.Letter.{Letter}
 use Rattle.mail_lane.specs.Lane.{Lane, ReceiverState, SenderState, letter, AreSendersOf, IsReceiverOf, ReceivesOne}
 use Rattle.shard_core.specs.Shard.{Sharded}
-use Rattle.fan_in.specs.declared.owner.Owner.{Owner}
+use Rattle.fan_in.specs.declared.mail.owner.Owner.{Owner}
 use Rattle.fan_in.specs.Owning.{OwnsAfter, entries_in}
-use Rattle.fan_in.specs.declared.owner_job.OwnerJob.{OwnerJob}
+use Rattle.fan_in.specs.declared.mail.owner_job.OwnerJob.{OwnerJob}
 use Rattle.fan_in.specs.Posts.{GainBoxes, GainsBox, IsBoxOf, IsPost, OwnsLane}
 use Rattle.fan_in.proofs.Lists.{next_is, push_at}
 

@@ -8,16 +8,18 @@ use Rattle.std.proofs.lemmas.List.{get_or_append_left, get_or_default, get_or-dr
 use Rattle.std.proofs.lemmas.List.Elements.{All-nil, All-push}
 use Rattle.stream_base.specs.Limits.{Definitions}
 use Rattle.stream_base.specs.declared.entry.Entry.{Entry}
+use Rattle.stream_base.specs.declared.limits.TheConstants.{JOURNAL_MAX}
 use Rattle.shard_core.specs.Shard.{IsJournal, Sharded}
 use Rattle.mail_lane.specs.declared.letter.Letter.{Letter}
 use Rattle.mail_lane.specs.Lane.{Lane, ReceiverState, SenderState, SettledState, GivesOne, IsReceiverOf, TakenWhole, letter, messages_of, sent_by, with_back}
 use Rattle.fan_in.specs.declared.outcome.Outcome.{Outcome}
-use Rattle.fan_in.specs.declared.owner.Owner.{Owner}
-use Rattle.fan_in.specs.declared.owner_job.OwnerJob.{OwnerJob}
+use Rattle.fan_in.specs.declared.outcome.Outcome.TheVariants.{Full}
+use Rattle.fan_in.specs.declared.mail.owner.Owner.{Owner}
+use Rattle.fan_in.specs.declared.mail.owner_job.OwnerJob.{OwnerJob}
 use Rattle.fan_in.specs.Owning.{OwnsAfter, entries_in, note_of}
 use Rattle.fan_in.specs.Posts.{AreOwned, IsBoxOf, OwnsLane}
-use Rattle.fan_in.specs.Reading.{IsAbout}
-use Rattle.fan_in.specs.Sending.{AreFrom, IsOwnOutcome}
+use Rattle.fan_in.specs.Ports.{IsAbout}
+use Rattle.fan_in.specs.Reading.{AreFrom}
 use Rattle.fan_in.specs.Settling.{AreSentRows, Follows, HoldsSent, IsSettledShard, LoseFirst, StartWith, StartsWith, worse}
 use Rattle.fan_in.proofs.Lettered.{holds, no_stray}
 use Rattle.fan_in.proofs.Lists.{next_is, some_of}
@@ -140,8 +142,8 @@ module _ {E : Type 0} (out : E → Outcome) where
     pub held : (j i : ℕ) (row : Vec (SenderState Entry) Global) (b : SenderState Entry) (e : E) (s : Sharded) → j < k → i < n → HoldsSent j i (get_or (get_or rows i row).items j b).sent (out (get_or news i e)) (get_or shards j s).journal
 
   pub settle_none : (d : Definitions) (n : ℕ) (lanes : List Lane) (owners : List OwnerJob) (rows : List (Vec (SenderState Entry) Global)) (shards : List Sharded) (olds : List E)
-      → AreSentRows n lanes rows → shards ≡ [] → length olds ≡ n → All (λ e. IsOwnOutcome (out e)) olds → IsSettling d n 0 lanes lanes owners owners rows rows shards olds olds
-  settle_none d n lanes owners rows shards olds sent none many own = record {
+      → AreSentRows n lanes rows → shards ≡ [] → length olds ≡ n → IsSettling d n 0 lanes lanes owners owners rows rows shards olds olds
+  settle_none d n lanes owners rows shards olds sent none many = record {
     lanes_left = refl;
     owners_left = refl;
     many_rows = sent.many;
@@ -150,12 +152,13 @@ module _ {E : Type 0} (out : E → Outcome) where
     settled = subst (λ (l : List Sharded). All (IsSettledShard d n) l) (sym none) (All-nil (IsSettledShard d n));
     many_olds = many;
     many_news = many;
-    follows = λ i e l. follows_first (out (get_or olds i e)) (own i e (omega arith));
+    follows = λ i e l. follows_first (out (get_or olds i e));
     held = λ j i row b e s l l'. absurd (omega arith);
   }
 
   module _ (d : Definitions) (n k : ℕ) (lanes lanes' : List Lane) (owners owners' : List OwnerJob) (rows rows' : List (Vec (SenderState Entry) Global)) (shards : List Sharded) (olds news : List E)
       (mail : Lane) (job : OwnerJob) (h : IsSettling d n k lanes lanes' owners owners' rows rows' shards olds news) (owned : AreOwned d n lanes owners) (sent : AreSentRows n lanes rows) (lk : k < length lanes)
+      (over : (i k : ℕ) (row : Vec (SenderState Entry) Global) (s : SenderState Entry) (e : E) → i < length olds → out (get_or olds i e) ≡ Full k → JOURNAL_MAX < length (get_or (get_or rows i row).items k s).sent)
       (mail_is : mail ≡ get_or lanes' 0 mail) (job_is : job ≡ get_or owners' 0 job) where
     plus_none : k + 0 ≡ k
     plus_none = omega arith
@@ -218,7 +221,7 @@ module _ {E : Type 0} (out : E → Outcome) where
           (λ ge. let same : k ≡ j = omega arith in
           subst (λ (x : Sharded). HoldsSent j i these (worse o note) x.journal) (sym (get_or_push shards owner.shard s j (h.many ∙ same)))
           (subst (λ (m : ℕ). HoldsSent m i (get_or (get_or rows i row).items m b).sent (worse o note) (owner.shard).journal) same
-          (held_now k i (get_or (get_or rows i row).items k b).sent (owner.shard).journal (out (get_or olds i e)) o note (h.follows i e l) (held_k i row b l))))
+          (held_now k i (get_or (get_or rows i row).items k b).sent (owner.shard).journal (out (get_or olds i e)) o note settled.short (about_k i) (over i k row b e (let m = h.many_olds in omega arith)) (h.follows i e l) (held_k i row b l))))
           (cases_lt j k));
     }
       where

@@ -1,13 +1,16 @@
 -- A shard with its numbers by its fields.
-use Rattle.std.specs.Prelude.{◌≡◌, length}
+use Rattle.std.specs.Prelude.{◌≡◌, ℕ, All, length}
+use Rattle.stream_base.specs.declared.entry.Entry.{Entry}
 use Rattle.shard_core.specs.Shard.{IsJournal}
-use Rattle.fan_in.specs.Desks.{BookedState}
-use Rattle.fan_in.specs.declared.booked.Booked.TheInside.{Inside}
+use Rattle.fan_in.specs.Desks.{BookedState, items_of}
+use Rattle.fan_in.specs.declared.booked.BookedBy.TheInside.{Inside}
 
-abbrev pub booked_state : Inside → BookedState
-booked_state a = record { shard = a.shard; numbers = a.numbers.items }
+module _ {N : Type 0} where
+  abbrev pub booked_state : Inside N → BookedState
+  booked_state a = record { shard = a.shard; numbers = a.numbers.items }
 
--- each entry has a number, and the journal is one of a shard
-pub record IsBooked (a : Inside) : Type 0 where
-  pub numbered : length a.numbers.items ≡ length (a.shard).journal
-  pub journal : IsJournal (a.shard).sources (a.shard).journal
+  -- each entry has a number, one that it may have, and the journal is one of a shard
+  pub record IsBooked (may : ℕ → Entry → Type 0) (a : Inside N) : Type 0 where
+    pub numbered : length a.numbers.items ≡ length (a.shard).journal
+    pub journal : IsJournal (a.shard).sources (a.shard).journal
+    pub made : All (λ item. may item.0 item.1) (items_of (booked_state a))

@@ -9,12 +9,11 @@ use Rattle.turnstile.specs.declared.keeps.Keeps.{Ghosts}
 use Rattle.turnstile.specs.declared.pass.Pass.{Pass}
 use Rattle.turnstile.specs.declared.turnstile.Turnstile.{Turnstile}
 use Rattle.turnstile.specs.Passes.{made, seen}
-use Rattle.fan_in.specs.Desks.{BookedState}
+use Rattle.fan_in.specs.Desks.{BookedState, booked_items}
 use Rattle.fan_in.specs.Floors.{AreSeats, AreZeros, IsSeat, known_in}
 use Rattle.fan_in.specs.Gathering.{IsGathered}
-use Rattle.fan_in.specs.Reading.{MadeOwn}
 use Rattle.fan_in.specs.declared.fixed_part.FixedPart.{FixedPart}
-use Rattle.fan_in.specs.declared.floor.Floor.{Floor}
+use Rattle.fan_in.specs.declared.turns.floor.Floor.{Floor}
 use Rattle.fan_in.specs.declared.plan.Plan.{Plan}
 
 -- the shard of a closed desk
@@ -65,6 +64,10 @@ module _ {g : Ghosts BookedState Entry FixedPart} where
     pub settled : (k i : ℕ) (s : Sharded) (row : Vec (Pass BookedState Entry FixedPart g) Global) (p : Pass BookedState Entry FixedPart g) → k < length shards → i < length rows
         → IsSettled (slice_index_or shards k s) i (slice_index_or (slice_index_or rows i row).items k p)
 
+  -- the passes made entries of this source alone
+  abbrev pub MadeOwn : ℕ → List (Pass BookedState Entry FixedPart g) → Type 0
+  MadeOwn source passes = All (λ p. All (λ e. e.source ≡ source) (made p)) passes
+
   -- desks with pass zero of each, and rows of their passes, one a source, which made entries of their source alone
   pub record AreStanding (f : Option FixedPart) (sources : ℕ) (desks : List (Turnstile BookedState Entry FixedPart)) (zeros : List (Pass BookedState Entry FixedPart g)) (rows : List (Vec (Pass BookedState Entry FixedPart g) Global)) : Type 0 where
     pub zeros_are : AreZeros f sources desks zeros
@@ -73,5 +76,5 @@ module _ {g : Ghosts BookedState Entry FixedPart} where
     pub own : (i : ℕ) (row : Vec (Pass BookedState Entry FixedPart g) Global) → i < sources → MadeOwn i (slice_index_or rows i row).items
 
 -- a floor of this plan, whose rows of passes made entries of their sources alone
-abbrev pub IsStandingOf : Plan → Floor → Type 0
-IsStandingOf plan floor = AreStanding (known_in plan) plan.sources floor.desks.items floor.zeros.items floor.rows.items
+abbrev pub IsStandingOf : Plan → Floor → List (Vec (Pass BookedState Entry FixedPart booked_items) Global) → Type 0
+IsStandingOf plan floor rows = AreStanding (known_in plan) plan.sources floor.desks.items floor.zeros.items rows

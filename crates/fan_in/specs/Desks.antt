@@ -1,8 +1,9 @@
 -- A shard under a ticket lock: its journal, each entry with the number of the pass that made it.
-use Rattle.std.specs.Prelude.{◌≡◌, ◌+◌, ◌++◌, ℕ, List, [], ◌∷◌, All, map}
+use Rattle.std.specs.Prelude.{◌≡◌, ◌+◌, ◌++◌, ℕ, List, [], ◌∷◌, map}
 use Rattle.std.specs.List.{zip}
 use Rattle.stream_base.specs.declared.entry.Entry.{Entry}
 use Rattle.shard_core.specs.Shard.{Sharded, sharded_with}
+use Rattle.turnstile.specs.declared.keeps.Keeps.{Ghosts}
 use Rattle.fan_in.specs.declared.fixed_part.FixedPart.{FixedPart}
 
 -- a shard, and the numbers of the passes that made its entries, in the order of the journal
@@ -22,10 +23,10 @@ items_of b = zip b.numbers (b.shard).journal
 abbrev pub fixed_of : BookedState → FixedPart
 fixed_of b = record { defs = (b.shard).defs; sources = (b.shard).sources }
 
--- each entry has the number of its source's pass, which is one above the source's
-abbrev pub AreBySource : List (ℕ × Entry) → Type 0
-AreBySource items = All (λ item. item.0 ≡ (item.1).source + 1) items
-
 -- the entries of items
 abbrev pub entries_of : List (ℕ × Entry) → List Entry
 entries_of items = map (λ item. item.1) items
+
+-- what each desk keeps
+abbrev pub booked_items : Ghosts BookedState Entry FixedPart
+booked_items = record { items = items_of; fixed = fixed_of }

@@ -6,9 +6,9 @@ use Rattle.turnstile.specs.declared.keeps.Keeps.{Ghosts}
 use Rattle.turnstile.specs.declared.pass.Pass.{Pass}
 use Rattle.turnstile.specs.declared.turnstile.Turnstile.{Turnstile}
 use Rattle.turnstile.specs.Passes.{number, fixed, made, born, IsPassOf}
-use Rattle.fan_in.specs.Desks.{BookedState}
+use Rattle.fan_in.specs.Desks.{BookedState, booked_items}
 use Rattle.fan_in.specs.declared.fixed_part.FixedPart.{FixedPart}
-use Rattle.fan_in.specs.declared.floor.Floor.{Floor}
+use Rattle.fan_in.specs.declared.turns.floor.Floor.{Floor}
 use Rattle.fan_in.specs.declared.plan.Plan.{Plan}
 
 module _ {g : Ghosts BookedState Entry FixedPart} where
@@ -61,6 +61,6 @@ module _ {g : Ghosts BookedState Entry FixedPart} where
 abbrev pub known_in : Plan → Option FixedPart
 known_in plan = Some (record { defs = plan.defs; sources = plan.sources })
 
--- a floor of this plan, of the desks that were opened so far
-abbrev pub IsFloorOf : Plan → Floor → Type 0
-IsFloorOf plan floor = IsFloor (known_in plan) plan.sources floor.desks.items floor.zeros.items floor.rows.items
+-- a floor of this plan, of the desks that were opened so far, and the rows of their passes
+abbrev pub IsFloorOf : Plan → Floor → List (Vec (Pass BookedState Entry FixedPart booked_items) Global) → Type 0
+IsFloorOf plan floor rows = IsFloor (known_in plan) plan.sources floor.desks.items floor.zeros.items rows

@@ -41,24 +41,24 @@ NamesOneOf shards Done = ⊤
 NamesOneOf shards (Full shard) = shard < shards
 NamesOneOf shards (Fault fault) = ⊤
 
--- a feed that was handed back bears its outcome out: what it gave is the stream of its source, with no refusal, or with the one that the fault shows, if it shows one
-abbrev pub Bears : FeedView → Outcome → Type 0
-Bears back Done = back.whole ≡ Some (given_then back.gave None)
-Bears back (Full shard) = back.whole ≡ Some (given_then back.gave None)
-Bears back (Fault fault) = IfSome (refusal_of fault) (λ refusal. back.whole ≡ Some (given_then back.gave (Some refusal)))
+-- what a feed gave that was handed back with this outcome is the stream of its source, with no refusal, or with the one that the fault shows, if it shows one
+abbrev pub GaveStream : FeedView → Outcome → Type 0
+GaveStream back Done = back.whole ≡ Some (given_then back.gave None)
+GaveStream back (Full shard) = back.whole ≡ Some (given_then back.gave None)
+GaveStream back (Fault fault) = IfSome (refusal_of fault) (λ refusal. back.whole ≡ Some (given_then back.gave (Some refusal)))
 
 -- how a feed was handed in and back, with its outcome and its counts of failed reads
-pub record IsBack (start back : FeedView) (outcome : Outcome) (old new : ℕ) : Type 0 where
+pub record FeedEnded (start back : FeedView) (outcome : Outcome) (old new : ℕ) : Type 0 where
   pub of_source : back.source ≡ start.source
   pub shows : Shows back outcome
   pub origin : back.origin ≡ start.origin
   pub seen : StaysTold start.whole back.whole
-  pub bears : Bears back outcome
+  pub gave_stream : GaveStream back outcome
   pub read : outcome ≡ Fault Read → Rose old new
   pub quiet : outcome ≢ Fault Read → new ≡ old
 
 -- of these entries of a source that are routed to a shard, its journal holds the first ones, in order: all of them where the outcome is `Done`, and not all where this shard was full for them, which it then is
-pub record HoldsPart (shards k : ℕ) (source : ℕ) (entries : List Entry) (outcome : Outcome) (journal : List Entry) : Type 0 where
+pub record HoldsFirst (shards k : ℕ) (source : ℕ) (entries : List Entry) (outcome : Outcome) (journal : List Entry) : Type 0 where
   pub prefix : BeginsWith (routed shards k entries) (entries_from source journal)
   pub whole : outcome ≡ Done → entries_from source journal ≡ routed shards k entries
   pub full : outcome ≡ Full k → length journal ≡ JOURNAL_MAX
@@ -87,10 +87,10 @@ module _ {F : Type 0} (state : F → FeedView) where
     pub record AreGathered (d : Definitions) (sources shards : ℕ) (feeds : List F) (handed : List Sharded) (ends : List (FeedEnd F)) : Type 0 where
       pub many_ends : length ends ≡ sources
       pub back : (i : ℕ) (f : F) (e : FeedEnd F) → i < sources → let start = slice_index_or feeds i f in let end = slice_index_or ends i e in
-          IsBack (state start) (state end.feed) end.outcome (faults start) (faults end.feed)
+          FeedEnded (state start) (state end.feed) end.outcome (faults start) (faults end.feed)
       pub named : (i : ℕ) (e : FeedEnd F) → i < sources → NamesOneOf shards (slice_index_or ends i e).outcome
       pub many_shards : (handed ≡ []) ⊎ (length handed ≡ shards)
       pub none : handed ≡ [] → (i : ℕ) (e : FeedEnd F) → i < sources → IsFault (slice_index_or ends i e).outcome
       pub alike : (k : ℕ) (s : Sharded) → k < length handed → IsGathered d sources (slice_index_or handed k s)
       pub parts : (k i : ℕ) (s : Sharded) (e : FeedEnd F) → k < length handed → i < sources
-          → (let end = slice_index_or ends i e in HoldsPart shards k i (state end.feed).gave end.outcome (slice_index_or handed k s).journal)
+          → (let end = slice_index_or ends i e in HoldsFirst shards k i (state end.feed).gave end.outcome (slice_index_or handed k s).journal)

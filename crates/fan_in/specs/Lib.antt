@@ -3,12 +3,15 @@ pub mod BookedView
 pub mod Offers
 pub mod Gathering
 pub mod Routing
+pub mod Ports
+pub mod Seating
 pub mod Reading
+pub mod Readers
 pub mod Floors
 pub mod Closings
 pub mod Works
 pub mod Sending
 pub mod Owning
 pub mod Posts
-pub mod Tasks
+pub mod Owners
 pub mod Settling

@@ -1,5 +1,5 @@
 -- One offer of an entry to a desk: a turn that applies it.
-use Rattle.std.specs.Prelude.{◌≡◌, ◌≢◌, ◌<◌, ℕ, true, false, List, [], ◌∷◌, ◌++◌, length, IfSome, IfOk, OnOk, IfErr, OnErr, ⊤}
+use Rattle.std.specs.Prelude.{◌≡◌, ◌≢◌, ◌<◌, ℕ, true, false, List, [], ◌∷◌, ◌++◌, length, IfSome, IfOk, OnOk, IfErr, OnErr, All, ⊤}
 use Rattle.std.specs.declared.result.Result.{Result}
 use Rattle.stream_base.specs.declared.limits.TheConstants.{JOURNAL_MAX}
 use Rattle.stream_base.specs.declared.entry.Entry.{Entry}
@@ -11,7 +11,7 @@ use Rattle.shard_core.specs.declared.applied.ApplyFault.{ApplyFault}
 use Rattle.shard_core.specs.declared.applied.ApplyFault.TheVariants.{Ended, Full, NoMemory}
 use Rattle.turnstile.specs.declared.keeps.Keeps.{Ghosts}
 use Rattle.turnstile.specs.declared.pass.Pass.{Pass}
-use Rattle.turnstile.specs.History.{BeginsWith}
+use Rattle.turnstile.specs.History.{BeginsWith, of_number}
 use Rattle.turnstile.specs.Passes.{number, fixed, seen, made, IsSamePass}
 use Rattle.fan_in.specs.Desks.{BookedState, booked_with, entries_of}
 use Rattle.fan_in.specs.declared.fixed_part.FixedPart.{FixedPart}
@@ -64,3 +64,10 @@ module _ {g : Ghosts BookedState Entry FixedPart} where
     pub same : IsSamePass old new
     pub offered : IfOk reply (IsOffered entry old new)
     pub refused : IfErr reply (IsRefused entry old new)
+
+  -- an offer of an entry whose source has ended found its end: the items there had numbers that they may have, and under the pass's number stood what the pass had made
+  pub record FoundEnded (may : ℕ → Entry → Type 0) (entry : Entry) (old : Pass BookedState Entry FixedPart g) : Type 0 where
+    pub found : List (ℕ × Entry)
+    pub made_by : All (λ item. may item.0 item.1) found
+    pub own : of_number (number old) found ≡ made old
+    pub ended : has_ended entry.source (entries_of found) ≡ true

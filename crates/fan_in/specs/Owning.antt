@@ -9,8 +9,8 @@ use Rattle.stream_base.specs.Model.Watermark.{has_ended}
 use Rattle.mail_lane.specs.declared.letter.Letter.{Letter}
 use Rattle.fan_in.specs.declared.outcome.Outcome.{Outcome}
 use Rattle.fan_in.specs.declared.outcome.Outcome.TheVariants.{Done, Full}
-use Rattle.fan_in.specs.declared.owner.Owner.{Owner}
-use Rattle.fan_in.specs.Reading.{IsAbout}
+use Rattle.fan_in.specs.declared.mail.owner.Owner.{Owner}
+use Rattle.fan_in.specs.Ports.{IsAbout}
 
 -- the note on a source: `Done` where none of its entries was refused or left
 abbrev pub note_of : ℕ → List Outcome → Outcome

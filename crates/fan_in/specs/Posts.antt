@@ -4,9 +4,9 @@ use Rattle.std.specs.declared.alloc.Global.{Global}
 use Rattle.stream_base.specs.Limits.{Definitions}
 use Rattle.stream_base.specs.declared.entry.Entry.{Entry}
 use Rattle.mail_lane.specs.Lane.{Lane, SenderState, IsReceiverOf}
-use Rattle.fan_in.specs.declared.owner_job.OwnerJob.{OwnerJob}
+use Rattle.fan_in.specs.declared.mail.owner_job.OwnerJob.{OwnerJob}
 use Rattle.fan_in.specs.declared.plan.Plan.{Plan}
-use Rattle.fan_in.specs.declared.post.Post.{Post}
+use Rattle.fan_in.specs.declared.mail.post.Post.{Post}
 use Rattle.fan_in.specs.Owning.{OwnsAfter, entries_in}
 
 -- the owner of a shard made of all that it took from its lane what it should
@@ -49,6 +49,6 @@ pub record IsPost (d : Definitions) (sources : ℕ) (lanes : List Lane) (owners 
   pub rows_are : (i : ℕ) (row : Vec (SenderState Entry) Global) → i < sources → AreBoxesOf i lanes (slice_index_or rows i row).items
   pub blank : (i : ℕ) (row : Vec (SenderState Entry) Global) → i < sources → All (λ s. s.sent ≡ []) (slice_index_or rows i row).items
 
--- a post of this plan, of the lanes that were opened so far
-abbrev pub IsPostOf : Plan → Post → Type 0
-IsPostOf plan post = IsPost plan.defs plan.sources post.lanes.items post.owners.items post.rows.items
+-- a post of this plan, of the lanes that were opened so far, and the rows of their senders
+abbrev pub IsPostOf : Plan → Post → List (Vec (SenderState Entry) Global) → Type 0
+IsPostOf plan post rows = IsPost plan.defs plan.sources post.lanes.items post.owners.items rows

@@ -1,5 +1,5 @@
 -- The lanes are settled one by one, and the notes of their owners go into the outcomes of the feeds.
-use Rattle.std.specs.Prelude.{◌≡◌, ◌≤◌, ◌<◌, ℕ, List, length, drop, slice_index_or, Vec}
+use Rattle.std.specs.Prelude.{◌≡◌, ◌≤◌, ◌<◌, ◌⊎◌, ℕ, List, length, drop, slice_index_or, Vec}
 use Rattle.std.specs.declared.alloc.Global.{Global}
 use Rattle.stream_base.specs.Limits.{Definitions}
 use Rattle.stream_base.specs.declared.entry.Entry.{Entry}
@@ -8,12 +8,14 @@ use Rattle.stream_base.specs.Model.Routes.{entries_from}
 use Rattle.shard_core.specs.Shard.{Sharded}
 use Rattle.mail_lane.specs.Lane.{Lane, SenderState}
 use Rattle.turnstile.specs.History.{BeginsWith}
+use Rattle.source_feed.specs.declared.feed_fault.FeedFault.TheVariants.{NoMemory}
+use Rattle.fan_in.specs.declared.gathered.FeedEnd.{FeedEnd}
 use Rattle.fan_in.specs.declared.outcome.Outcome.{Outcome}
 use Rattle.fan_in.specs.declared.outcome.Outcome.TheVariants.{Done, Fault, Full}
 use Rattle.fan_in.specs.Gathering.{IsGathered}
 use Rattle.fan_in.specs.Posts.{AreBoxesOf, IsBoxOf}
-use Rattle.fan_in.specs.Reading.{IsHalfway}
-use Rattle.fan_in.specs.Sending.{AreFrom}
+use Rattle.fan_in.specs.Ports.{IsHalfway}
+use Rattle.fan_in.specs.Reading.{AreFrom}
 
 -- an outcome that takes in a further note: a fault stays or comes, and else the first full shard
 abbrev pub worse : Outcome → Outcome → Outcome
@@ -23,10 +25,10 @@ worse (Full shard) (Full other) = Full shard
 worse (Full shard) (Fault fault) = Fault fault
 worse (Fault fault) note = Fault fault
 
--- an outcome that came of the feed's own and of the notes of so many owners
+-- an outcome that came of the reader's own and of the notes of so many owners
 abbrev pub Follows : ℕ → Outcome → Outcome → Type 0
 Follows shards Done outcome = IsHalfway shards outcome
-Follows shards (Full shard) outcome = IsHalfway shards outcome
+Follows shards (Full shard) outcome = (outcome ≡ Full shard) ⊎ (outcome ≡ Fault NoMemory)
 Follows shards (Fault fault) outcome = outcome ≡ Fault fault
 
 -- of what was sent to a shard of a source, its journal holds the first ones, in order: all of them where the outcome is `Done`, and not all where this shard was full, which it then is
@@ -61,3 +63,9 @@ pub record AreSentRows (sources : ℕ) (lanes : List Lane) (rows : List (Vec (Se
   pub many : length rows ≡ sources
   pub boxes : (i : ℕ) (row : Vec (SenderState Entry) Global) → i < sources → AreBoxesOf i lanes (slice_index_or rows i row).items
   pub from : (i k : ℕ) (row : Vec (SenderState Entry) Global) (s : SenderState Entry) → i < sources → k < length lanes → AreFrom i (slice_index_or (slice_index_or rows i row).items k s).sent
+
+module _ {F : Type 0} where
+  -- where a reader's outcome names a full shard, the sender of its row on that lane sent more than a journal holds
+  abbrev pub SentOver : List (Vec (SenderState Entry) Global) → List (FeedEnd F) → Type 0
+  SentOver rows ends = (i k : ℕ) (row : Vec (SenderState Entry) Global) (s : SenderState Entry) (e : FeedEnd F) → i < length ends → (slice_index_or ends i e).outcome ≡ Full k
+      → JOURNAL_MAX < length (slice_index_or (slice_index_or rows i row).items k s).sent

@@ -1,11 +1,10 @@
--- Room for the jobs on all feeds, and their outcomes where no shard can be handed out.
-use Rattle.std.specs.Prelude.{◌≡◌, ◌+◌, ℕ, [], Vec}
+-- Room for the readers of all feeds, and their outcomes where no shard can be handed out.
+use Rattle.std.specs.Prelude.{◌≡◌, ℕ, [], Vec}
 use Rattle.std.specs.Vec.{vec_capacity}
 use Rattle.std.specs.declared.alloc.Global.{Global}
 use Rattle.source_feed.specs.declared.feed_fault.FeedFault.TheVariants.{NoMemory}
 use Rattle.fan_in.specs.declared.outcome.Outcome.{Outcome}
 use Rattle.fan_in.specs.declared.outcome.Outcome.TheVariants.{Done, Fault, Full}
-use Rattle.fan_in.specs.declared.task.Tasks.{Tasks}
 use Rattle.fan_in.specs.declared.work.Work.{Work}
 
 -- nothing yet, and room for so many
@@ -13,18 +12,11 @@ pub record IsReserved {X : Type 0} (n : ℕ) (v : Vec X Global) : Type 0 where
   pub none : v.items ≡ []
   pub room : vec_capacity v ≡ n
 
--- room for the jobs on so many feeds, and for what comes of them
-pub record HasRoom {F : Type 0} (n : ℕ) (work : Work F) : Type 0 where
-  pub jobs : IsReserved n work.jobs
+-- room for the readers of so many feeds, and for what comes of them
+pub record HasRoom {F P : Type 0} (n : ℕ) (work : Work F P) : Type 0 where
+  pub readers : IsReserved n work.readers
   pub ends : IsReserved n work.ends
   pub rows : IsReserved n work.rows
-
--- room for the tasks of so many sources' feeds and so many lanes' owners, and for what comes of them
-pub record HasTaskRoom {F : Type 0} (sources lanes : ℕ) (room : Tasks F) : Type 0 where
-  pub tasks : IsReserved (sources + lanes) room.tasks
-  pub ends : IsReserved sources room.ends
-  pub rows : IsReserved sources room.rows
-  pub owners : IsReserved lanes room.owners
 
 -- an outcome where no shard can be handed out: a fault stays, and else memory ran out
 abbrev pub without_shards : Outcome → Outcome

@@ -1,25 +1,30 @@
-ghost use Rattle.std.specs.Prelude.{◌≡◌, [], length};
+ghost use Rattle.std.specs.Prelude.{◌≡◌, [], All, length};
 ghost use Rattle.fan_in.specs.Desks.{fixed_of, items_of};
 ghost use Rattle.fan_in.specs.Offers.{Books, MayOffer};
 ghost use Rattle.shard_core.specs.Shard.{IsJournal};
 
 use crate::fixed_part::FixedPart;
+use crate::numbering::{AnyPass, Numbering};
 use agg_laws::Steps;
 use shard_core::{Applied, ApplyFault, Shard};
 use std::alloc::Global;
-use std::marker::Model;
+use std::marker::{Model, PhantomData};
 use stream_base::Entry;
 use turnstile::Keeps;
 
 /// A shard, and for each entry of its journal the number of the pass that made it. Contracts see
 /// the shard and the numbers, as many as the journal has entries.
+pub type Booked = BookedBy<AnyPass>;
+
+/// The same, where each entry has a number that `N` allows it.
 #[derive(Drop)]
-pub struct Booked {
+pub struct BookedBy<N: Numbering> {
     shard: Shard,
     numbers: Vec<u64>,
+    by: PhantomData<N>,
 }
 
-impl Model for Booked {
+impl<N: Numbering> Model for BookedBy<N> {
     ghost use Rattle.fan_in.specs.Desks.{BookedState};
 
     ghost Value = { BookedState };
@@ -28,18 +33,19 @@ impl Model for Booked {
 
     ghost view = { booked_state };
 
-    ghost invariant = { IsBooked };
+    ghost invariant = { IsBooked N.may };
 }
 
-impl Booked {
+impl<N: Numbering> BookedBy<N> {
     /// A shard with no entry yet.
-    pub fn new(alloc: Global, shard: Shard) -> Booked
+    pub fn new(alloc: Global, shard: Shard) -> BookedBy<N>
         requires { shard.journal ≡ [] }
         ensures { result ≡ record { shard = shard; numbers = [] } }
     {
-        Booked {
+        BookedBy {
             shard,
             numbers: Vec::new(alloc),
+            by: PhantomData,
         }
     }
 
@@ -57,7 +63,11 @@ impl Booked {
         ensures numbered { length self.numbers ≡ length (self.shard).journal }
         ensures journal { IsJournal (self.shard).sources (self.shard).journal }
     {
-        let Booked { shard, numbers: _ } = self;
+        let BookedBy {
+            shard,
+            numbers: _,
+            by: _,
+        } = self;
         shard
     }
 
@@ -69,7 +79,9 @@ impl Booked {
         steps: &mut Steps<L>,
     ) -> Result<Applied, ApplyFault>
         requires may { MayOffer entry.now (fixed_of self.old) }
+        requires numbered { N.may number entry.now }
         ensures books { Books entry.now self.old self.new number result }
+        ensures before { All (λ item. N.may item.0 item.1) (items_of self.old) }
     {
         if self.numbers.reserve(1).is_err() {
             return Err(ApplyFault::NoMemory);
@@ -80,7 +92,7 @@ impl Booked {
     }
 }
 
-impl Keeps for Booked {
+impl<N: Numbering> Keeps for BookedBy<N> {
     type Item = Entry;
 
     type Fixed = FixedPart;

@@ -7,6 +7,6 @@ pub enum Outcome {
     Done,
     /// It answered this fault; or memory ran out for one of its entries, or to hand shards back.
     Fault(FeedFault),
-    /// It gave its end, and an entry of it was refused by a full shard, this one or a later one.
+    /// It gave its end, and an entry of it was refused by this shard, which was full.
     Full { shard: u16 },
 }

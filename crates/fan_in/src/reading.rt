@@ -1,36 +1,33 @@
 ghost use Rattle.std.specs.Prelude.{◌≡◌, All, length};
-ghost use Rattle.fan_in.specs.Reading.{AreSame, IsReadyAt, MayHandIn, StandAt, TakesMore};
-ghost use Rattle.fan_in.specs.Reading.{WasRead};
+ghost use Rattle.fan_in.specs.Readers.{HasRead, MayRead};
+ghost use Rattle.fan_in.specs.Reading.{AreSame, MayTake, StandAt, TakesMore};
 
-use crate::by_source::SourceDesk;
 use crate::hand_out::hand_out;
-use crate::job::Job;
 use crate::outcome::Outcome;
+use crate::port::Port;
+use crate::reader::Reader;
 use outside::Gate;
 use source_feed::Feed;
 use std::sync::Wait;
 use std::thread::Threads;
 use stream_base::Entry;
 
-// Reads a feed to its end or to a fault, and offers its entries until one is refused.
-pub(crate) fn read_feed<F: Feed, G: Gate, R: Threads + Wait>(
+// Reads a feed to its end or to a fault, and hands its entries in until one is refused.
+pub(crate) fn read_feed<F: Feed, P: Port, G: Gate, R: Threads + Wait>(
     rt: &R,
     gate: &G,
-    desks: &[SourceDesk],
-    job: &mut Job<F>,
+    inlets: &[P::Inlet],
+    reader: &mut Reader<F, P>,
 )
-    requires ready { IsReadyAt desks.now (F.state job.old.feed) job.old.outcome
-        job.old.passes.items }
-    ensures read { WasRead (length desks.now) (F.state job.old.feed) (F.state job.new.feed)
-        (F.faults job.old.feed) (F.faults job.new.feed) job.new.outcome
-        job.old.passes.items job.new.passes.items }
+    requires may { MayRead P.Port F.state inlets.now reader.old }
+    ensures read { HasRead P.Port F.state F.faults (length inlets.now) reader.old reader.new }
 {
     'entries: for _ in rt.forever() {
-        match job.feed.next() {
-            Ok(Some(entry)) => take_entry(rt, gate, desks, job, &entry),
+        match reader.feed.next() {
+            Ok(Some(entry)) => take_entry(rt, gate, inlets, reader, &entry),
             Ok(None) => return,
             Err(fault) => {
-                job.outcome = Outcome::Fault(fault);
+                reader.outcome = Outcome::Fault(fault);
                 return;
             }
         }
@@ -38,24 +35,24 @@ pub(crate) fn read_feed<F: Feed, G: Gate, R: Threads + Wait>(
     unreachable!()
 }
 
-// Offers an entry, unless one before it was refused.
-fn take_entry<F: Feed, G: Gate, R: Threads + Wait>(
+// Hands an entry in, unless one before it was refused.
+fn take_entry<F: Feed, P: Port, G: Gate, R: Threads + Wait>(
     rt: &R,
     gate: &G,
-    desks: &[SourceDesk],
-    job: &mut Job<F>,
+    inlets: &[P::Inlet],
+    reader: &mut Reader<F, P>,
     entry: &Entry,
 )
-    requires stand { StandAt desks.now job.old.passes.items }
-    requires may { All (MayHandIn entry.now) job.old.passes.items }
-    ensures feed { job.new.feed ≡ job.old.feed }
-    ensures same { AreSame job.old.passes.items job.new.passes.items }
-    ensures taken { TakesMore (length desks.now) entry.now job.old.outcome job.new.outcome
-        job.old.passes.items job.new.passes.items }
+    requires stand { StandAt P.Port inlets.now reader.old.ports.items }
+    requires may { All (MayTake P.Port entry.now) reader.old.ports.items }
+    ensures feed { reader.new.feed ≡ reader.old.feed }
+    ensures same { AreSame P.Port reader.old.ports.items reader.new.ports.items }
+    ensures taken { TakesMore P.Port (length inlets.now) entry.now reader.old.outcome
+        reader.new.outcome reader.old.ports.items reader.new.ports.items }
 {
-    match job.outcome {
+    match reader.outcome {
         Outcome::Done => {
-            job.outcome = hand_out(rt, gate, desks, job.passes.as_mut_slice(), entry);
+            reader.outcome = hand_out(rt, gate, inlets, reader.ports.as_mut_slice(), entry);
         }
         Outcome::Fault(_) | Outcome::Full { .. } => {}
     }

@@ -1,8 +1,8 @@
-ghost use Rattle.std.specs.Prelude.{◌≡◌, ◌≤◌, ◌<◌, ℕ, All, length, slice_index_or};
-ghost use Rattle.fan_in.specs.Reading.{IsReadyAt, WasRead};
+ghost use Rattle.std.specs.Prelude.{◌≤◌, All, length};
+ghost use Rattle.fan_in.specs.Readers.{HasRead, HaveRead, MayRead};
 
-use crate::by_source::SourceDesk;
-use crate::job::Job;
+use crate::port::Port;
+use crate::reader::Reader;
 use crate::reading::read_feed;
 use outside::Gate;
 use source_feed::Feed;
@@ -11,33 +11,25 @@ use std::thread;
 use std::thread::Threads;
 
 // Reads all feeds, each in a thread of its own where one can be started.
-pub(crate) fn read_all<F: Feed + Send, G: Gate, R: Threads + Wait + Sync>(
+pub(crate) fn read_all<F: Feed + Send, P: Port + Send, G: Gate, R: Threads + Wait + Sync>(
     rt: &R,
     gate: &G,
-    desks: &[SourceDesk],
-    jobs: &mut [Job<F>],
+    inlets: &[P::Inlet],
+    readers: &mut [Reader<F, P>],
 )
-    requires some { 1 ≤ length jobs.old }
-    requires ready { All (λ job. IsReadyAt desks.now (F.state job.feed) job.outcome
-        job.passes.items) jobs.old }
-    ensures many { length jobs.new ≡ length jobs.old }
-    ensures read { (i : ℕ) (d : _) → i < length jobs.old
-        → let old = slice_index_or jobs.old i d in let new = slice_index_or jobs.new i d in
-        WasRead (length desks.now) (F.state old.feed) (F.state new.feed) (F.faults old.feed)
-        (F.faults new.feed) new.outcome old.passes.items new.passes.items }
+    requires some { 1 ≤ length readers.old }
+    requires may { All (MayRead P.Port F.state inlets.now) readers.old }
+    ensures read { HaveRead P.Port F.state F.faults (length inlets.now) readers.old readers.new }
 {
-    let threads = jobs.len();
+    let threads = readers.len();
     thread::for_each_mut(
         rt,
-        jobs,
+        readers,
         threads,
-        &|_, job: &mut Job<F>|
-            requires { IsReadyAt desks.now (F.state job.now.feed) job.now.outcome
-                job.now.passes.items }
-            ensures { WasRead (length desks.entry.now)
-                (F.state job.entry.now.feed) (F.state job.exit.now.feed)
-                (F.faults job.entry.now.feed) (F.faults job.exit.now.feed)
-                job.exit.now.outcome job.entry.now.passes.items job.exit.now.passes.items }
-        { read_feed(rt, gate, desks, job) },
+        &|_, reader: &mut Reader<F, P>|
+            requires { MayRead P.Port F.state inlets.now reader.now }
+            ensures { HasRead P.Port F.state F.faults (length inlets.entry.now)
+                reader.entry.now reader.exit.now }
+        { read_feed(rt, gate, inlets, reader) },
     );
 }

@@ -15,7 +15,7 @@ use Rattle.source_feed.specs.declared.feed_fault.FeedFault.TheVariants.{Read}
 use Rattle.fan_in.specs.declared.gathered.FeedEnd.{FeedEnd}
 use Rattle.fan_in.specs.declared.outcome.Outcome.{Outcome}
 use Rattle.fan_in.specs.declared.outcome.Outcome.TheVariants.{Done, Fault, Full}
-use Rattle.fan_in.specs.Gathering.{AreFreshFeeds, AreGathered, Bears, HoldsPart, IsBack, IsFault, NamesOneOf}
+use Rattle.fan_in.specs.Gathering.{AreFreshFeeds, AreGathered, FeedEnded, GaveStream, HoldsFirst, IsFault, NamesOneOf}
 use Rattle.run_inputs.specs.Opening.{AreUnread, IsUnread}
 use Rattle.run_inputs.specs.Outside.{Asks, Opens, Telling, came_at}
 use Rattle.command_words.specs.Words.{AreFew}
@@ -50,10 +50,10 @@ not_read_full e = absurd cc
 
 -- one feed, as it was handed in and as it came back
 module _ {S : Type 0} (reads : S → Reads) (word : S → Option (List ℕ)) (d : Definitions) (base i : ℕ) (name : Option (List ℕ)) (start now : FileFeedState S) (outcome : Outcome) (unread : IsUnread reads word (base + i) name i d start)
-    (b : IsBack (feed_view reads word start) (feed_view reads word now) outcome (reads start.from).faults (reads now.from).faults) where
+    (b : FeedEnded (feed_view reads word start) (feed_view reads word now) outcome (reads start.from).faults (reads now.from).faults) where
   -- what its outcome shows, where it was given back
   pub shows : (opens : Opens) → length opens.before ≡ base → came_at opens i ≡ back (reads now.from) → Shows d opens i now.gave outcome
-  shows opens first came = by outcome b.bears b.read b.quiet
+  shows opens first came = by outcome b.gave_stream b.read b.quiet
     where
       before : (reads start.from).faults ≡ 0
       before = faults_before reads word d (base + i) i name start now unread b.of_source b.origin
@@ -64,7 +64,7 @@ module _ {S : Type 0} (reads : S → Reads) (word : S → Option (List ℕ)) (d 
       placed : (reads now.from).place ≡ length opens.before + i
       placed = place_stays reads word d (base + i) i name start now unread b.of_source b.origin ∙ ap (λ n. n + i) (sym first)
 
-      by : (o : Outcome) → Bears (feed_view reads word now) o → (o ≡ Fault Read → Rose (reads start.from).faults (reads now.from).faults) → (o ≢ Fault Read → (reads now.from).faults ≡ (reads start.from).faults) → Shows d opens i now.gave o
+      by : (o : Outcome) → GaveStream (feed_view reads word now) o → (o ≡ Fault Read → Rose (reads start.from).faults (reads now.from).faults) → (o ≢ Fault Read → (reads now.from).faults ≡ (reads start.from).faults) → Shows d opens i now.gave o
       by Done h read quiet = shows_whole d opens i (reads now.from) came now.gave placed (quiet not_read_done ∙ before) (seen (Some (given_then now.gave None)) h)
       by (Full k) h read quiet = shows_whole d opens i (reads now.from) came now.gave placed (quiet not_read_full ∙ before) (seen (Some (given_then now.gave None)) h)
       by (Fault fault) h read quiet =
@@ -134,6 +134,6 @@ module _ {S : Type 0} (reads : S → Reads) (word : S → Option (List ℕ)) (ba
     alike = were.alike;
     parts = λ k i s m l.
         let e = end_at i l in
-        subst (λ (o : Outcome). HoldsPart total k i (get_or (map (λ x. x.feed.gave) ends) i []) o (get_or shards k s).journal) (outcome_at i e l)
-        (subst (λ (es : List Entry). HoldsPart total k i es (get_or ends i e).outcome (get_or shards k s).journal) (gave_at i e l) (were.parts k i s e m l));
+        subst (λ (o : Outcome). HoldsFirst total k i (get_or (map (λ x. x.feed.gave) ends) i []) o (get_or shards k s).journal) (outcome_at i e l)
+        (subst (λ (es : List Entry). HoldsFirst total k i es (get_or ends i e).outcome (get_or shards k s).journal) (gave_at i e l) (were.parts k i s e m l));
   }

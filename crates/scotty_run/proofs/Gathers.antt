@@ -12,7 +12,7 @@ use Rattle.emission_text.specs.declared.fault.Fault.{Fault}
 use Rattle.fan_in.specs.declared.outcome.Outcome.{Outcome}
 use Rattle.fan_in.specs.declared.outcome.Outcome.TheVariants.{Done, Full}
 use Rattle.fan_in.specs.declared.outcome.Outcome.TheVariants.{Fault as Failed}
-use Rattle.fan_in.specs.Gathering.{HoldsPart, IsFault, IsGathered, NamesOneOf}
+use Rattle.fan_in.specs.Gathering.{HoldsFirst, IsFault, IsGathered, NamesOneOf}
 use Rattle.run_inputs.specs.Causes.{AreAllRead, AreShardsOf, IsOverfull, IsSourceRead, StopsAtSources, count_routed}
 use Rattle.run_inputs.specs.Outside.{Asks, Opens}
 use Rattle.run_inputs.specs.Reading.{fault_of}
@@ -39,7 +39,7 @@ pub record IsGathering (names : List (List ℕ)) (total : ℕ) (d : Definitions)
   pub none : shards ≡ [] → (i : ℕ) → i < length names → IsFault (get_or outcomes i Done)
   pub alike : (k : ℕ) (s : Sharded) → k < length shards → IsGathered d (length names) (get_or shards k s)
   pub parts : (k i : ℕ) (s : Sharded) → k < length shards → i < length names
-      → HoldsPart total k i (get_or gave i []) (get_or outcomes i Done) (get_or shards k s).journal
+      → HoldsFirst total k i (get_or gave i []) (get_or outcomes i Done) (get_or shards k s).journal
 
 -- an outcome that isn't a fault shows that its source was read whole
 read_by : (d : Definitions) (opens : Opens) (i : ℕ) (entries : List Entry) (o : Outcome) → ¬ (IsFault o) → Shows d opens i entries o → IsSourceRead opens d i entries

@@ -16,7 +16,7 @@ use Rattle.source_feed.specs.Stream.{StaysTold, Stream}
 use Rattle.fan_in.specs.declared.gathered.FeedEnd.{FeedEnd}
 use Rattle.fan_in.specs.declared.outcome.Outcome.{Outcome}
 use Rattle.fan_in.specs.declared.outcome.Outcome.TheVariants.{Done}
-use Rattle.fan_in.specs.Gathering.{AreFreshFeeds, AreGathered, Bears, IsFault}
+use Rattle.fan_in.specs.Gathering.{AreFreshFeeds, AreGathered, GaveStream, IsFault}
 use Rattle.final_rows.specs.AtEnd.{rows_of_shards}
 use Rattle.scotty_run.specs.Making.{AreMadeFeeds, AreMadeShards, AreOfDefinitions, made_feed}
 use Rattle.command_words.specs.Words.{IsWithinLimits, Made}
@@ -44,9 +44,9 @@ standing_more sources shards i s rows own l is alike before mine =
     ∙ ap (rows_of_shards made_definitions sources) (sym (map-append journal (take i shards) (s ∷ [])) ∙ ap (map journal) (ap (λ x. take i shards ++ x ∷ []) is ∙ sym (take_more shards i s l)))
 
 -- a feed that came back with all its entries gave those of its stream
-gave_all : (stream : Stream) (back : Feed) (outcome : Outcome) → outcome ≡ Done → Bears back outcome → back.whole ≡ Some stream → back.gave ≡ stream.entries
-gave_all stream back outcome done bears whole =
-    let all : back.whole ≡ Some (given_then back.gave None) = subst (Bears back) done bears in
+gave_all : (stream : Stream) (back : Feed) (outcome : Outcome) → outcome ≡ Done → GaveStream back outcome → back.whole ≡ Some stream → back.gave ≡ stream.entries
+gave_all stream back outcome done gave whole =
+    let all : back.whole ≡ Some (given_then back.gave None) = subst (GaveStream back) done gave in
     let is : Some (given_then back.gave None) ≡ Some stream = sym all ∙ whole in
     ap (λ (s : Stream). s.entries) (some_inj is)
   where
@@ -140,7 +140,7 @@ module _ (run : Made) where
         let e = end_at i li in
         let b = were.back i f e li in
         let whole = subst (λ o. StaysTold o ((get_or ends i e).feed).whole) (ap (λ (x : Feed). x.whole) (made i f (omega (arith, li, one_each)))) b.seen in
-        let gave = gave_all (made_stream run.seed run.rows run.sources i) (get_or ends i e).feed (get_or ends i e).outcome (done_at i e li) b.bears whole in
+        let gave = gave_all (made_stream run.seed run.rows run.sources i) (get_or ends i e).feed (get_or ends i e).outcome (done_at i e li) b.gave_stream whole in
         ap (entries_from i) (journal_at j s l2) ∙ (were.parts j i s e l2 li).whole (done_at i e li) ∙ ap (routed run.shards j) (gave ∙ sym (made_at i li))
 
     pub made_shards : AreMadeShards run shards

@@ -3,4 +3,4 @@ use Rattle.fan_in.proofs.Taking.{Taken}
 use Rattle.fan_in.proofs.hand_out.hand_out.Given as goal
 
 abbrev pub invariant-loop-k : goal.invariant-loop-k
-invariant-loop-k g l = Taken (length l.desks) l.fn.entry l.k l.initial.passes l.passes
+invariant-loop-k g l = Taken g.P.Port (length l.inlets) l.fn.entry l.k l.initial.ports l.ports

@@ -6,4 +6,4 @@ abbrev pub invariant-entries : goal.invariant-entries
 invariant-entries g l =
     (goal.iterator-entries g).can_next l.iterator' ×
     (goal.iterator-entries g).is_finite l.iterator' ×
-    IsMidway (length l.desks) (g.F.Feed.state l.fn.job.feed) (g.F.Feed.state l.job.feed) (g.F.Feed.faults l.fn.job.feed) (g.F.Feed.faults l.job.feed) l.job.outcome l.fn.job.passes.items l.job.passes.items
+    IsMidway g.P.Port (length l.inlets) (g.F.Feed.state l.fn.reader.feed) (g.F.Feed.state l.reader.feed) (g.F.Feed.faults l.fn.reader.feed) (g.F.Feed.faults l.reader.feed) l.reader.outcome l.fn.reader.ports.items l.reader.ports.items

@@ -1,15 +1,15 @@
-use Rattle.std.proofs.Common.{◌≡◌, ◌<◌, ℕ, drop, length, slice_index_or}
+use Rattle.std.proofs.Common.{◌≡◌, ◌<◌, ◌+◌, ℕ, take, length, slice_index_or}
 use Rattle.std.specs.Vec.{vec_capacity}
 use Rattle.fan_in.proofs.work.take_apart.Given as goal
 
 abbrev pub invariant-loop-i : goal.invariant-loop-i
 invariant-loop-i g l = record {
-  jobs_left : l.jobs.items ≡ drop l._i l.initial.jobs.items;
+  readers_many : length l.readers.items + l._i ≡ length l.initial.readers.items;
+  readers_left : l.readers.items ≡ take (length l.readers.items) l.initial.readers.items;
   many_ends : length l.ends.items ≡ l._i;
   many_rows : length l.rows.items ≡ l._i;
-  room_ends : vec_capacity l.ends ≡ length l.initial.jobs.items;
-  room_rows : vec_capacity l.rows ≡ length l.initial.jobs.items;
-  made_feeds : (i : ℕ) (e : _) (d : _) → i < l._i → (slice_index_or l.ends.items i e).feed ≡ (slice_index_or l.initial.jobs.items i d).feed;
-  made_outcomes : (i : ℕ) (e : _) (d : _) → i < l._i → (slice_index_or l.ends.items i e).outcome ≡ (slice_index_or l.initial.jobs.items i d).outcome;
-  made_rows : (i : ℕ) (row : _) (d : _) → i < l._i → slice_index_or l.rows.items i row ≡ (slice_index_or l.initial.jobs.items i d).passes;
+  room_ends : vec_capacity l.ends ≡ length l.initial.readers.items;
+  room_rows : vec_capacity l.rows ≡ length l.initial.readers.items;
+  made : (i j : ℕ) (e : _) (row : _) (r : _) → j < l._i → i + j + 1 ≡ length l.initial.readers.items
+      → slice_index_or l.initial.readers.items i r ≡ record { feed = (slice_index_or l.ends.items j e).feed; outcome = (slice_index_or l.ends.items j e).outcome; ports = slice_index_or l.rows.items j row };
 }

@@ -1,0 +1,174 @@
+ghost use Rattle.std.specs.Prelude.{◌≡◌, ◌≤◌, ◌<◌, ◌+◌, ◌++◌, ℕ, List, [], ◌∷◌, length};
+ghost use Rattle.std.specs.Prelude.{All, slice_index_or};
+ghost use Rattle.stream_base.specs.Limits.{Definitions};
+ghost use Rattle.stream_base.specs.declared.entry.Entry.{Entry};
+ghost use Rattle.mail_lane.specs.Lane.{IsReceiverOf, TakenWhole};
+ghost use Rattle.fan_in.specs.Gathering.{AreSameFeeds};
+ghost use Rattle.fan_in.specs.Owning.{OwnsAfter, entries_in, note_of};
+ghost use Rattle.fan_in.specs.Posts.{AreOwned, OwnsLane};
+ghost use Rattle.fan_in.specs.Ports.{IsAbout};
+ghost use Rattle.fan_in.specs.Settling.{AreSentRows, Follows, HoldsSent, IsSettledShard};
+ghost use Rattle.fan_in.specs.Settling.{LoseFirst, SentOver, StartWith, worse};
+ghost use Rattle.fan_in.specs.Works.{IsReserved};
+
+use crate::gathered::FeedEnd;
+use crate::mail::outbox::Outbox;
+use crate::mail::owner::Owner;
+use crate::mail::owner_job::OwnerJob;
+use crate::outcome::Outcome;
+use crate::plan::Plan;
+use mail_lane::{Mail, Receiver, Settled};
+use outside::Gate;
+use shard_core::Shard;
+use std::alloc::Global;
+use std::sync::Wait;
+use std::thread::Threads;
+use stream_base::Entry;
+
+// Settles all lanes in their order, and hands the shards out. What the owners noted goes into the
+// outcomes of the feeds.
+pub(crate) fn settle_all<F, G: Gate, R: Threads + Wait>(
+    rt: &R,
+    gate: &G,
+    alloc: Global,
+    plan: &Plan,
+    mut lanes: Vec<Mail<Entry>>,
+    mut owners: Vec<OwnerJob>,
+    mut rows: Vec<Vec<Outbox>>,
+    shards: &mut Vec<Shard>,
+    ends: &mut [FeedEnd<F>],
+)
+    requires owned { AreOwned plan.now.defs plan.now.sources lanes.items owners.items }
+    requires rows { AreSentRows plan.now.sources lanes.items rows.items }
+    requires room { IsReserved (length lanes.items) shards.old }
+    requires one_each { length ends.old ≡ plan.now.sources }
+    requires over { SentOver rows.items ends.old }
+    ensures many { length shards.new.items ≡ length lanes.items }
+    ensures settled { All (IsSettledShard plan.now.defs plan.now.sources) shards.new.items }
+    ensures same { AreSameFeeds ends.old ends.new }
+    ensures follows { (i : ℕ) (e : _) → i < length ends.old → Follows (length lanes.items)
+        (slice_index_or ends.old i e).outcome (slice_index_or ends.new i e).outcome }
+    ensures held { (k i : ℕ) (row : _) (b : _) (e : _) (s : _) → k < length lanes.items
+        → i < length ends.old → HoldsSent k i
+        (slice_index_or (slice_index_or rows.items i row).items k b).sent
+        (slice_index_or ends.new i e).outcome (slice_index_or shards.new.items k s).journal }
+{
+    for _k in 0..lanes.len() {
+        let mail = lanes.remove(0);
+        let owner = settle_lane(
+            rt,
+            gate,
+            alloc,
+            plan,
+            mail,
+            owners.remove(0),
+            rows.as_mut_slice(),
+        );
+        take_notes(ends, &owner.notes);
+        shards.push_reserved(owner.shard);
+    }
+}
+
+// Settles one lane: the senders come back, and the owner applies what is left.
+fn settle_lane<G: Gate, R: Threads + Wait>(
+    rt: &R,
+    gate: &G,
+    alloc: Global,
+    plan: &Plan,
+    mail: Mail<Entry>,
+    job: OwnerJob,
+    rows: &mut [Vec<Outbox>],
+) -> Owner
+    requires senders { mail.senders ≡ plan.now.sources }
+    requires owns { OwnsLane plan.now.defs plan.now.sources job.owner.number mail job }
+    requires many { length rows.old ≡ plan.now.sources }
+    requires rows { StartWith mail rows.old }
+    ensures number { result.number ≡ job.owner.number }
+    ensures settled { IsSettledShard plan.now.defs plan.now.sources result.shard }
+    ensures about { (i : ℕ) → IsAbout job.owner.number (note_of i result.notes) }
+    ensures held { (i : ℕ) (row : _) (b : _) → i < length rows.old → HoldsSent job.owner.number i
+        (slice_index_or (slice_index_or rows.old i row).items 0 b).sent
+        (note_of i result.notes) result.shard.journal }
+    ensures rows { LoseFirst rows.old rows.new }
+{
+    let OwnerJob {
+        mut receiver,
+        mut owner,
+    } = job;
+    let _sources = plan.sources;
+    bring_back(&mail, &mut receiver, rows);
+    let mut settled = mail.settle(rt, receiver, Vec::new(alloc));
+    apply_rest(rt, gate, &mut settled, &mut owner);
+    if owner.stray {
+        // Of each source the owner has just what its feed sent, and a feed sends nothing that is
+        // beyond the limits or behind its end.
+        unreachable!()
+    }
+    owner
+}
+
+// The receiver takes the first sender of each row back.
+fn bring_back(mail: &Mail<Entry>, receiver: &mut Receiver<Entry>, rows: &mut [Vec<Outbox>])
+    requires own { IsReceiverOf mail.now receiver.old }
+    requires none { receiver.old.back ≡ [] }
+    requires rows { StartWith mail.now rows.old }
+    ensures own { IsReceiverOf mail.now receiver.new }
+    ensures taken { receiver.new.taken ≡ receiver.old.taken }
+    ensures many { length receiver.new.back ≡ length rows.old }
+    ensures back { (i : ℕ) (row : _) (b : _) → i < length rows.old
+        → slice_index_or receiver.new.back i []
+        ≡ (slice_index_or (slice_index_or rows.old i row).items 0 b).sent }
+    ensures rows { LoseFirst rows.old rows.new }
+{
+    for i in 0..rows.len() {
+        let outbox = rows[i].remove(0);
+        mail.take_back(receiver, outbox.into_sender());
+    }
+}
+
+// The owner applies what is left in a settled lane.
+fn apply_rest<G: Gate, R: Threads + Wait>(
+    rt: &R,
+    gate: &G,
+    settled: &mut Settled<Entry>,
+    owner: &mut Owner,
+)
+    ensures whole { TakenWhole settled.new }
+    ensures sent { settled.new.sent ≡ settled.old.sent }
+    ensures after { (d : Definitions) (sources k : ℕ)
+        → OwnsAfter d sources k (entries_in settled.old.taken) owner.old
+        → OwnsAfter d sources k (entries_in settled.new.taken) owner.new }
+{
+    'left: for _ in rt.forever() {
+        match settled.next(rt) {
+            Some(entry) => owner.take_in(rt, gate, &entry),
+            None => return,
+        }
+    }
+    unreachable!()
+}
+
+// What an owner noted of each source goes into the outcome of its feed.
+fn take_notes<F>(ends: &mut [FeedEnd<F>], notes: &[Outcome; 16])
+    requires few { length ends.old ≤ 16 }
+    ensures same { AreSameFeeds ends.old ends.new }
+    ensures outcomes { (i : ℕ) (e : _) → i < length ends.old
+        → (slice_index_or ends.new i e).outcome
+        ≡ worse (slice_index_or ends.old i e).outcome (note_of i notes.now) }
+{
+    for i in 0..ends.len() {
+        ends[i].outcome = worse(ends[i].outcome, notes[i]);
+    }
+}
+
+// An outcome that takes in a further note.
+fn worse(outcome: Outcome, note: Outcome) -> Outcome
+    ensures { result ≡ worse outcome note }
+{
+    match (outcome, note) {
+        (Outcome::Fault(_), _) | (Outcome::Full { .. }, Outcome::Done | Outcome::Full { .. }) => {
+            outcome
+        }
+        (Outcome::Done, _) | (Outcome::Full { .. }, Outcome::Fault(_)) => note,
+    }
+}
