@@ -1,6 +1,6 @@
 -- Folds of neighbouring parts of the slices.
-use Rattle.std.proofs.Common.{◌≡◌, ◌∙◌, ℕ, ◌+◌, ◌-◌, ◌*◌, ◌≤◌, ◌<◌, List, ◌++◌, length, get_or, map, ap, sym, refl, arith, inl, inr}
-use Rattle.std.specs.Prelude.{◌⊎◌, FitsSigned, slice_set}
+use Rattle.std.proofs.Common.{◌≡◌, ◌∙◌, ℕ, ◌+◌, ◌-◌, ◌*◌, ◌≤◌, ◌<◌, List, ◌++◌, length, get_or, map, ap, sym, refl, subst, arith, inl, inr}
+use Rattle.std.specs.Prelude.{◌⊎◌, FitsSigned, min, slice_set}
 use Rattle.std.specs.Int.{w64}
 use Rattle.std.specs.List.{All}
 use Rattle.std.proofs.lemmas.Bool.{cases_lt}
@@ -16,6 +16,9 @@ use Rattle.run_laws.specs.Runs.{IsAligned, runs_within}
 use Rattle.run_laws.proofs.Order.{All-map_of}
 use Rattle.slice_lists.specs.Slices.{AreSlices, joined, values_of}
 use Rattle.slice_lists.proofs.WithinFacts.{within_aligned}
+use Rattle.interval_walks.specs.declared.late.Complete.{Complete}
+use Rattle.interval_walks.specs.declared.span.Span.{Span}
+use Rattle.interval_walks.specs.Folds.{AreClose, IsShared, slices_under}
 use Rattle.interval_walks.proofs.Ranges.{in_two, none_turned}
 use Rattle.interval_walks.proofs.WalkFacts.{times_mono}
 
@@ -78,3 +81,24 @@ one_alone slices first count k slide len one below =
 -- a few steps for each interval are no more than a fold for each
 pub within_folds : (n count reach : ℕ) → n ≤ 32 * count → n + 4 * count ≤ 64 * (reach + 2) * count
 within_folds n count reach h = omega (arith, times_mono 36 (64 * (reach + 2)) count (omega arith))
+
+-- where all are told at once, they are the first group
+pub one_group : (span : Span) (slices : List (List Kept)) (complete group : Complete) (done steps before later : ℕ) → done ≡ 0 → group.first ≡ complete.first + done → group.count ≡ min (complete.count - done) 64 → before ≤ steps → IsShared span slices group before later → IsShared span slices complete steps later
+one_group span slices complete group done steps before later none first count onward shared close =
+    let f : complete.first ≡ group.first = omega arith in
+    let n : complete.count ≡ group.count = omega (arith, close.at_most) in
+    let same : complete ≡ group = λ i. record { first = f i; count = n i } in
+    let r : later ≤ before + length (slices_under span slices complete) + 4 * complete.count = subst (λ (c : Complete). later ≤ before + length (slices_under span slices c) + 4 * c.count) (sym same) (shared (subst (AreClose span slices) same close)) in
+    omega (arith, r)
+
+pub first_group : (count done : ℕ) → (done ≡ 0) ⊎ ((64 ≤ done) ⊎ (done ≡ count)) → done < count → count ≤ 64 → done ≡ 0
+first_group count done (inl z) l m = z
+first_group count done (inr (inl b)) l m = absurd (omega arith)
+first_group count done (inr (inr b)) l m = absurd (omega arith)
+
+pub next_group : (count done n : ℕ) → done < count → n ≡ min (count - done) 64 → (done + n ≡ 0) ⊎ ((64 ≤ done + n) ⊎ (done + n ≡ count))
+next_group count done n l e = by (cases_lt 64 (count - done))
+  where
+    by : (64 < count - done) ⊎ (count - done ≤ 64) → (done + n ≡ 0) ⊎ ((64 ≤ done + n) ⊎ (done + n ≡ count))
+    by (inl m) = inr (inl (omega arith))
+    by (inr m) = inr (inr (omega arith))

@@ -1,9 +1,9 @@
 -- The complete intervals that hold a time, one after another.
-use Rattle.std.proofs.Common.{◌≡◌, ◌∙◌, ℕ, zero, suc, ◌+◌, ◌-◌, ◌*◌, ◌/◌, ◌<◌, ◌≤◌, false, cond, Option, List, [], ◌∷◌, ◌++◌, length, get_or, map, ap, sym, refl, subst, arith, inl, inr, append_assoc}
+use Rattle.std.proofs.Common.{◌≡◌, ◌∙◌, ℕ, zero, suc, ◌+◌, ◌-◌, ◌*◌, ◌/◌, ◌<◌, ◌≤◌, false, cond, Option, List, [], ◌∷◌, ◌++◌, length, drop, take, get_or, map, ap, sym, refl, subst, arith, inl, inr, append_assoc}
 use Rattle.std.specs.Prelude.{◌⊎◌, min, nat_le, nat_lt}
 use Rattle.std.specs.List.{filter, range_with_len}
 use Rattle.std.proofs.lemmas.Bool.{cases_lt, le-leb, le-ltb, lt-leb, lt-ltb}
-use Rattle.std.proofs.lemmas.List.{length-map, map-append}
+use Rattle.std.proofs.lemmas.List.{length-drop, length-map, map-append, take_all}
 use Rattle.std.proofs.lemmas.List.FromFn.{map-range_with_len_more}
 use Rattle.std.proofs.lemmas.Nat.{le-div}
 use Rattle.std.proofs.Math.Nat.{div-mul-le_self, lt-div-mul-add}
@@ -102,7 +102,47 @@ start_at slide first (suc n) (suc k) l = start_at slide (first + 1) n k (omega a
 pub starts_more : (slide first k low : ℕ) → low ≡ (first + k) * slide → starts_from slide first (k + 1) ≡ starts_from slide first k ++ low ∷ []
 starts_more slide first k low e = map-range_with_len_more (λ k. k * slide) first k (first + k) refl ∙ ap (λ l. starts_from slide first k ++ l ∷ []) (sym e)
 
+-- so many more
+pub starts_add : (slide first a b : ℕ) → starts_from slide first (a + b) ≡ starts_from slide first a ++ starts_from slide (first + a) b
+starts_add slide first zero b =
+    let e : 0 + b ≡ b = omega arith in
+    let f : first ≡ first + 0 = omega arith in
+    λ i. starts_from slide (f i) (e i)
+starts_add slide first (suc a) b =
+    let e : suc a + b ≡ suc (a + b) = omega arith in
+    let f : first + 1 + a ≡ first + suc a = omega arith in
+    ap (starts_from slide first) e
+    ∙ ap (λ l. first * slide ∷ l) (starts_add slide (first + 1) a b)
+    ∙ ap (λ n. first * slide ∷ (starts_from slide (first + 1) a ++ starts_from slide n b)) f
+
 -- ---- told one after another
+pub formers_add : (f : ℕ → Option Former) (before out pushed : List (Option Former)) (slide first a b : ℕ) → out ≡ before ++ map f (starts_from slide first a) → pushed ≡ out ++ map f (starts_from slide (first + a) b) → pushed ≡ before ++ map f (starts_from slide first (a + b))
+formers_add f before out pushed slide first a b h p =
+    p
+    ∙ ap (λ l. l ++ map f (starts_from slide (first + a) b)) h
+    ∙ append_assoc before (map f (starts_from slide first a)) (map f (starts_from slide (first + a) b))
+    ∙ ap (λ l. before ++ l) (sym (ap (map f) (starts_add slide first a b) ∙ map-append f (starts_from slide first a) (starts_from slide (first + a) b)))
+
+told_add : (told : ℕ → Option Former → Change) (lows more : List ℕ) (formers : List (Option Former)) → length lows ≤ length formers → told_late told (lows ++ more) formers ≡ told_late told lows formers ++ told_late told more (drop (length lows) formers)
+told_add told [] more [] h = refl
+told_add told [] more (f ∷ formers) h = refl
+told_add told (low ∷ lows) more [] h = absurd (omega arith)
+told_add told (low ∷ lows) more (f ∷ formers) h =
+    let e : suc (length lows) ≡ length (low ∷ lows) = refl in
+    ap (λ q. told low f ∷ q) (told_add told lows more formers (omega arith))
+
+pub rest_of : (formers : List (Option Former)) (a : ℕ) → take (length formers - a) (drop a formers) ≡ drop a formers
+rest_of formers a = take_all (length formers - a) (drop a formers) (omega (arith, length-drop a formers))
+
+pub late_add : (told : ℕ → Option Former → Change) (before out pushed : List Change) (slide first a b : ℕ) (formers : List (Option Former)) → a ≤ length formers → out ≡ before ++ told_late told (starts_from slide first a) formers → pushed ≡ out ++ told_late told (starts_from slide (first + a) b) (drop a formers) → pushed ≡ before ++ told_late told (starts_from slide first (a + b)) formers
+late_add told before out pushed slide first a b formers l h p =
+    let n : length (starts_from slide first a) ≡ a = starts_length slide first a in
+    p
+    ∙ ap (λ q. q ++ told_late told (starts_from slide (first + a) b) (drop a formers)) h
+    ∙ append_assoc before (told_late told (starts_from slide first a) formers) (told_late told (starts_from slide (first + a) b) (drop a formers))
+    ∙ ap (λ m. before ++ (told_late told (starts_from slide first a) formers ++ told_late told (starts_from slide (first + a) b) (drop m formers))) (sym n)
+    ∙ ap (λ q. before ++ q) (sym (ap (λ s. told_late told s formers) (starts_add slide first a b) ∙ told_add told (starts_from slide first a) (starts_from slide (first + a) b) formers (omega (arith, n))))
+
 pub former_more : (f : ℕ → Option Former) (before out pushed : List (Option Former)) (slide first k low : ℕ) (former : Option Former) → low ≡ (first + k) * slide → out ≡ before ++ map f (starts_from slide first k) → former ≡ f low → pushed ≡ out ++ former ∷ [] → pushed ≡ before ++ map f (starts_from slide first (k + 1))
 former_more f before out pushed slide first k low former e h is p =
     p
@@ -134,3 +174,6 @@ at_most_times n s h = grind arith
 
 pub one_more_time : (a k : ℕ) → a * (k + 1) ≡ a * k + a
 one_more_time a k = grind arith
+
+pub times_add : (a k n : ℕ) → a * (k + n) ≡ a * k + a * n
+times_add a k n = grind arith

@@ -63,8 +63,38 @@ fn ended(span: &Span, water: u64) -> u64
     }
 }
 
-/// Appends what stood of each. Several that are close are folded together.
+/// Appends what stood of each. Those that are close are folded together, 64 at once.
 pub fn append_formers<S: AggStore, L>(
+    func: Func,
+    span: &Span,
+    store: &S,
+    complete: Complete,
+    into: &mut Vec<Option<Former>>,
+    steps: &mut Steps<L>,
+)
+    requires intervals { MayFold span.now (S.stored store.now).slices complete }
+    requires spare { complete.count ≤ room into.old }
+    ensures told { length (tuples_of (S.stored store.now)) < 2 ^ 64
+        → into.new.items ≡ into.old.items
+        ++ map (former_at func span.now.length (tuples_of (S.stored store.now)))
+        (starts_from span.now.slide complete.first complete.count) }
+    ensures adds { Adds complete.count into.old into.new }
+    ensures cost { steps.new ≤ steps.old + 64 * ((S.stored store.now).reach + 2) * complete.count }
+    ensures shared { IsShared span.now (S.stored store.now).slices complete steps.old steps.new }
+{
+    let mut done = 0;
+    while done < complete.count {
+        let group = Complete {
+            first: complete.first + done,
+            count: (complete.count - done).min(MOST as u64),
+        };
+        append_some_formers(func, span, store, group, into, steps);
+        done += group.count;
+    }
+}
+
+// The same of at most so many.
+fn append_some_formers<S: AggStore, L>(
     func: Func,
     span: &Span,
     store: &S,
@@ -146,9 +176,42 @@ fn append_shared_formers<S: AggStore, L>(
     }
 }
 
-/// Appends each as it shows now, with what stood of it before. Several that are close are folded
-/// together.
+/// Appends each as it shows now, with what stood of it before. Those that are close are folded
+/// together, 64 at once.
 pub fn append_late<S: AggStore, L>(
+    owner: Owner,
+    span: &Span,
+    store: &S,
+    complete: Complete,
+    formers: &[Option<Former>],
+    out: &mut Vec<Change>,
+    steps: &mut Steps<L>,
+)
+    requires intervals { MayFold span.now (S.stored store.now).slices complete }
+    requires formers { complete.count ≤ length formers.now }
+    requires spare { complete.count ≤ room out.old }
+    ensures told { length (tuples_of (S.stored store.now)) < 2 ^ 64 → out.new.items ≡ out.old.items
+        ++ told_late (told_at owner.entry.window owner.entry.key.now owner.entry.func
+        span.now.length (tuples_of (S.stored store.now)))
+        (starts_from span.now.slide complete.first complete.count) formers.now }
+    ensures adds { Adds complete.count out.old out.new }
+    ensures cost { steps.new ≤ steps.old + 64 * ((S.stored store.now).reach + 2) * complete.count }
+    ensures shared { IsShared span.now (S.stored store.now).slices complete steps.old steps.new }
+{
+    let mut done = 0;
+    while done < complete.count {
+        let group = Complete {
+            first: complete.first + done,
+            count: (complete.count - done).min(MOST as u64),
+        };
+        let stood = &formers[done as usize..];
+        append_some_late(owner, span, store, group, stood, out, steps);
+        done += group.count;
+    }
+}
+
+// The same of at most so many.
+fn append_some_late<S: AggStore, L>(
     owner: Owner,
     span: &Span,
     store: &S,
