@@ -115,23 +115,3 @@ fn a_mark_at_the_watermark_settles_what_lies_before_it(rt: HostRuntime) -> Resul
     ];
     counts_slices(&rt, &[Kind::Marks], 0, &told)
 }
-
-// Tuples of one slice leave what is due: those of equal times too. One at the very cut begins another
-// slice, one behind a mark a third, and what comes after the first slice has left joins the last.
-#[test]
-fn slices_settle_as_tuples_in_order_join_them(rt: HostRuntime) -> Result<(), Fail> {
-    let key = KeyText::from_bytes(b"a")?;
-    let told = [
-        (tuple(1)?, 1),
-        (tuple(4)?, 1),
-        (tuple(4)?, 1),
-        (tuple(10)?, 2),
-        (What::Mark { key, time: 12 }, 2),
-        (tuple(13)?, 3),
-        (water(10), 2),
-        (tuple(14)?, 2),
-        (water(19), 2),
-        (water(20), 0),
-    ];
-    counts_slices(&rt, &[TENS], 0, &told)
-}

@@ -1,6 +1,6 @@
 -- What is due of a key stays where a tuple joins a slice of tumbling and sliding windows.
-use Rattle.std.proofs.Common.{◌≡◌, ◌∙◌, ◌<◌, ◌≤◌, ◌+◌, ◌-◌, ◌*◌, ℕ, suc, Bool, true, false, not, List, [], ◌∷◌, length, get_or, map, ap, arith, refl, sym, subst, inl, inr, ⊎_elim}
-use Rattle.std.specs.Prelude.{◌&&◌, ◌||◌, All, filter, nat_le, nat_lt, if◌then◌else◌}
+use Rattle.std.proofs.Common.{◌≡◌, ◌∙◌, ◌<◌, ◌≤◌, ◌+◌, ◌-◌, ◌*◌, ℕ, suc, Bool, true, false, not, List, [], ◌∷◌, length, get_or, ap, arith, refl, sym, subst, inl, inr, ⊎_elim}
+use Rattle.std.specs.Prelude.{◌&&◌, ◌||◌, All, filter, nat_lt, if◌then◌else◌}
 use Rattle.std.specs.List.{Contains, enumerate_from, flat_map}
 use Rattle.std.proofs.lemmas.Bool.{cases_lt, false_from_ne_true, false≢true, le-leb, le-ltb, leb-true, lt-ltb}
 use Rattle.std.proofs.lemmas.List.Elements.{All-contains}

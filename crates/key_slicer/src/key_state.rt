@@ -93,9 +93,10 @@ pub fn leaves_due(defs: &Defs, joined: bool) -> bool
 fn all_timed(defs: &Defs) -> bool
     ensures { result ≡ true → All (λ w. is_timed w.kind ≡ true) (defs.now).windows }
 {
-    defs.windows()
-        .iter()
-        .all(|def| matches!(def.kind, Kind::Tumbling { .. } | Kind::Sliding { .. }))
+    defs.windows().iter().all(|def| matches!(
+        def.kind,
+        Kind::Tumbling { .. } | Kind::Sliding { .. }
+    ))
 }
 
 // Puts a tuple into the store, unless each window counts events: then it is settled at once.
