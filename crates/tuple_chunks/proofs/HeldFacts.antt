@@ -1,7 +1,7 @@
 -- The tuples of a key, few or many, after an edit.
 use Rattle.std.proofs.Common.{◌≡◌, ◌∙◌, ℕ, ◌<◌, ◌≤◌, List, [], Option, None, Some, ap, arith, length, refl, subst, sym}
 use Rattle.std.specs.Prelude.{IfSome, nat_le}
-use Rattle.std.specs.List.{All, filter}
+use Rattle.std.specs.List.{filter}
 use Rattle.std.proofs.lemmas.List.Elements.{All-weaker}
 use Rattle.std.proofs.lemmas.List.Kept.{IsNonDecreasingBy-filter}
 use Rattle.stream_base.specs.declared.kept.Kept.{Kept}
@@ -9,7 +9,7 @@ use Rattle.stream_base.specs.Laws.{TimesDoNotFall}
 use Rattle.stream_base.specs.Model.Journal.{put_in_order}
 use Rattle.stream_base.specs.Model.Windows.{last_time}
 use Rattle.slice_lists.proofs.SliceEdits.{put_length}
-use Rattle.tuple_chunks.specs.Held.{AreRows, Held, IsHeld, held_of}
+use Rattle.tuple_chunks.specs.Held.{Held, IsHeld, held_of}
 use Rattle.tuple_chunks.proofs.Putting.{put_times}
 use Rattle.tuple_chunks.proofs.TimeFacts.{below_last, leave_all, some_stay}
 

@@ -1,5 +1,5 @@
 -- Tuples in a range of times.
-use Rattle.std.proofs.Common.{◌≡◌, ◌+◌, ◌-◌, ◌<◌, ◌≤◌, ℕ, true, false, List, length, get_or, take, drop, arith, sym}
+use Rattle.std.proofs.Common.{◌≡◌, ◌-◌, ◌<◌, ◌≤◌, ℕ, true, false, List, length, get_or, take, drop, arith, sym}
 use Rattle.std.specs.Prelude.{min, nat_le, nat_lt}
 use Rattle.std.proofs.lemmas.Bool.{le-leb, lt-ltb, le-ltb, lt-leb, and_from, and_left, and_right}
 use Rattle.stream_base.specs.declared.kept.Kept.{Kept}

@@ -1,5 +1,5 @@
 -- Rows of parts after an edit.
-use Rattle.std.proofs.Common.{◌≡◌, ◌≢◌, ◌∙◌, ℕ, ◌+◌, ◌-◌, ◌<◌, ◌≤◌, ◌^◌, Bool, true, false, cond, List, [], ◌∷◌, ◌++◌, None, length, get_or, set, take, drop, ap, sym, refl, subst, arith, zero, suc, length-append, length-take, length-drop}
+use Rattle.std.proofs.Common.{◌≡◌, ◌∙◌, ℕ, ◌+◌, ◌-◌, ◌<◌, ◌≤◌, ◌^◌, Bool, true, false, cond, List, [], ◌∷◌, ◌++◌, None, length, get_or, take, drop, ap, sym, refl, subst, arith, zero, suc, length-append, length-take, length-drop}
 use Rattle.std.specs.Prelude.{nat_le, remove, Option}
 use Rattle.std.specs.List.{All, filter, flat_map}
 use Rattle.std.proofs.lemmas.Grind.{flat_map-append}

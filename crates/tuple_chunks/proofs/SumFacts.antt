@@ -1,5 +1,5 @@
 -- Sums of tuples, one behind the other.
-use Rattle.std.proofs.Common.{◌≡◌, ◌∙◌, ℤ, ◌<◌, List, [], ◌∷◌, ◌++◌, Option, None, Some, true, length, length-append, map, ap, arith, refl, subst, sym}
+use Rattle.std.proofs.Common.{◌≡◌, ◌∙◌, ℤ, ◌<◌, List, [], ◌∷◌, ◌++◌, Option, None, Some, true, length, length-append, ap, arith, refl, subst, sym}
 use Rattle.std.specs.Prelude.{FitsSigned, is_some}
 use Rattle.std.specs.Int.{w64}
 use Rattle.std.specs.List.{All}
@@ -7,7 +7,6 @@ use Rattle.std.proofs.lemmas.List.{append-nil, map-append}
 use Rattle.std.proofs.lemmas.List.Elements.{All-append, All-map, All-nil}
 use Rattle.stream_base.specs.declared.kept.Kept.{Kept}
 use Rattle.aggregates.specs.Bundled.{Bundled, bundle_of, empty_bundle}
-use Rattle.slice_lists.specs.declared.slice.Slice.{Slice}
 use Rattle.slice_lists.specs.Slices.{slice_of, values_of}
 use Rattle.tuple_chunks.specs.Sums.{IsKeptSum, IsSum, number_in, shown_joined, shown_of, sum_of}
 use Rattle.tuple_chunks.proofs.TimeFacts.{last_of_append}

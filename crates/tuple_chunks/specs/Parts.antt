@@ -1,5 +1,5 @@
 -- Tuples in order, kept in parts one behind another.
-use Rattle.std.specs.Prelude.{◌≡◌, ◌≢◌, ◌≤◌, ◌<◌, ◌+◌, ◌++◌, ◌^◌, ◌⊎◌, ℕ, Bool, true, List, [], Option, None, Some, Result, All, IfOk, IfSome, OnOk, OnErr, length, take, slice_index_or, if◌then◌else◌}
+use Rattle.std.specs.Prelude.{◌≡◌, ◌≢◌, ◌≤◌, ◌<◌, ◌+◌, ◌++◌, ◌^◌, ◌⊎◌, ℕ, Bool, true, List, [], Option, None, Some, Result, All, IfOk, IfSome, OnOk, OnErr, length, take, slice_index_or}
 use Rattle.std.specs.List.{flat_map}
 use Rattle.stream_base.specs.declared.kept.Kept.{Kept}
 use Rattle.stream_base.specs.Laws.{TimesDoNotFall}

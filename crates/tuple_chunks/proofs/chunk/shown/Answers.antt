@@ -1,5 +1,5 @@
 -- Where there are tuples, they show by the first and the last.
-use Rattle.std.proofs.Common.{◌≡◌, ◌<◌, ◌∙◌, ap, sym, arith, length, rules, Some}
+use Rattle.std.proofs.Common.{◌<◌, ◌∙◌, ap, sym, arith, length, Some}
 use Rattle.slice_lists.proofs.SplitFacts.{shown_is}
 use Rattle.tuple_chunks.proofs.SumFacts.{some_shown}
 use Rattle.tuple_chunks.proofs.chunk.shown.Goals as goal

@@ -1,5 +1,5 @@
 -- A part whose last tuple is before the time leaves whole, and the next one loses what is before it.
-use Rattle.std.proofs.Common.{◌≡◌, ◌∙◌, ◌<◌, ◌≤◌, ◌+◌, ap, arith, drop, get_or, length, rules, subst, sym}
+use Rattle.std.proofs.Common.{◌≡◌, ◌∙◌, ◌<◌, ◌≤◌, ap, arith, length, subst, sym}
 use Rattle.std.specs.Prelude.{nat_le, remove}
 use Rattle.std.specs.List.{filter, flat_map}
 use Rattle.std.proofs.lemmas.List.{get_or_default}

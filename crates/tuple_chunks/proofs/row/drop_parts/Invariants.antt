@@ -1,5 +1,5 @@
 -- The parts that are left are those behind the ones that left, and no tuple from the time on is gone.
-use Rattle.std.proofs.Common.{◌≡◌, ◌<◌, ◌≤◌, ◌+◌, drop, length, vec_len}
+use Rattle.std.proofs.Common.{◌≡◌, ◌<◌, ◌≤◌, ◌+◌, drop, vec_len}
 use Rattle.std.specs.Prelude.{nat_le}
 use Rattle.std.specs.List.{filter, flat_map}
 use Rattle.stream_base.specs.declared.kept.Kept.{Kept}

@@ -1,5 +1,5 @@
 -- Those of the parts so far and of the next one are among all.
-use Rattle.std.proofs.Common.{◌+◌, ap, arith, length}
+use Rattle.std.proofs.Common.{ap, arith, length}
 use Rattle.tuple_chunks.proofs.RowFacts.{numbers_within}
 use Rattle.tuple_chunks.proofs.row.numbers.Goals as goal
 

@@ -1,5 +1,5 @@
 -- One part has the tuple more.
-use Rattle.std.proofs.Common.{◌≡◌, ◌∙◌, ap, sym, subst, length, get_or, ◌<◌, arith}
+use Rattle.std.proofs.Common.{◌∙◌, ap, length, arith}
 use Rattle.stream_base.specs.Model.Journal.{put_in_order}
 use Rattle.slice_lists.proofs.SliceEdits.{put_length}
 use Rattle.tuple_chunks.proofs.PartFacts.{put_parts, put_there}

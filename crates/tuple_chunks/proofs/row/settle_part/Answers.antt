@@ -1,5 +1,5 @@
 -- The part keeps its tuples, or those behind stand in a part of their own.
-use Rattle.std.proofs.Common.{◌≡◌, ◌∙◌, ◌+◌, ◌++◌, ◌<◌, ap, arith, get_or, length, rules, set, sym}
+use Rattle.std.proofs.Common.{◌≡◌, ◌∙◌, ◌+◌, ◌++◌, ◌<◌, ap, arith, length, rules, set, sym}
 use Rattle.std.specs.Prelude.{insert}
 use Rattle.std.specs.List.{flat_map}
 use Rattle.std.proofs.lemmas.List.{append-nil}

@@ -1,5 +1,5 @@
 -- One part more shows behind those so far.
-use Rattle.std.proofs.Common.{◌≡◌, ◌∙◌, ◌<◌, ◌+◌, ap, arith, get_or, length, sym, take}
+use Rattle.std.proofs.Common.{◌∙◌, ap, arith, get_or, length, sym, take}
 use Rattle.std.specs.List.{flat_map}
 use Rattle.stream_base.specs.Model.Windows.{within}
 use Rattle.tuple_chunks.specs.Sums.{number_in, shown_joined, shown_of}

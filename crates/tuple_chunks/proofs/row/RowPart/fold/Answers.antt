@@ -1,5 +1,5 @@
 -- None, all or some of the tuples are in the range, and the sum of all may be kept.
-use Rattle.std.proofs.Common.{◌≡◌, ◌∙◌, ◌-◌, [], true, ap, arith, length, sym, subst}
+use Rattle.std.proofs.Common.{◌≡◌, ◌∙◌, true, ap, arith, length, sym, subst}
 use Rattle.std.specs.Prelude.{◌&&◌, ◌||◌, nat_le, nat_lt}
 use Rattle.std.specs.List.{flat_map}
 use Rattle.stream_base.specs.Laws.{TimesDoNotFall}

@@ -1,7 +1,7 @@
 -- All parts have room, so both halves do.
 use Rattle.std.proofs.Common.{◌≡◌, ◌∙◌, ◌<◌, ◌++◌, ◌≤◌, true, cond, ap, arith, drop, length, length-drop, length-take, subst, sym, take}
 use Rattle.std.specs.List.{flat_map}
-use Rattle.tuple_chunks.specs.Parts.{AreParts, IsReady}
+use Rattle.tuple_chunks.specs.Parts.{IsReady}
 use Rattle.tuple_chunks.proofs.RowFacts.{back_number, back_parts, back_row, divided, front_parts, front_row, is_ready}
 use Rattle.tuple_chunks.proofs.PartFacts.{first_some}
 use Rattle.tuple_chunks.proofs.row.RowPart.settle.Goals as goal
