@@ -93,7 +93,7 @@ impl Part for Chunk {
     fn put(&mut self, x: Kept) {
         let place = place_of(&self.tuples, x.time);
         put_tuple(&mut self.tuples, place, x);
-        self.sum = None;
+        self.sum = None; // It was that of the tuples without this one.
     }
 
     fn drop_before(&mut self, time: u64) {

@@ -129,7 +129,7 @@ impl<P: Part> Part for Row<P> {
         self.number += 1;
         self.entered = at;
         self.ready = false;
-        self.sum = None;
+        self.sum = None; // It was that of the tuples without this one.
     }
 
     fn drop_before(&mut self, time: u64) {
