@@ -12,7 +12,7 @@ use Rattle.interval_walks.specs.Folds.{IsShared, slices_under}
 use Rattle.interval_walks.specs.Told.{complete_starts, starts_from}
 use Rattle.interval_walks.proofs.ToldFacts.{start_at, starts_length}
 use Rattle.time_lanes.specs.Late.{complete_holding}
-use Rattle.time_lanes.specs.Shared.{AreFewAt, IsSharedAt, slices_holding}
+use Rattle.time_lanes.specs.Shared.{IsSharedAt, slices_holding}
 
 pub shared_at : (kind : Kind) (time water : ℕ) (s : Stored) (span : Span) (complete : Complete) (each steps later : ℕ) → span.length ≡ length_of kind → span.slide ≡ slide_of kind
     → complete_starts span.length span.slide time water ≡ starts_from span.slide complete.first complete.count

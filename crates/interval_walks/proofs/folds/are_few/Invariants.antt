@@ -1,5 +1,5 @@
 -- What may still come, with the slices that are left, is what may come in all, with all slices.
-use Rattle.std.proofs.Common.{◌≡◌, ◌≤◌, ◌+◌, ◌-◌, length}
+use Rattle.std.proofs.Common.{◌≡◌, ◌+◌, ◌-◌, length}
 use Rattle.run_laws.specs.Runs.{runs_within}
 use Rattle.interval_walks.proofs.folds.are_few.Given as goal
 

@@ -1,7 +1,6 @@
 -- What goes up to the end of the first interval is joined to the part in front of it.
-use Rattle.std.proofs.Common.{◌≡◌, ◌∙◌, ◌≤◌, ◌+◌, ◌-◌, ◌*◌, ap, arith}
+use Rattle.std.proofs.Common.{◌≡◌, ◌∙◌, ◌≤◌, ◌+◌, ◌-◌, ◌*◌, arith}
 use Rattle.aggregates.specs.Bundled.{bundles_combined}
-use Rattle.agg_store.specs.Stored.{tuples_of}
 use Rattle.slice_lists.proofs.SliceOrder.{times_of_order}
 use Rattle.interval_walks.specs.Folds.{fold_between}
 use Rattle.interval_walks.proofs.Ranges.{fewer_from, number_in_two}

@@ -1,5 +1,5 @@
 -- What is folded goes from the newest start down to one, and stands at each start so far.
-use Rattle.std.proofs.Common.{◌≡◌, ◌≤◌, ◌<◌, ◌+◌, ◌-◌, ◌*◌, ℕ, length}
+use Rattle.std.proofs.Common.{◌≡◌, ◌≤◌, ◌<◌, ◌+◌, ◌*◌, ℕ, length}
 use Rattle.std.specs.Prelude.{slice_index_or}
 use Rattle.stream_base.specs.Laws.{TimesDoNotFall}
 use Rattle.aggregates.specs.Bundled.{empty_bundle}

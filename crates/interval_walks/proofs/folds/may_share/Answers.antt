@@ -1,5 +1,5 @@
 -- The start of the last interval is a time.
-use Rattle.std.proofs.Common.{◌+◌, ◌-◌, ◌*◌, arith}
+use Rattle.std.proofs.Common.{◌+◌, ◌-◌, arith}
 use Rattle.interval_walks.proofs.ToldFacts.{at_most_times}
 use Rattle.interval_walks.proofs.folds.may_share.Goals as goal
 

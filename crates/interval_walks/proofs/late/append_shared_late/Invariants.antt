@@ -1,5 +1,5 @@
 -- The intervals so far are told.
-use Rattle.std.proofs.Common.{◌≡◌, ◌≤◌, ◌<◌, ◌+◌, ◌*◌, ◌^◌, ◌++◌, length, vec_len}
+use Rattle.std.proofs.Common.{◌≡◌, ◌<◌, ◌+◌, ◌^◌, ◌++◌, length, vec_len}
 use Rattle.std.specs.Prelude.{vec_capacity}
 use Rattle.agg_store.specs.Stored.{tuples_of}
 use Rattle.interval_walks.specs.Told.{starts_from, told_at, told_late}
