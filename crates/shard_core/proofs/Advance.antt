@@ -23,7 +23,7 @@ use Rattle.stream_base.specs.declared.change.Change.{Change}
 use Rattle.stream_base.specs.declared.entry.Entry.{Entry}
 use Rattle.stream_base.specs.declared.kept.Kept.{Kept}
 use Rattle.stream_base.specs.Laws.{completions}
-use Rattle.stream_base.specs.Model.Changes.{changes_after, moment_of, rows_at, standing_rows}
+use Rattle.stream_base.specs.Model.Changes.{changes_after, moment_of}
 use Rattle.stream_base.specs.Model.Journal.{keys_of, kept_of, marks_of}
 use Rattle.stream_base.specs.Model.Watermark.{water_of}
 use Rattle.stream_base.specs.Model.What.{is_late, is_progress}

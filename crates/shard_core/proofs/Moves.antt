@@ -5,7 +5,7 @@ use Rattle.std.specs.Cmp.Lexicographic.{slice_cmp}
 use Rattle.std.specs.List.{All, Contains, enumerate_from, filter, flat_map}
 use Rattle.std.specs.List.Sorted.{IsNonDecreasingBy, IsStrictlySortedBy}
 use Rattle.std.specs.Ordering.{nat_cmp}
-use Rattle.std.proofs.lemmas.Bool.{cases_lt, false_from_ne_true, and_cases, both_ways, leb-false, le-ltb, lt-leb, lt-ltb, le-leb}
+use Rattle.std.proofs.lemmas.Bool.{cases_lt, false_from_ne_true, and_cases, both_ways, leb-false, le-ltb, lt-ltb}
 use Rattle.std.proofs.lemmas.Cmp.{nat_list_cmp_total}
 use Rattle.std.proofs.lemmas.List.Kept.{IsStrictlySortedBy-filter}
 use Rattle.key_windows.specs.Calls.{moment}
@@ -14,7 +14,7 @@ use Rattle.stream_base.specs.declared.change.Change.TheVariants.{New}
 use Rattle.stream_base.specs.declared.def.Def.{Def}
 use Rattle.stream_base.specs.declared.kept.Kept.{Kept}
 use Rattle.stream_base.specs.Laws.{RiseByStart, becomes_complete, completions}
-use Rattle.stream_base.specs.Model.Changes.{Moment, changes_between, row_of, rows_at, standing_at}
+use Rattle.stream_base.specs.Model.Changes.{Moment, changes_between, row_of, standing_at}
 use Rattle.stream_base.specs.Model.Windows.{Instance, instances_of, is_complete}
 use Rattle.model_laws.proofs.Absent.{is_key_or_not, no_instances}
 use Rattle.stream_base.proofs.ChangeFacts.{changes_at_water, flat_map_same, no_changes}

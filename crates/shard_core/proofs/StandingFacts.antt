@@ -1,10 +1,9 @@
 -- The changes of a journal lead to what stands behind it.
-use Rattle.std.proofs.Common.{◌≡◌, ◌∙◌, ℕ, List, [], ◌∷◌, ◌++◌, ap, sym, refl, append_assoc}
+use Rattle.std.proofs.Common.{◌≡◌, ◌∙◌, ℕ, List, [], ◌∷◌, ◌++◌, ap, sym, append_assoc}
 use Rattle.std.proofs.lemmas.List.{append-nil}
 use Rattle.std.proofs.lemmas.List.Sums.{fold-append}
 use Rattle.stream_base.specs.Limits.{AreWithinLimits, Definitions}
 use Rattle.stream_base.specs.declared.entry.Entry.{Entry}
-use Rattle.stream_base.specs.declared.row.Row.{Row}
 use Rattle.stream_base.specs.Model.Changes.{changes_after, standing_rows}
 use Rattle.model_laws.specs.Rows.{after_change, rows_after}
 use Rattle.model_laws.proofs.RowChanges.{nothing_first, rows_follow}

@@ -1,5 +1,5 @@
 -- The changes are kept one behind the other.
-use Rattle.std.proofs.Common.{◌∙◌, ap, arith, length, sym}
+use Rattle.std.proofs.Common.{ap, arith, length}
 use Rattle.shard_core.proofs.shard.KeyedShard.change_count.Goals as goal
 
 pub returns : goal.returns
