@@ -1,7 +1,6 @@
 -- A feed that is handed back where memory ran out behind its end.
-use Rattle.std.proofs.Common.{◌≡◌, ℕ, List, refl, inr, ◌⊎◌, Option, Some, None}
+use Rattle.std.proofs.Common.{◌≡◌, ℕ, refl, inr}
 use Rattle.source_feed.specs.FeedView.{FeedView}
-use Rattle.source_feed.specs.declared.feed_fault.FeedFault.{FeedFault}
 use Rattle.source_feed.specs.declared.feed_fault.FeedFault.TheVariants.{Read, NoMemory}
 use Rattle.fan_in.specs.declared.outcome.Outcome.{Outcome}
 use Rattle.fan_in.specs.declared.outcome.Outcome.TheVariants.{Done, Fault, Full}

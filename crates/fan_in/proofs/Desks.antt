@@ -18,7 +18,7 @@ use Rattle.turnstile.specs.declared.pass.Pass.{Pass}
 use Rattle.turnstile.specs.History.{by_number, of_number}
 use Rattle.turnstile.specs.Passes.{number, seen, made, IsTurn}
 use Rattle.fan_in.specs.declared.fixed_part.FixedPart.{FixedPart}
-use Rattle.fan_in.specs.Desks.{BookedState, booked_items, booked_with, entries_of, fixed_of, items_of}
+use Rattle.fan_in.specs.Desks.{BookedState, booked_items, booked_with, entries_of, items_of}
 use Rattle.fan_in.specs.Offers.{Books, FoundEnded, HoldsCause, IsOffered, IsOpen, IsRefused}
 
 cancel : {A : Type 0} (xs ys zs : List A) → xs ++ ys ≡ xs ++ zs → ys ≡ zs

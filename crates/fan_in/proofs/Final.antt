@@ -1,5 +1,5 @@
 -- From the desks that were opened and the feeds that were read to what is handed back.
-use Rattle.std.proofs.Common.{◌≡◌, ◌≤◌, ◌<◌, ◌+◌, arith, ℕ, List, [], ◌++◌, length, get_or, sym, refl, ap, subst, ◌∙◌, inr, ◌⊎◌, ⊎_elim, Option, Some, None}
+use Rattle.std.proofs.Common.{◌≡◌, ◌≤◌, ◌<◌, arith, ℕ, List, [], ◌++◌, length, get_or, sym, ap, subst, ◌∙◌, ◌⊎◌, ⊎_elim, Option, Some}
 use Rattle.std.specs.Prelude.{All, IfSome, Vec}
 use Rattle.std.specs.declared.alloc.Global.{Global}
 use Rattle.stream_base.specs.declared.entry.Entry.{Entry}
@@ -7,9 +7,6 @@ use Rattle.stream_base.specs.declared.limits.TheConstants.{JOURNAL_MAX}
 use Rattle.stream_base.specs.Model.Routes.{routed}
 use Rattle.shard_core.specs.Shard.{Sharded}
 use Rattle.source_feed.specs.FeedView.{FeedView}
-use Rattle.source_feed.specs.Stream.{Stream}
-use Rattle.source_feed.specs.declared.feed_fault.FeedFault.{FeedFault}
-use Rattle.source_feed.specs.declared.feed_fault.FeedFault.TheVariants.{Read, NoMemory}
 use Rattle.turnstile.specs.declared.keeps.Keeps.{Ghosts}
 use Rattle.turnstile.specs.declared.pass.Pass.{Pass}
 use Rattle.turnstile.specs.declared.turnstile.Turnstile.{Turnstile}
@@ -17,7 +14,7 @@ use Rattle.turnstile.specs.Passes.{made, seen}
 use Rattle.fan_in.specs.Closings.{AreStanding, IsClosed, IsSettled, MadeOwn}
 use Rattle.fan_in.specs.Desks.{BookedState}
 use Rattle.fan_in.specs.Floors.{AreSeats, IsFloor}
-use Rattle.fan_in.specs.Gathering.{GaveStream, HoldsFirst, FeedEnded, IsFault, IsFresh, NamesOneOf}
+use Rattle.fan_in.specs.Gathering.{HoldsFirst, FeedEnded, IsFault, IsFresh, NamesOneOf}
 use Rattle.fan_in.specs.Ports.{HasHanded}
 use Rattle.fan_in.specs.Reading.{AreSame, HaveHanded, IsReadyAt}
 use Rattle.fan_in.specs.Works.{without_shards}
@@ -26,6 +23,7 @@ use Rattle.fan_in.specs.declared.outcome.Outcome.{Outcome}
 use Rattle.fan_in.specs.declared.outcome.Outcome.TheVariants.{Done, Fault, Full}
 use Rattle.fan_in.proofs.Backs.{back_without}
 use Rattle.fan_in.proofs.Lists.{some_of}
+use Rattle.fan_in.proofs.Read.{ready_at}
 use Rattle.fan_in.specs.Seating.{pass_port}
 
 pub fault_without : (o : Outcome) → IsFault (without_shards o)
@@ -48,26 +46,14 @@ module _ {g : Ghosts BookedState Entry FixedPart} where
   -- a feed that wasn't read is ready to be read at the desks of its seats
   pub ready : (start : FeedView) (i : ℕ) (desks : List (Turnstile BookedState Entry FixedPart)) (f : FixedPart) (row : List (Pass BookedState Entry FixedPart g)) → IsFresh i start → AreSeats (Some f) i desks row → All (λ p. made p ≡ []) row → i < f.sources
       → length desks ≤ 16 → IsReadyAt pass_port desks start Done row
-  ready start i desks f row fresh seats blank l few = record {
-    stand = record {
-      few = few;
-      many = seats.many;
-      own = λ k d p lk. (seats.each k d p (let m = seats.many in omega arith)).own;
-    };
-    ready = record {
-      running = fresh.running;
-      unanswered = fresh.unanswered;
-      unread = fresh.blank;
-      done = refl;
-      own_source = λ k p lk.
-          let ld : k < length desks = let m = seats.many in omega arith in
-          let seat = seats.each k (some_of desks k ld) p ld in (
-            seat.number_is ∙ ap (λ s. s + 1) (sym fresh.of_source),
-            subst (λ (o : Option FixedPart). IfSome o (λ f. start.source < f.sources)) (sym seat.fixed_is) (subst (λ s. s < f.sources) (sym fresh.of_source) l),
-          );
-      blank = blank;
-    };
-  }
+  ready start i desks f row fresh seats blank l few =
+      ready_at pass_port desks start i row fresh
+      (record { few = few; many = seats.many; own = λ k d p lk. (seats.each k d p (let m = seats.many in omega arith)).own })
+      (λ k p lk.
+      let ld : k < length desks = let m = seats.many in omega arith in
+      let seat = seats.each k (some_of desks k ld) p ld in
+      (seat.number_is, subst (λ (o : Option FixedPart). IfSome o (λ f. i < f.sources)) (sym seat.fixed_is) l))
+      blank
 
   pub standing : (f : Option FixedPart) (sources : ℕ) (desks : List (Turnstile BookedState Entry FixedPart)) (zeros : List (Pass BookedState Entry FixedPart g)) (rows rows' : List (Vec (Pass BookedState Entry FixedPart g) Global))
       → IsFloor f sources desks zeros rows → length rows' ≡ sources → ((i : ℕ) (row : Vec (Pass BookedState Entry FixedPart g) Global) → i < sources → AreSame pass_port (get_or rows i row).items (get_or rows' i row).items)

@@ -1,11 +1,10 @@
 -- From the lanes that were opened and the feeds that were read to what is handed back.
-use Rattle.std.proofs.Common.{◌≡◌, ◌≤◌, ◌<◌, arith, ℕ, List, [], length, get_or, sym, refl, subst, ◌∙◌}
+use Rattle.std.proofs.Common.{◌≡◌, ◌≤◌, ◌<◌, arith, ℕ, List, [], length, get_or, sym, subst, ◌∙◌}
 use Rattle.std.specs.Prelude.{All, Vec}
 use Rattle.std.specs.declared.alloc.Global.{Global}
 use Rattle.stream_base.specs.Limits.{Definitions}
 use Rattle.stream_base.specs.declared.entry.Entry.{Entry}
 use Rattle.source_feed.specs.FeedView.{FeedView}
-use Rattle.source_feed.specs.declared.feed_fault.FeedFault.{FeedFault}
 use Rattle.mail_lane.specs.Lane.{Lane, SenderState}
 use Rattle.fan_in.specs.declared.outcome.Outcome.{Outcome}
 use Rattle.fan_in.specs.declared.outcome.Outcome.TheVariants.{Done}
@@ -16,27 +15,18 @@ use Rattle.fan_in.specs.Reading.{AreFrom, AreSame, IsReadyAt}
 use Rattle.fan_in.specs.Settling.{AreSentRows, Follows}
 use Rattle.fan_in.specs.Sending.{sender_port}
 use Rattle.fan_in.proofs.Lists.{some_of}
+use Rattle.fan_in.proofs.Read.{ready_at}
 use Rattle.fan_in.proofs.Outcomes.{back_follows}
 
 -- a feed that wasn't read is ready to be read and sent
 pub ready : (start : FeedView) (i : ℕ) (lanes : List Lane) (row : List (SenderState Entry)) → length lanes ≤ 16 → IsFresh i start → AreBoxesOf i lanes row → All (λ s. s.sent ≡ []) row → IsReadyAt sender_port lanes start Done row
-ready start i lanes row few fresh boxes blank = record {
-  stand = record {
-    few = few;
-    many = boxes.many;
-    own = λ k l s lt. (boxes.each k l s (let m = boxes.many in omega arith)).lane_is;
-  };
-  ready = record {
-    running = fresh.running;
-    unanswered = fresh.unanswered;
-    unread = fresh.blank;
-    done = refl;
-    own_source = λ k s lk.
-        let ll : k < length lanes = let m = boxes.many in omega arith in
-        (boxes.each k (some_of lanes k ll) s ll).number_is ∙ sym fresh.of_source;
-    blank = blank;
-  };
-}
+ready start i lanes row few fresh boxes blank =
+    ready_at sender_port lanes start i row fresh
+    (record { few = few; many = boxes.many; own = λ k l s lt. (boxes.each k l s (let m = boxes.many in omega arith)).lane_is })
+    (λ k s lk.
+    let ll : k < length lanes = let m = boxes.many in omega arith in
+    (boxes.each k (some_of lanes k ll) s ll).number_is)
+    blank
 
 -- the rows of senders after all feeds were read
 pub sent_rows : (d : Definitions) (sources : ℕ) (lanes : List Lane) (owners : List OwnerJob) (rows rows' : List (Vec (SenderState Entry) Global)) → IsPost d sources lanes owners rows → length rows' ≡ sources

@@ -1,5 +1,5 @@
 -- One feed, from its first entry to its end or fault.
-use Rattle.std.proofs.Common.{◌≡◌, ◌<◌, ◌+◌, arith, suc, append-nil, append_assoc, length-append, ℕ, true, false, Bool, eqb, List, [], ◌∷◌, ◌++◌, length, get_or, sym, refl, ap, subst, ◌∙◌, inl, inr, ◌⊎◌, Option, Some, None, Ok, Err}
+use Rattle.std.proofs.Common.{◌≡◌, ◌<◌, arith, suc, append-nil, append_assoc, length-append, ℕ, true, false, Bool, eqb, List, [], ◌∷◌, ◌++◌, length, get_or, sym, refl, ap, subst, ◌∙◌, inl, inr, ◌⊎◌, Option, Some, None, Ok, Err}
 use Rattle.std.specs.Prelude.{◌&&◌, All}
 use Rattle.std.proofs.lemmas.List.{get_or_append_left}
 use Rattle.std.proofs.lemmas.List.Folds.{list_any_none}
@@ -21,7 +21,7 @@ use Rattle.fan_in.specs.declared.outcome.Outcome.TheVariants.{Done, Fault, Full}
 use Rattle.fan_in.specs.declared.port.Port.{Ghosts}
 use Rattle.fan_in.specs.Gathering.{GaveStream, Shows, NamesOneOf}
 use Rattle.fan_in.specs.Ports.{HasHanded, IsHalfway, PortLaws}
-use Rattle.fan_in.specs.Reading.{AreFrom, AreSame, EndsLast, HaveHanded, IsReady, IsReadyAt, IsRead, MayTake, StandAt, TakesMore, WasRead}
+use Rattle.fan_in.specs.Reading.{AreFrom, AreSame, EndsLast, HaveHanded, IsReady, MayTake, StandAt, TakesMore, WasRead}
 
 -- once seen, the stream of a source stays
 pub seen_more : (a b c : Option Stream) → StaysTold a b → StaysTold b c → StaysTold a c

@@ -1,16 +1,14 @@
 -- The outcomes of feeds, as the notes of owners go into them.
-use Rattle.std.proofs.Common.{◌≡◌, ◌≢◌, ◌≤◌, ◌<◌, ◌+◌, arith, append_assoc, length-append, ℕ, Bool, true, false, eqb, List, [], ◌∷◌, ◌++◌, length, get_or, sym, refl, ap, subst, ◌∙◌, inl, inr, ◌⊎◌, ⊎_elim, Option, Some, None}
-use Rattle.std.specs.Prelude.{IfSome}
+use Rattle.std.proofs.Common.{◌≡◌, ◌≢◌, ◌≤◌, ◌<◌, ◌+◌, arith, append_assoc, length-append, ℕ, Bool, true, false, eqb, List, [], ◌∷◌, ◌++◌, length, sym, refl, ap, subst, ◌∙◌, inl, inr, ◌⊎◌, ⊎_elim}
 use Rattle.stream_base.specs.declared.entry.Entry.{Entry}
 use Rattle.stream_base.specs.declared.limits.TheConstants.{JOURNAL_MAX}
 use Rattle.stream_base.specs.Model.Routes.{entries_from, routed}
 use Rattle.source_feed.specs.FeedView.{FeedView}
-use Rattle.source_feed.specs.Stream.{Stream}
 use Rattle.source_feed.specs.declared.feed_fault.FeedFault.{FeedFault}
 use Rattle.source_feed.specs.declared.feed_fault.FeedFault.TheVariants.{Read, NoMemory}
 use Rattle.fan_in.specs.declared.outcome.Outcome.{Outcome}
 use Rattle.fan_in.specs.declared.outcome.Outcome.TheVariants.{Done, Fault, Full}
-use Rattle.fan_in.specs.Gathering.{GaveStream, HoldsFirst, FeedEnded, NamesOneOf}
+use Rattle.fan_in.specs.Gathering.{HoldsFirst, FeedEnded, NamesOneOf}
 use Rattle.fan_in.specs.Ports.{HasHanded, IsAbout, IsHalfway}
 use Rattle.fan_in.specs.Settling.{Follows, HoldsSent, worse}
 use Rattle.turnstile.specs.History.{BeginsWith}

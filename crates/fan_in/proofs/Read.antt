@@ -1,5 +1,5 @@
 -- Feeds and rows that were made readers of, the last one first, and back.
-use Rattle.std.proofs.Common.{◌≡◌, ◌≤◌, ◌<◌, ◌+◌, ◌-◌, arith, ℕ, List, length, get_or, sym, subst, ◌∙◌}
+use Rattle.std.proofs.Common.{◌≡◌, ◌<◌, ◌+◌, ◌-◌, arith, ℕ, List, [], length, get_or, refl, sym, subst, ◌∙◌}
 use Rattle.std.specs.Prelude.{All, Vec}
 use Rattle.std.specs.declared.alloc.Global.{Global}
 use Rattle.source_feed.specs.FeedView.{FeedView}
@@ -7,8 +7,24 @@ use Rattle.fan_in.specs.declared.gathered.FeedEnd.{FeedEnd}
 use Rattle.fan_in.specs.declared.outcome.Outcome.TheVariants.{Done}
 use Rattle.fan_in.specs.declared.port.Port.{Ghosts}
 use Rattle.fan_in.specs.declared.reader.Reader.{Reader}
+use Rattle.fan_in.specs.Gathering.{IsFresh}
+use Rattle.fan_in.specs.Reading.{IsReadyAt, StandAt}
 use Rattle.fan_in.specs.Readers.{AreReadOut, AreReady, HasRead, HaveRead, MayRead}
 use Rattle.fan_in.proofs.Lists.{some_of}
+
+-- a feed that wasn't read is ready to be read, with the ports of its source
+pub ready_at : {P I : Type 0} (port : Ghosts P I) (inlets : List I) (start : FeedView) (i : ℕ) (ports : List P) → IsFresh i start → StandAt port inlets ports → All (port.is_of i) ports → All (λ p. port.handed p ≡ []) ports → IsReadyAt port inlets start Done ports
+ready_at port inlets start i ports fresh stand own blank = record {
+  stand = stand;
+  ready = record {
+    running = fresh.running;
+    unanswered = fresh.unanswered;
+    unread = fresh.blank;
+    done = refl;
+    own_source = subst (λ s. All (port.is_of s) ports) (sym fresh.of_source) own;
+    blank = blank;
+  };
+}
 
 module _ {F P I : Type 0} (port : Ghosts P I) (state : F → FeedView) (faults : F → ℕ) (inlets : List I) (feeds : List F) (rows : List (Vec P Global)) (readers : List (Reader F P)) (many : length readers ≡ length feeds)
     (made : (i j : ℕ) (f : F) (row : Vec P Global) (r : Reader F P) → i + j + 1 ≡ length feeds → get_or readers i r ≡ record { feed = get_or feeds j f; outcome = Done; ports = get_or rows j row }) where

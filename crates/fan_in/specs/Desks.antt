@@ -1,5 +1,5 @@
 -- A shard under a ticket lock: its journal, each entry with the number of the pass that made it.
-use Rattle.std.specs.Prelude.{◌≡◌, ◌+◌, ◌++◌, ℕ, List, [], ◌∷◌, map}
+use Rattle.std.specs.Prelude.{◌++◌, ℕ, List, [], ◌∷◌, map}
 use Rattle.std.specs.List.{zip}
 use Rattle.stream_base.specs.declared.entry.Entry.{Entry}
 use Rattle.shard_core.specs.Shard.{Sharded, sharded_with}

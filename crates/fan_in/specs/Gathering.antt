@@ -9,7 +9,6 @@ use Rattle.shard_core.specs.Shard.{IsJournal, Sharded}
 use Rattle.source_feed.specs.FeedFault.{refusal_of}
 use Rattle.source_feed.specs.FeedView.{FeedView, given_then}
 use Rattle.source_feed.specs.Stream.{StaysTold}
-use Rattle.source_feed.specs.declared.feed_fault.FeedFault.{FeedFault}
 use Rattle.source_feed.specs.declared.feed_fault.FeedFault.TheVariants.{Read, NoMemory}
 use Rattle.turnstile.specs.History.{BeginsWith}
 use Rattle.fan_in.specs.declared.gathered.FeedEnd.{FeedEnd}

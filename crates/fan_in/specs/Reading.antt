@@ -5,7 +5,6 @@ use Rattle.stream_base.specs.Model.Journals.{is_entry_within}
 use Rattle.stream_base.specs.Model.Routes.{routed}
 use Rattle.stream_base.specs.Model.What.{is_end}
 use Rattle.source_feed.specs.FeedView.{FeedView}
-use Rattle.source_feed.specs.declared.feed_fault.FeedFault.{FeedFault}
 use Rattle.fan_in.specs.declared.outcome.Outcome.{Outcome}
 use Rattle.fan_in.specs.declared.outcome.Outcome.TheVariants.{Done, Fault, Full}
 use Rattle.fan_in.specs.declared.port.Port.{Ghosts}

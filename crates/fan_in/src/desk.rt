@@ -37,11 +37,7 @@ impl<N: Numbering, D: Door, L> Call<BookedBy<N>> for OfferTurn<'_, '_, D, L> {
         × All (λ item. N.may item.0 item.1) (items_of before) };
 
     fn run(self, value: &mut BookedBy<N>, number: u64) -> Result<Applied, ApplyFault> {
-        let OfferTurn {
-            door,
-            entry,
-            steps,
-        } = self;
+        let OfferTurn { door, entry, steps } = self;
         door.pass();
         value.book(entry, number, steps)
     }
@@ -78,10 +74,6 @@ pub(crate) fn offer_through<N: Numbering, D: Door, L, R: Wait>(
     ensures answered { IsAnswered entry.now pass.old pass.new result }
     ensures ended { IsErrOf result Ended → FoundEnded N.may entry.now pass.old }
 {
-    let call = OfferTurn {
-        door,
-        entry,
-        steps,
-    };
+    let call = OfferTurn { door, entry, steps };
     desk.turn(rt, pass, call)
 }

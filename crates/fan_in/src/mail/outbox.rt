@@ -48,12 +48,7 @@ impl Outbox {
     }
 
     // Sends one entry more. A lane takes no more than one above what a journal holds.
-    fn send<R: Wait>(
-        &mut self,
-        rt: &R,
-        mail: &Mail<Entry>,
-        entry: Entry,
-    ) -> Result<(), NoMemory>
+    fn send<R: Wait>(&mut self, rt: &R, mail: &Mail<Entry>, entry: Entry) -> Result<(), NoMemory>
         requires own { IsSenderOf mail.now self.old }
         requires few { length (self.old).sent ≤ JOURNAL_MAX }
         ensures sent { OnOk result (self.new ≡ with_message self.old entry) }

@@ -32,8 +32,8 @@ pub(crate) fn settle_all<F, G: Gate, R: Threads + Wait>(
     gate: &G,
     alloc: Global,
     plan: &Plan,
-    mut lanes: Vec<Mail<Entry>>,
-    mut owners: Vec<OwnerJob>,
+    lanes: Vec<Mail<Entry>>,
+    owners: Vec<OwnerJob>,
     mut rows: Vec<Vec<Outbox>>,
     shards: &mut Vec<Shard>,
     ends: &mut [FeedEnd<F>],
@@ -53,17 +53,13 @@ pub(crate) fn settle_all<F, G: Gate, R: Threads + Wait>(
         (slice_index_or (slice_index_or rows.items i row).items k b).sent
         (slice_index_or ends.new i e).outcome (slice_index_or shards.new.items k s).journal }
 {
-    for _k in 0..lanes.len() {
-        let mail = lanes.remove(0);
-        let owner = settle_lane(
-            rt,
-            gate,
-            alloc,
-            plan,
-            mail,
-            owners.remove(0),
-            rows.as_mut_slice(),
-        );
+    let many = lanes.len();
+    let mut lanes = lanes.into_iter();
+    let mut owners = owners.into_iter();
+    for _k in 0..many {
+        let mail = lanes.next().unwrap();
+        let job = owners.next().unwrap();
+        let owner = settle_lane(rt, gate, alloc, plan, mail, job, rows.as_mut_slice());
         take_notes(ends, &owner.notes);
         shards.push_reserved(owner.shard);
     }

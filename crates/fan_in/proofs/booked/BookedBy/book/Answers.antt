@@ -1,5 +1,4 @@
-use Rattle.std.proofs.Common.{◌≡◌, ◌∙◌, All, length, ap, arith, length-append, sym, subst}
-use Rattle.stream_base.specs.declared.entry.Entry.{Entry}
+use Rattle.std.proofs.Common.{◌≡◌, ◌∙◌, All, length, ap, sym, subst}
 use Rattle.fan_in.specs.Desks.{BookedState, booked_with, items_of}
 use Rattle.fan_in.proofs.Desks.{one_more_each, still_made}
 use Rattle.fan_in.proofs.booked.BookedBy.book.Goals as goal

@@ -1,4 +1,4 @@
-use Rattle.std.proofs.Common.{◌≡◌, length, arith}
+use Rattle.std.proofs.Common.{arith}
 use Rattle.fan_in.specs.Sending.{sender_port}
 use Rattle.fan_in.proofs.Lists.{written}
 use Rattle.fan_in.proofs.Owned.{may_own, still_owned}

@@ -1,4 +1,4 @@
-use Rattle.std.proofs.Common.{◌≡◌, [], ◌∷◌, ap, ◌∙◌, length, reverse, arith}
+use Rattle.std.proofs.Common.{[], ◌∷◌, ap, ◌∙◌, reverse, arith}
 use Rattle.std.proofs.lemmas.List.{reverse-append}
 use Rattle.fan_in.proofs.Ending.{all_closed, ends_at, next_closed}
 use Rattle.fan_in.proofs.turns.closing.close_all.Goals as goal

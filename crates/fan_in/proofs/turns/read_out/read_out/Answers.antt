@@ -1,4 +1,4 @@
-use Rattle.std.proofs.Common.{◌≡◌, length, arith}
+use Rattle.std.proofs.Common.{arith}
 use Rattle.fan_in.proofs.Lists.{written}
 use Rattle.fan_in.proofs.Read.{may_read, read_out}
 use Rattle.fan_in.proofs.turns.read_out.read_out.Goals as goal

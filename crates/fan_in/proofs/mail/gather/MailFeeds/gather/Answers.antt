@@ -1,4 +1,4 @@
-use Rattle.std.proofs.Common.{sym, subst, ap, ◌∙◌, ◌≡◌, ◌<◌, length, get_or, arith, inr, IfSome}
+use Rattle.std.proofs.Common.{sym, subst, ap, ◌∙◌, ◌≡◌, ◌<◌, length, get_or, arith, inr}
 use Rattle.fan_in.specs.Gathering.{NamesOneOf}
 use Rattle.fan_in.specs.Reading.{AreFrom, HaveHanded}
 use Rattle.fan_in.specs.Settling.{Follows}

@@ -1,4 +1,4 @@
-use Rattle.std.proofs.Common.{sym, subst, ap, ◌∙◌, ◌≡◌, ◌<◌, length, get_or, arith, ⊎_elim, inl, inr, IfSome}
+use Rattle.std.proofs.Common.{sym, subst, ap, ◌∙◌, ◌≡◌, ◌<◌, length, get_or, arith, ⊎_elim, inl, inr}
 use Rattle.fan_in.specs.Gathering.{HoldsFirst, IsFault, NamesOneOf}
 use Rattle.fan_in.specs.Closings.{MadeOwn}
 use Rattle.fan_in.specs.Reading.{HaveHanded}
