@@ -69,9 +69,12 @@ fn run_holds<R: Print + Threads + Wait + Sync>(
         return Ok(true);
     }
     let shows = row.shows;
-    let Outcome { status, text } = outcome;
+    let status = outcome.status;
     println!(rt; "FAILED: {shows} (run {number} of `{command}` ended with {status})")?;
-    println!(rt; "{}", str::from_utf8(&text).unwrap_or("no text"))?;
+    println!(rt; "{}", str::from_utf8(&outcome.text).unwrap_or("no text"))?;
+    for open in &outcome.opens {
+        println!(rt; "{} {}", open.name, open.fate.word())?;
+    }
     Ok(false)
 }
 
@@ -86,6 +89,9 @@ fn is_as_said(
         Some(each) if number < each.many => each.answer,
         _ => row.answer,
     };
+    if !row.opens.is_none_or(|opens| outcome.opened(opens)) {
+        return Ok(false);
+    }
     let text = spelled(alloc, answer.text)?;
     if number < row.each_write {
         let many = number.saturating_mul(row.devices.piece);

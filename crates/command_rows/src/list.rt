@@ -16,6 +16,14 @@ pub fn elements<'a>(table: &'a Table, key: &str) -> Option<&'a [Value]> {
     }
 }
 
+/// The elements of the array at a key, if the key is there.
+pub fn elements_at<'a>(table: &'a Table, key: &str) -> Option<Option<&'a [Value]>> {
+    match table.get(key) {
+        Some(value) => Some(Some(value.as_array()?.as_slice())),
+        None => Some(None),
+    }
+}
+
 /// The table at a key, if the key is there.
 pub fn table_at<'a>(table: &'a Table, key: &str) -> Option<Option<&'a Table>> {
     match table.get(key) {

@@ -9,6 +9,7 @@
 
 mod judge;
 mod list;
+mod noted;
 mod outcome;
 mod row;
 mod run;

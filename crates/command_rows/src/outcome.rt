@@ -1,11 +1,14 @@
 //! How a run ended, beside how it was to end.
+use crate::noted::Open;
 use crate::row::Answer;
+use toml::Value;
 
-/// How a run ended: its status, and what was written.
+/// How a run ended: its status, what was written, and what became of the files that were to be opened.
 #[derive(Drop)]
 pub struct Outcome {
     pub status: u64,
     pub text: Vec<u8>,
+    pub opens: Vec<Open>,
 }
 
 impl Outcome {
@@ -29,6 +32,24 @@ impl Outcome {
             && self.text.len() < text.len()
             && is_front
     }
+
+    /// Whether exactly these opens were asked for, in this order, and came to this.
+    pub fn opened(&self, opens: &[Value]) -> bool {
+        if self.opens.len() != opens.len() {
+            return false;
+        }
+        for (open, value) in self.opens.iter().zip(opens) {
+            if !is_open(open, value.as_str().unwrap_or_default()) {
+                return false;
+            }
+        }
+        true
+    }
+}
+
+// Whether a word and another behind a blank name an open and what became of it.
+fn is_open(open: &Open, words: &str) -> bool {
+    words.split_once(' ') == Some((open.name.as_str(), open.fate.word()))
 }
 
 // The status of a run of which a write failed.

@@ -1,5 +1,5 @@
 //! What stands in a row.
-use crate::list::{elements, flag, has, number, table_at, text};
+use crate::list::{elements, elements_at, flag, has, number, table_at, text};
 use toml::{Table, Value};
 
 /// A row: commands that all end with one status and have then written one text.
@@ -9,6 +9,7 @@ use toml::{Table, Value};
 /// | `shows` | what the row shows |
 /// | `commands` | commands as they are typed: words with a blank between each two |
 /// | `files` | the text of each file by its name; `d` and `s` are there where they aren't named |
+/// | `behind` | the text of each file that stands behind all these, by its name, which one of them may have too |
 /// | `refused` | names of files that can't be opened |
 /// | `failing` | by the name of a file, the numbers from 0 of its reads that fail |
 /// | `unwritten` | the numbers, from 0, of the writes that fail |
@@ -16,6 +17,7 @@ use toml::{Table, Value};
 /// | `room` | how many bytes can be written: 60,000 where it is missing |
 /// | `status`, `text` | how the commands end |
 /// | `any_order` | whether the lines of the text may come in any order |
+/// | `opens` | the names that are to be opened, in order, each with what becomes of it: a word of `Fate` |
 /// | `each_read`, `each_write` | reads and writes that fail one by one |
 ///
 /// Texts are those that `spelled` makes of them.
@@ -24,8 +26,10 @@ pub struct Row<'a> {
     pub shows: &'a str,
     pub commands: &'a [Value],
     pub files: Option<&'a Table>,
+    pub behind: Option<&'a Table>,
     pub devices: Devices<'a>,
     pub answer: Answer<'a>,
+    pub opens: Option<&'a [Value]>,
     pub each_read: Option<EachRead<'a>>,
     pub each_write: u64,
 }
@@ -75,10 +79,11 @@ pub struct EachRead<'a> {
     pub answer: Answer<'a>,
 }
 
-const KEYS: [&str; 13] = [
+const KEYS: [&str; 15] = [
     "shows",
     "commands",
     "files",
+    "behind",
     "refused",
     "failing",
     "unwritten",
@@ -87,6 +92,7 @@ const KEYS: [&str; 13] = [
     "status",
     "text",
     "any_order",
+    "opens",
     "each_read",
     "each_write",
 ];
@@ -100,8 +106,10 @@ pub fn row_of(table: &Table) -> Option<Row<'_>> {
         shows: text(table, "shows")?,
         commands: elements(table, "commands")?,
         files: table_at(table, "files")?,
+        behind: table_at(table, "behind")?,
         devices: devices_of(table)?,
         answer: answer_of(table)?,
+        opens: elements_at(table, "opens")?,
         each_read: each_read_of(table)?,
         each_write: number(table, "each_write", 0)?,
     })

@@ -1,14 +1,16 @@
 //! One run of a command, over files and a sink in memory.
 use crate::list::{elements, has, numbers_of};
+use crate::noted::NotedFiles;
 use crate::outcome::Outcome;
 use crate::row::{Devices, Row};
 use crate::spelled::spelled;
 use anyhow::{Result, ensure};
-use outside::{MemFile, MemFiles, MemSink, OpenGate};
+use outside::{Files, MemFile, MemFiles, MemSink, OpenGate};
 use scotty_run::scotty;
 use std::alloc::{AllocError, Global};
 use std::sync::Wait;
 use std::thread::Threads;
+use toml::Table;
 
 const DEFS: &str = "[[window]]\nkind = \"tumbling\"\nlength = 10\nfunc = \"sum\"\n";
 
@@ -31,12 +33,24 @@ pub fn run_of<R: Threads + Wait + Sync>(
     if row.each_write > 0 {
         unwritten.push(number)?;
     }
-    let mut files = MemFiles::new(&files, piece);
-    let mut sink = MemSink::new(alloc, room, unwritten, piece)?;
-    let status = scotty(alloc, rt, &words, &mut files, &mut sink, &OpenGate);
+    let sink = MemSink::new(alloc, room, unwritten, piece)?;
+    run_over(rt, alloc, &words, MemFiles::new(&files, piece), sink)
+}
+
+// How a run of these words over these files ends, what is written going to this sink.
+fn run_over<F: Files + Drop, R: Threads + Wait + Sync>(
+    rt: &R,
+    alloc: Global,
+    words: &[String],
+    files: F,
+    mut sink: MemSink,
+) -> Result<Outcome> {
+    let mut files = NotedFiles::new(alloc, files);
+    let status = scotty(alloc, rt, words, &mut files, &mut sink, &OpenGate);
     Ok(Outcome {
         status: u64::from(status.code()),
         text: Vec::from_slice(alloc, sink.bytes())?,
+        opens: files.into_opens(),
     })
 }
 
@@ -57,13 +71,28 @@ fn files_of(alloc: Global, row: &Row<'_>, number: u64) -> Result<Vec<MemFile>, A
             files.push(file_of(alloc, row, number, name, text)?)?;
         }
     }
-    if let Some(named) = row.files {
-        for (name, value) in named {
-            let text = value.as_str().unwrap_or_default();
-            files.push(file_of(alloc, row, number, name.as_str(), text)?)?;
-        }
+    for named in [row.files, row.behind] {
+        push_named(alloc, &mut files, row, number, named)?;
     }
     Ok(files)
+}
+
+// The files that a table names.
+fn push_named(
+    alloc: Global,
+    files: &mut Vec<MemFile>,
+    row: &Row<'_>,
+    number: u64,
+    named: Option<&Table>,
+) -> Result<(), AllocError> {
+    let Some(named) = named else {
+        return Ok(());
+    };
+    for (name, value) in named {
+        let text = value.as_str().unwrap_or_default();
+        files.push(file_of(alloc, row, number, name.as_str(), text)?)?;
+    }
+    Ok(())
 }
 
 fn is_named(row: &Row<'_>, name: &str) -> bool {

@@ -1,18 +1,13 @@
 //! Tests of the program's call over files and sinks in memory, for what no row of `command_rows` can say:
-//! schedules that gates hold, which files are opened in which order and what comes back of them, and
-//! reports of schedules that are judged. They stand in a crate of their own, since a crate with tests is
-//! proved twice.
+//! schedules that gates hold, and reports of schedules that are judged. They stand in a crate of their
+//! own, since a crate with tests is proved twice.
 #![tactic(auto)]
 
-#[cfg(test)]
-mod base;
 #[cfg(test)]
 mod boards;
 #[cfg(test)]
 mod gates;
 #[cfg(test)]
 mod judged;
-#[cfg(test)]
-mod noted;
 #[cfg(test)]
 mod runs;

@@ -19,145 +19,154 @@ fn refuses(rt: &(impl AllocGlobal + Abort), text: &str, fault: DefsFault) {
     assert_eq!(rt; answer, Some(fault), "{text}");
 }
 
+// The same of a text of these windows.
+fn refuses_windows(rt: &(impl AllocGlobal + Abort), windows: &str, fault: DefsFault) {
+    let Ok(text) = format!(in rt.alloc(); "window = [{windows}]") else {
+        panic!(rt; "out of memory");
+    };
+    refuses(rt, text.as_str(), fault);
+}
+
+// A text, and the first of its faults in the order of causes.
+const ORDER: [(&str, DefsFault); 26] = [
+    ("lateness =", DefsFault::Toml),
+    ("late = 1\nlateness =", DefsFault::Toml),
+    (
+        "lateness = 9223372036854775808\nwindow = []",
+        DefsFault::Toml,
+    ),
+    ("window = []\nwindow = []", DefsFault::Toml),
+    (
+        "window.x = 1\n[[window]]\nkind = 'marks'\nfunc = 'sum'",
+        DefsFault::Toml,
+    ),
+    ("", SHAPE),
+    ("lateness = 0", SHAPE),
+    ("window = 3", SHAPE),
+    ("[window]", SHAPE),
+    ("Window = [{kind = 'marks', func = 'sum'}]", SHAPE),
+    ("late = 1\nwindow = [{kind = 'marks', func = 'sum'}]", SHAPE),
+    (
+        "lateness = 1.5\nwindow = [{kind = 'marks', func = 'sum'}]",
+        SHAPE,
+    ),
+    (
+        "lateness = 1e3\nwindow = [{kind = 'marks', func = 'sum'}]",
+        SHAPE,
+    ),
+    (
+        "lateness = 1.0\nwindow = [{kind = 'marks', func = 'sum'}]",
+        SHAPE,
+    ),
+    (
+        "lateness = '1'\nwindow = [{kind = 'marks', func = 'sum'}]",
+        SHAPE,
+    ),
+    (
+        "every = true\nwindow = [{kind = 'marks', func = 'sum'}]",
+        SHAPE,
+    ),
+    (
+        "disorder = 1979-05-27\nwindow = [{kind = 'marks', func = 'sum'}]",
+        SHAPE,
+    ),
+    ("lateness = 1.5\nwindow = []", SHAPE),
+    ("window = []", DefsFault::Many),
+    ("lateness = -1\nwindow = []", DefsFault::Many),
+    (
+        "lateness = -1\nwindow = [{kind = 'marks', func = 'sum'}]",
+        LIMIT,
+    ),
+    ("lateness = -1\nwindow = [1]", LIMIT),
+    (
+        "lateness = 1000000000000001\nwindow = [{kind = 'marks', func = 'sum'}]",
+        LIMIT,
+    ),
+    (
+        "every = 1000001\nwindow = [{kind = 'marks', func = 'sum'}]",
+        LIMIT,
+    ),
+    (
+        "every = -1\nwindow = [{kind = 'marks', func = 'sum'}]",
+        LIMIT,
+    ),
+    (
+        "disorder = 1000000000000001\nwindow = [{kind = 'marks', func = 'sum'}]",
+        LIMIT,
+    ),
+];
+
 #[test]
 fn each_fault_is_the_first_in_the_order(rt: HostRuntime) {
-    let cases = [
-        ("lateness =", DefsFault::Toml),
-        ("late = 1\nlateness =", DefsFault::Toml),
-        (
-            "lateness = 9223372036854775808\nwindow = []",
-            DefsFault::Toml,
-        ),
-        ("window = []\nwindow = []", DefsFault::Toml),
-        (
-            "window.x = 1\n[[window]]\nkind = 'marks'\nfunc = 'sum'",
-            DefsFault::Toml,
-        ),
-        ("", SHAPE),
-        ("lateness = 0", SHAPE),
-        ("window = 3", SHAPE),
-        ("[window]", SHAPE),
-        ("Window = [{kind = 'marks', func = 'sum'}]", SHAPE),
-        ("late = 1\nwindow = [{kind = 'marks', func = 'sum'}]", SHAPE),
-        (
-            "lateness = 1.5\nwindow = [{kind = 'marks', func = 'sum'}]",
-            SHAPE,
-        ),
-        (
-            "lateness = 1e3\nwindow = [{kind = 'marks', func = 'sum'}]",
-            SHAPE,
-        ),
-        (
-            "lateness = 1.0\nwindow = [{kind = 'marks', func = 'sum'}]",
-            SHAPE,
-        ),
-        (
-            "lateness = '1'\nwindow = [{kind = 'marks', func = 'sum'}]",
-            SHAPE,
-        ),
-        (
-            "every = true\nwindow = [{kind = 'marks', func = 'sum'}]",
-            SHAPE,
-        ),
-        (
-            "disorder = 1979-05-27\nwindow = [{kind = 'marks', func = 'sum'}]",
-            SHAPE,
-        ),
-        ("lateness = 1.5\nwindow = []", SHAPE),
-        ("window = []", DefsFault::Many),
-        ("lateness = -1\nwindow = []", DefsFault::Many),
-        (
-            "lateness = -1\nwindow = [{kind = 'marks', func = 'sum'}]",
-            LIMIT,
-        ),
-        ("lateness = -1\nwindow = [1]", LIMIT),
-        (
-            "lateness = 1000000000000001\nwindow = [{kind = 'marks', func = 'sum'}]",
-            LIMIT,
-        ),
-        (
-            "every = 1000001\nwindow = [{kind = 'marks', func = 'sum'}]",
-            LIMIT,
-        ),
-        (
-            "every = -1\nwindow = [{kind = 'marks', func = 'sum'}]",
-            LIMIT,
-        ),
-        (
-            "disorder = 1000000000000001\nwindow = [{kind = 'marks', func = 'sum'}]",
-            LIMIT,
-        ),
-    ];
-    for (text, fault) in cases {
-        refuses(&rt, text, fault);
+    for (text, fault) in &ORDER {
+        refuses(&rt, text, *fault);
     }
 }
+
+// Windows, and the first fault of the first one in trouble.
+const WINDOWS: [(&str, DefsFault); 31] = [
+    ("1", SHAPE_0),
+    ("{func = 'sum'}", SHAPE_0),
+    ("{kind = 'marks'}", SHAPE_0),
+    ("{kind = 1, func = 'sum'}", SHAPE_0),
+    ("{kind = 'marks', func = 1}", SHAPE_0),
+    ("{kind = 'Marks', func = 'sum'}", SHAPE_0),
+    ("{kind = 'marks', func = 'SUM'}", SHAPE_0),
+    ("{kind = 'tumbling', length = 10, func = 'median'}", SHAPE_0),
+    ("{kind = 'tumbling', func = 'sum'}", SHAPE_0),
+    ("{kind = 'tumbling', length = '10', func = 'sum'}", SHAPE_0),
+    ("{kind = 'tumbling', length = 10.0, func = 'sum'}", SHAPE_0),
+    ("{kind = 'tumbling', length = 1e3, func = 'sum'}", SHAPE_0),
+    ("{kind = 'tumbling', length = true, func = 'sum'}", SHAPE_0),
+    (
+        "{kind = 'tumbling', length = 10, slide = 5, func = 'sum'}",
+        SHAPE_0,
+    ),
+    ("{kind = 'sliding', length = 10, func = 'sum'}", SHAPE_0),
+    ("{kind = 'session', length = 10, func = 'sum'}", SHAPE_0),
+    ("{kind = 'marks', count = 10, func = 'sum'}", SHAPE_0),
+    ("{kind = 'events', func = 'sum'}", SHAPE_0),
+    ("{kind = 'tumbling', length = 0, func = 'sum'}", LIMIT_0),
+    ("{kind = 'tumbling', length = -1, func = 'sum'}", LIMIT_0),
+    (
+        "{kind = 'tumbling', length = 1000000000000001, func = 'sum'}",
+        LIMIT_0,
+    ),
+    (
+        "{kind = 'sliding', length = 2001, slide = 2, func = 'count'}",
+        LIMIT_0,
+    ),
+    (
+        "{kind = 'sliding', length = 2, slide = 3, func = 'sum'}",
+        LIMIT_0,
+    ),
+    (
+        "{kind = 'sliding', length = 2, slide = 0, func = 'sum'}",
+        LIMIT_0,
+    ),
+    ("{kind = 'session', gap = 0, func = 'sum'}", LIMIT_0),
+    ("{kind = 'events', count = 0, func = 'sum'}", LIMIT_0),
+    ("{kind = 'events', count = 4194305, func = 'sum'}", LIMIT_0),
+    (
+        "{kind = 'tumbling', length = 0, func = 'sum'}, {kind = 'hopping', func = 'sum'}",
+        LIMIT_0,
+    ),
+    (
+        "{kind = 'hopping', func = 'sum'}, {kind = 'session', gap = 0, func = 'sum'}",
+        SHAPE_0,
+    ),
+    ("{kind = 'marks', func = 'sum'}, 1", SHAPE_1),
+    (
+        "{kind = 'marks', func = 'sum'}, {kind = 'session', gap = 0, func = 'sum'}",
+        LIMIT_1,
+    ),
+];
 
 #[test]
 fn the_first_window_in_trouble_is_named(rt: HostRuntime) {
     first_in_trouble_is_named();
-    let cases = [
-        ("1", SHAPE_0),
-        ("{func = 'sum'}", SHAPE_0),
-        ("{kind = 'marks'}", SHAPE_0),
-        ("{kind = 1, func = 'sum'}", SHAPE_0),
-        ("{kind = 'marks', func = 1}", SHAPE_0),
-        ("{kind = 'Marks', func = 'sum'}", SHAPE_0),
-        ("{kind = 'marks', func = 'SUM'}", SHAPE_0),
-        ("{kind = 'tumbling', length = 10, func = 'median'}", SHAPE_0),
-        ("{kind = 'tumbling', func = 'sum'}", SHAPE_0),
-        ("{kind = 'tumbling', length = '10', func = 'sum'}", SHAPE_0),
-        ("{kind = 'tumbling', length = 10.0, func = 'sum'}", SHAPE_0),
-        ("{kind = 'tumbling', length = 1e3, func = 'sum'}", SHAPE_0),
-        ("{kind = 'tumbling', length = true, func = 'sum'}", SHAPE_0),
-        (
-            "{kind = 'tumbling', length = 10, slide = 5, func = 'sum'}",
-            SHAPE_0,
-        ),
-        ("{kind = 'sliding', length = 10, func = 'sum'}", SHAPE_0),
-        ("{kind = 'session', length = 10, func = 'sum'}", SHAPE_0),
-        ("{kind = 'marks', count = 10, func = 'sum'}", SHAPE_0),
-        ("{kind = 'events', func = 'sum'}", SHAPE_0),
-        ("{kind = 'tumbling', length = 0, func = 'sum'}", LIMIT_0),
-        ("{kind = 'tumbling', length = -1, func = 'sum'}", LIMIT_0),
-        (
-            "{kind = 'tumbling', length = 1000000000000001, func = 'sum'}",
-            LIMIT_0,
-        ),
-        (
-            "{kind = 'sliding', length = 2001, slide = 2, func = 'count'}",
-            LIMIT_0,
-        ),
-        (
-            "{kind = 'sliding', length = 2, slide = 3, func = 'sum'}",
-            LIMIT_0,
-        ),
-        (
-            "{kind = 'sliding', length = 2, slide = 0, func = 'sum'}",
-            LIMIT_0,
-        ),
-        ("{kind = 'session', gap = 0, func = 'sum'}", LIMIT_0),
-        ("{kind = 'events', count = 0, func = 'sum'}", LIMIT_0),
-        ("{kind = 'events', count = 4194305, func = 'sum'}", LIMIT_0),
-        (
-            "{kind = 'tumbling', length = 0, func = 'sum'}, {kind = 'hopping', func = 'sum'}",
-            LIMIT_0,
-        ),
-        (
-            "{kind = 'hopping', func = 'sum'}, {kind = 'session', gap = 0, func = 'sum'}",
-            SHAPE_0,
-        ),
-        ("{kind = 'marks', func = 'sum'}, 1", SHAPE_1),
-        (
-            "{kind = 'marks', func = 'sum'}, {kind = 'session', gap = 0, func = 'sum'}",
-            LIMIT_1,
-        ),
-    ];
-    for (windows, fault) in cases {
-        let Ok(text) = format!(in rt.alloc(); "window = [{windows}]") else {
-            panic!(rt; "out of memory");
-        };
-        refuses(&rt, text.as_str(), fault);
+    for (windows, fault) in &WINDOWS {
+        refuses_windows(&rt, windows, *fault);
     }
 }
 

@@ -3,6 +3,7 @@ use source_feed::{
     Feed, FeedFault, FileFeed, RowFault, RowWhy, Rows, WholeFault, read_pieces, read_whole, route,
 };
 use std::alloc::{AllocError, Global};
+use std::process::Abort;
 use std::str;
 use std::test::Fail;
 use stream_base::{Def, Defs, Entry, Func, KeyText, Kind, What};
@@ -23,229 +24,217 @@ pub fn entry_shown(alloc: Global, entry: &Entry) -> Result<String, AllocError> {
     }
 }
 
-// All that the rows of these bytes answer, up to the first answer that isn't an entry.
-fn shown(alloc: Global, bytes: &[u8], every: u64, disorder: u64) -> Result<String, Fail> {
-    let mut rows = Rows::new(alloc, Vec::from_slice(alloc, bytes)?, 0, every, disorder)?;
-    let mut text = String::new(alloc);
+// All that rows answer, up to the first answer that isn't an entry.
+fn push_answers(alloc: Global, text: &mut String, rows: &mut Rows) -> Result<(), AllocError> {
     for _ in 0..20 {
         match rows.next() {
             Ok(Some(entry)) => text.push_str(entry_shown(alloc, &entry)?.as_str())?,
-            Ok(None) => {
-                text.push_str("none")?;
-                return Ok(text);
-            }
-            Err(fault) => {
-                text.push_str(format!(in alloc; "{fault:?}")?.as_str())?;
-                return Ok(text);
-            }
+            Ok(None) => return text.push_str("none"),
+            Err(fault) => return text.push_str(format!(in alloc; "{fault:?}")?.as_str()),
         }
     }
-    Ok(text)
+    Ok(())
 }
+
+// The rows of a source answer so. A watermark is made after so many tuples, and so far behind.
+fn answers<R: AllocGlobal + Abort>(
+    rt: &R,
+    source: &str,
+    made: (u64, u64),
+    want: &str,
+) -> Result<(), Fail> {
+    let alloc = rt.alloc();
+    let bytes = Vec::from_slice(alloc, source.as_bytes())?;
+    let mut rows = Rows::new(alloc, bytes, 0, made.0, made.1)?;
+    let mut text = String::new(alloc);
+    push_answers(alloc, &mut text, &mut rows)?;
+    assert_eq!(rt; text.as_str(), want, "{source}");
+    Ok(())
+}
+
+// A source of one record, and all that its rows answer.
+const RECORDS: [(&str, &str); 34] = [
+    ("t,0001,-0,a\n", "t 1 0 a; e; none"),
+    (
+        "t,0001000000000000000,+5,a\n",
+        "t 1000000000000000 5 a; e; none",
+    ),
+    (
+        "t,1000000000000001,1,a\n",
+        "Refused { number: 1, why: Time }",
+    ),
+    (
+        "t,12345678901234567890,5,a\n",
+        "Refused { number: 1, why: Time }",
+    ),
+    ("t,,5,a\n", "Refused { number: 1, why: Time }"),
+    ("t,+1,5,a\n", "Refused { number: 1, why: Time }"),
+    (
+        "t,1,9223372036854775807,a\n",
+        "t 1 9223372036854775807 a; e; none",
+    ),
+    (
+        "t,1,9223372036854775808,a\n",
+        "Refused { number: 1, why: Value }",
+    ),
+    (
+        "t,1,-9223372036854775808,a\n",
+        "t 1 -9223372036854775808 a; e; none",
+    ),
+    (
+        "t,1,-9223372036854775809,a\n",
+        "Refused { number: 1, why: Value }",
+    ),
+    ("t,1,--5,a\n", "Refused { number: 1, why: Value }"),
+    ("t,1,-,a\n", "Refused { number: 1, why: Value }"),
+    ("t,1, 5,a\n", "Refused { number: 1, why: Value }"),
+    ("t,1,,a\n", "Refused { number: 1, why: Value }"),
+    ("t,1,5,\n", "Refused { number: 1, why: Key }"),
+    ("t,1,5,a\tb\n", "Refused { number: 1, why: Key }"),
+    ("m,5,,\n", "Refused { number: 1, why: Key }"),
+    ("m,5,,a\n", "m 5 a; e; none"),
+    ("w,5\n", "w 5; e; none"),
+    ("w,5,,\n", "w 5; e; none"),
+    ("w,1,5\n", "Refused { number: 1, why: Fields }"),
+    ("w,5,1,\n", "Refused { number: 1, why: Fields }"),
+    ("w,1,,x\n", "Refused { number: 1, why: Fields }"),
+    ("m,1,7,a\n", "Refused { number: 1, why: Fields }"),
+    ("t,1,5\n", "Refused { number: 1, why: Fields }"),
+    ("t,1,5,a,\n", "Refused { number: 1, why: Fields }"),
+    ("T,1,5,a\n", "Refused { number: 1, why: Kind }"),
+    ("i\n", "i; e; none"),
+    ("i,,,\n", "i; e; none"),
+    ("i,x\n", "Refused { number: 1, why: Fields }"),
+    ("i,\n", "Refused { number: 1, why: Fields }"),
+    ("i,,\n", "Refused { number: 1, why: Fields }"),
+    ("i,,,x\n", "Refused { number: 1, why: Fields }"),
+    ("I\n", "Refused { number: 1, why: Kind }"),
+];
 
 #[test]
 fn judges_each_record_by_its_first_fault(rt: HostRuntime) -> Result<(), Fail> {
-    for (bytes, want) in [
-        (b"t,0001,-0,a\n".as_slice(), "t 1 0 a; e; none"),
-        (
-            b"t,0001000000000000000,+5,a\n".as_slice(),
-            "t 1000000000000000 5 a; e; none",
-        ),
-        (
-            b"t,1000000000000001,1,a\n".as_slice(),
-            "Refused { number: 1, why: Time }",
-        ),
-        (
-            b"t,12345678901234567890,5,a\n".as_slice(),
-            "Refused { number: 1, why: Time }",
-        ),
-        (b"t,,5,a\n".as_slice(), "Refused { number: 1, why: Time }"),
-        (b"t,+1,5,a\n".as_slice(), "Refused { number: 1, why: Time }"),
-        (
-            b"t,1,9223372036854775807,a\n".as_slice(),
-            "t 1 9223372036854775807 a; e; none",
-        ),
-        (
-            b"t,1,9223372036854775808,a\n".as_slice(),
-            "Refused { number: 1, why: Value }",
-        ),
-        (
-            b"t,1,-9223372036854775808,a\n".as_slice(),
-            "t 1 -9223372036854775808 a; e; none",
-        ),
-        (
-            b"t,1,-9223372036854775809,a\n".as_slice(),
-            "Refused { number: 1, why: Value }",
-        ),
-        (
-            b"t,1,--5,a\n".as_slice(),
-            "Refused { number: 1, why: Value }",
-        ),
-        (b"t,1,-,a\n".as_slice(), "Refused { number: 1, why: Value }"),
-        (
-            b"t,1, 5,a\n".as_slice(),
-            "Refused { number: 1, why: Value }",
-        ),
-        (b"t,1,,a\n".as_slice(), "Refused { number: 1, why: Value }"),
-        (b"t,1,5,\n".as_slice(), "Refused { number: 1, why: Key }"),
-        (
-            b"t,1,5,a\tb\n".as_slice(),
-            "Refused { number: 1, why: Key }",
-        ),
-        (b"m,5,,\n".as_slice(), "Refused { number: 1, why: Key }"),
-        (b"m,5,,a\n".as_slice(), "m 5 a; e; none"),
-        (b"w,5\n".as_slice(), "w 5; e; none"),
-        (b"w,5,,\n".as_slice(), "w 5; e; none"),
-        (b"w,1,5\n".as_slice(), "Refused { number: 1, why: Fields }"),
-        (b"w,5,1,\n".as_slice(), "Refused { number: 1, why: Fields }"),
-        (b"w,1,,x\n".as_slice(), "Refused { number: 1, why: Fields }"),
-        (
-            b"m,1,7,a\n".as_slice(),
-            "Refused { number: 1, why: Fields }",
-        ),
-        (b"t,1,5\n".as_slice(), "Refused { number: 1, why: Fields }"),
-        (
-            b"t,1,5,a,\n".as_slice(),
-            "Refused { number: 1, why: Fields }",
-        ),
-        (b"T,1,5,a\n".as_slice(), "Refused { number: 1, why: Kind }"),
-        (b"i\n".as_slice(), "i; e; none"),
-        (b"i,,,\n".as_slice(), "i; e; none"),
-        (b"i,x\n".as_slice(), "Refused { number: 1, why: Fields }"),
-        (b"i,\n".as_slice(), "Refused { number: 1, why: Fields }"),
-        (b"i,,\n".as_slice(), "Refused { number: 1, why: Fields }"),
-        (b"i,,,x\n".as_slice(), "Refused { number: 1, why: Fields }"),
-        (b"I\n".as_slice(), "Refused { number: 1, why: Kind }"),
-    ] {
-        assert_eq!(rt; shown(rt.alloc(), bytes, 0, 0)?.as_str(), want);
+    for (text, want) in &RECORDS {
+        answers(&rt, text, (0, 0), want)?;
     }
     Ok(())
 }
+
+// A source, and all that its rows answer.
+const NUMBERED: [(&str, &str); 22] = [
+    ("", "e; none"),
+    ("\n\r\n\r", "e; none"),
+    ("kind,time,value,key\n", "e; none"),
+    ("\n\nkind,time,value,key\nt,1,5,a\n", "t 1 5 a; e; none"),
+    (
+        "\"kind\",time,\"value\",key\r\nt,1,5\r\n",
+        "Refused { number: 2, why: Fields }",
+    ),
+    (
+        "t,1,5,a\nkind,time,value,key\n",
+        "t 1 5 a; Refused { number: 2, why: Kind }",
+    ),
+    (
+        "kind,time,value,key\nkind,time,value,key\n",
+        "Refused { number: 2, why: Kind }",
+    ),
+    ("kind,time,value\n", "Refused { number: 1, why: Kind }"),
+    ("kind,time,value,key,\n", "Refused { number: 1, why: Kind }"),
+    (
+        "\n\nw,1\n\n\nq,1\n",
+        "w 1; Refused { number: 2, why: Kind }",
+    ),
+    ("\"\"\n", "Refused { number: 1, why: Kind }"),
+    ("\u{FEFF}t,1,5,a\n", "t 1 5 a; e; none"),
+    (
+        "\u{FEFF}\u{FEFF}t,1,5,a\n",
+        "Refused { number: 1, why: Kind }",
+    ),
+    (
+        "w,1\n\u{FEFF}t,1,5,a\n",
+        "w 1; Refused { number: 2, why: Kind }",
+    ),
+    ("t,1,5,\"a,b\"\n", "t 1 5 a,b; e; none"),
+    ("t,1,5,\"a\"b\n", "t 1 5 ab; e; none"),
+    ("t,1,5,a\"b\n", "t 1 5 a\"b; e; none"),
+    ("t,1,\"-\"5,a\n", "t 1 -5 a; e; none"),
+    ("t,1,5,\"a", "t 1 5 a; e; none"),
+    ("t,1,5,\"a\n", "Refused { number: 1, why: Key }"),
+    ("t,1,5", "Refused { number: 1, why: Fields }"),
+    ("w,1\rw,2\nw,3\r\nw,4", "w 1; w 2; w 3; w 4; e; none"),
+];
 
 #[test]
 fn numbers_the_records_of_the_bytes(rt: HostRuntime) -> Result<(), Fail> {
-    for (bytes, want) in [
-        (b"".as_slice(), "e; none"),
-        (b"\n\r\n\r".as_slice(), "e; none"),
-        (b"kind,time,value,key\n".as_slice(), "e; none"),
-        (
-            b"\n\nkind,time,value,key\nt,1,5,a\n".as_slice(),
-            "t 1 5 a; e; none",
-        ),
-        (
-            b"\"kind\",time,\"value\",key\r\nt,1,5\r\n".as_slice(),
-            "Refused { number: 2, why: Fields }",
-        ),
-        (
-            b"t,1,5,a\nkind,time,value,key\n".as_slice(),
-            "t 1 5 a; Refused { number: 2, why: Kind }",
-        ),
-        (
-            b"kind,time,value,key\nkind,time,value,key\n".as_slice(),
-            "Refused { number: 2, why: Kind }",
-        ),
-        (
-            b"kind,time,value\n".as_slice(),
-            "Refused { number: 1, why: Kind }",
-        ),
-        (
-            b"kind,time,value,key,\n".as_slice(),
-            "Refused { number: 1, why: Kind }",
-        ),
-        (
-            b"\n\nw,1\n\n\nq,1\n".as_slice(),
-            "w 1; Refused { number: 2, why: Kind }",
-        ),
-        (b"\"\"\n".as_slice(), "Refused { number: 1, why: Kind }"),
-        (b"\xEF\xBB\xBFt,1,5,a\n".as_slice(), "t 1 5 a; e; none"),
-        (
-            b"\xEF\xBB\xBF\xEF\xBB\xBFt,1,5,a\n".as_slice(),
-            "Refused { number: 1, why: Kind }",
-        ),
-        (
-            b"w,1\n\xEF\xBB\xBFt,1,5,a\n".as_slice(),
-            "w 1; Refused { number: 2, why: Kind }",
-        ),
-        (b"t,1,5,\"a,b\"\n".as_slice(), "t 1 5 a,b; e; none"),
-        (b"t,1,5,\"a\"b\n".as_slice(), "t 1 5 ab; e; none"),
-        (b"t,1,5,a\"b\n".as_slice(), "t 1 5 a\"b; e; none"),
-        (b"t,1,\"-\"5,a\n".as_slice(), "t 1 -5 a; e; none"),
-        (b"t,1,5,\"a".as_slice(), "t 1 5 a; e; none"),
-        (b"t,1,5,\"a\n".as_slice(), "Refused { number: 1, why: Key }"),
-        (b"t,1,5".as_slice(), "Refused { number: 1, why: Fields }"),
-        (
-            b"w,1\rw,2\nw,3\r\nw,4".as_slice(),
-            "w 1; w 2; w 3; w 4; e; none",
-        ),
-    ] {
-        assert_eq!(rt; shown(rt.alloc(), bytes, 0, 0)?.as_str(), want);
+    for (text, want) in &NUMBERED {
+        answers(&rt, text, (0, 0), want)?;
     }
     Ok(())
 }
+
+// A source, after how many tuples a watermark is made, how far it is behind, and all that its rows answer.
+const MADE: [(&str, u64, u64, &str); 4] = [
+    (
+        "t,5,1,a\nt,4,2,a\nt,12,4,a\nt,9,8,a\n",
+        2,
+        3,
+        "t 5 1 a; t 4 2 a; w 2; t 12 4 a; t 9 8 a; w 9; e; none",
+    ),
+    (
+        "t,5,1,a\nm,90,,a\nw,80\nt,4,2,b\nt,6,3,a\n",
+        2,
+        5,
+        "t 5 1 a; m 90 a; w 80; t 4 2 b; w 0; t 6 3 a; e; none",
+    ),
+    (
+        "t,5,1,a\nq\n",
+        1,
+        0,
+        "t 5 1 a; w 5; Refused { number: 2, why: Kind }",
+    ),
+    ("t,5,1,a\n", 0, 0, "t 5 1 a; e; none"),
+];
 
 #[test]
 fn makes_a_watermark_after_every_so_many_tuples(rt: HostRuntime) -> Result<(), Fail> {
-    for (bytes, every, disorder, want) in [
-        (
-            b"t,5,1,a\nt,4,2,a\nt,12,4,a\nt,9,8,a\n".as_slice(),
-            2,
-            3,
-            "t 5 1 a; t 4 2 a; w 2; t 12 4 a; t 9 8 a; w 9; e; none",
-        ),
-        (
-            b"t,5,1,a\nm,90,,a\nw,80\nt,4,2,b\nt,6,3,a\n".as_slice(),
-            2,
-            5,
-            "t 5 1 a; m 90 a; w 80; t 4 2 b; w 0; t 6 3 a; e; none",
-        ),
-        (
-            b"t,5,1,a\nq\n".as_slice(),
-            1,
-            0,
-            "t 5 1 a; w 5; Refused { number: 2, why: Kind }",
-        ),
-        (b"t,5,1,a\n".as_slice(), 0, 0, "t 5 1 a; e; none"),
-    ] {
-        assert_eq!(rt; shown(rt.alloc(), bytes, every, disorder)?.as_str(), want);
+    for (text, every, disorder, want) in &MADE {
+        answers(&rt, text, (*every, *disorder), want)?;
     }
     Ok(())
 }
 
+// The same of sources that wake.
+const WOKEN: [(&str, u64, u64, &str); 5] = [
+    (
+        "t,1,5,a\ni\nt,4,7,a\nw,10\n",
+        0,
+        0,
+        "t 1 5 a; i; w 0; t 4 7 a; w 10; e; none",
+    ),
+    (
+        "w,7\nw,3\ni\ni\nm,2,,a\nt,4,7,a\n",
+        0,
+        0,
+        "w 7; w 3; i; i; w 7; m 2 a; t 4 7 a; e; none",
+    ),
+    (
+        "w,7\ni\nw,3\nt,4,7,a\ni\n",
+        0,
+        0,
+        "w 7; i; w 3; t 4 7 a; i; e; none",
+    ),
+    (
+        "t,5,1,a\ni\nt,9,2,a\ni\nt,6,3,a\n",
+        1,
+        2,
+        "t 5 1 a; w 3; i; w 3; t 9 2 a; w 7; i; w 7; t 6 3 a; w 7; e; none",
+    ),
+    ("i\nt,5,1\n", 0, 0, "i; Refused { number: 2, why: Fields }"),
+];
+
 #[test]
 fn wakes_a_source_before_its_next_tuple_or_mark(rt: HostRuntime) -> Result<(), Fail> {
-    for (bytes, every, disorder, want) in [
-        (
-            b"t,1,5,a\ni\nt,4,7,a\nw,10\n".as_slice(),
-            0,
-            0,
-            "t 1 5 a; i; w 0; t 4 7 a; w 10; e; none",
-        ),
-        (
-            b"w,7\nw,3\ni\ni\nm,2,,a\nt,4,7,a\n".as_slice(),
-            0,
-            0,
-            "w 7; w 3; i; i; w 7; m 2 a; t 4 7 a; e; none",
-        ),
-        (
-            b"w,7\ni\nw,3\nt,4,7,a\ni\n".as_slice(),
-            0,
-            0,
-            "w 7; i; w 3; t 4 7 a; i; e; none",
-        ),
-        (
-            b"t,5,1,a\ni\nt,9,2,a\ni\nt,6,3,a\n".as_slice(),
-            1,
-            2,
-            "t 5 1 a; w 3; i; w 3; t 9 2 a; w 7; i; w 7; t 6 3 a; w 7; e; none",
-        ),
-        (
-            b"i\nt,5,1\n".as_slice(),
-            0,
-            0,
-            "i; Refused { number: 2, why: Fields }",
-        ),
-    ] {
-        assert_eq!(rt; shown(rt.alloc(), bytes, every, disorder)?.as_str(), want);
+    for (text, every, disorder, want) in &WOKEN {
+        answers(&rt, text, (*every, *disorder), want)?;
     }
     Ok(())
 }
