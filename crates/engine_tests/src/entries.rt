@@ -1,15 +1,14 @@
 //! Generated entries of two sources, of which a watermark is told now and then.
 
-ghost use Rattle.std.specs.Prelude.{◌≡◌, ◌≤◌, ◌<◌, true};
+ghost use Rattle.std.specs.Prelude.{◌≡◌, ◌≤◌, ◌<◌, length, true};
 ghost use Rattle.stream_base.specs.Model.Journals.{is_entry_within};
 
 use stream_base::{Entry, KeyText, What};
 
-// So many entries are generated.
-pub const ENTRIES: u64 = 2_000;
+// No more entries are generated, and for no more keys.
+pub const ENTRIES_MAX: u64 = 100_000;
 
-// Source 1 ends here, and what it says later is refused.
-const FIRST_END: u64 = 1_900;
+pub const KEYS_MAX: u64 = 26;
 
 // Numbers by a linear congruence, of which the upper bits are drawn.
 #[derive(Drop)]
@@ -30,26 +29,29 @@ impl Draws {
     }
 }
 
-// The entry at a number. Times rise by 3 from one entry to the next, beside their jitter.
-pub fn entry(number: u64, draws: &mut Draws, keys: &[KeyText; 3]) -> Entry
-    requires { number < 2000 }
+// The entry at a number, of so many. Times rise by 3 from one entry to the next, beside their jitter.
+// Source 1 ends before the last twentieth, and what it says later is refused.
+pub fn entry(number: u64, entries: u64, draws: &mut Draws, keys: &[KeyText]) -> Entry
+    requires number { number < entries }
+    requires entries { entries ≤ ENTRIES_MAX }
+    requires keys { 1 ≤ length keys.now }
     ensures source { result.source < 2 }
     ensures within { is_entry_within result ≡ true }
 {
-    if number == ENTRIES - 1 {
+    if number == entries - 1 {
         return Entry {
             source: 0,
             what: What::End,
         };
     }
-    if number == FIRST_END {
+    if number == entries - entries / 20 {
         return Entry {
             source: 1,
             what: What::End,
         };
     }
     let source = draws.below(2) as u16;
-    let key = keys[draws.below(3) as usize];
+    let key = keys[draws.below(keys.len() as u64) as usize];
     let what = said(300 + 3 * number, draws, key);
     Entry { source, what }
 }
@@ -59,7 +61,7 @@ pub fn entry(number: u64, draws: &mut Draws, keys: &[KeyText; 3]) -> Entry
 // other source told its own some ten entries before, so some of those are still accepted.
 fn said(base: u64, draws: &mut Draws, key: KeyText) -> What
     requires low { 300 ≤ base }
-    requires high { base < 6300 }
+    requires high { base < 300300 }
     ensures { is_entry_within (record { source = 0; what = result }) ≡ true }
 {
     let draw = draws.below(100);
@@ -81,8 +83,8 @@ fn said(base: u64, draws: &mut Draws, key: KeyText) -> What
 // Mostly up to 60 behind or 19 ahead, and for each sixteenth up to 199 behind.
 fn jittered(base: u64, draws: &mut Draws) -> u64
     requires low { 300 ≤ base }
-    requires high { base < 6300 }
-    ensures { result < 6320 }
+    requires high { base < 300300 }
+    ensures { result < 300320 }
 {
     if draws.below(16) == 0 {
         base - draws.below(200)

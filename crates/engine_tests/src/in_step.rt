@@ -1,9 +1,9 @@
 //! Both engines under the same entries, compared at each.
 
-ghost use Rattle.std.specs.Prelude.{◌≡◌, ◌≤◌, ◌<◌, true, OnOk};
+ghost use Rattle.std.specs.Prelude.{◌≡◌, ◌≤◌, ◌<◌, length, true, IfOk, OnOk};
 ghost use Rattle.stream_base.specs.Model.Journals.{is_entry_within};
 
-use crate::entries::{Draws, ENTRIES, entry};
+use crate::entries::{Draws, ENTRIES_MAX, KEYS_MAX, entry};
 use agg_laws::Steps;
 use plain_keys::PlainKey;
 use shard_core::{Applied, ApplyFault, KeyedShard, Shard, apply_counted};
@@ -27,7 +27,7 @@ pub struct Seen {
     pub revised: u64,
     pub dropped: u64,
     pub refused: u64,
-    // The slices of all keys, behind each entry anew.
+    // The slices of the first three keys, behind each entry anew.
     pub slices: u64,
 }
 
@@ -56,25 +56,50 @@ impl Seen {
     }
 }
 
+// How many entries there are, of how many keys, and where their draws begin.
+#[derive(Clone, Copy)]
+pub struct Course {
+    pub entries: u64,
+    pub keys: u64,
+    pub seed: u64,
+}
+
 // What two shards of two sources, with an empty journal, say of the generated entries.
 pub fn compared<R: Abort + Threads>(
     rt: &R,
     alloc: Global,
     defs: Defs,
-    seed: u64,
-) -> Result<Seen, Fail> {
+    course: Course,
+) -> Result<Seen, Fail>
+    requires entries { course.entries ≤ ENTRIES_MAX }
+    requires some { 1 ≤ course.keys }
+    requires few { course.keys ≤ KEYS_MAX }
+{
     let mut steps: Steps<Work> = Steps::start(rt);
-    let keys = three_keys()?;
+    let keys = keys_of(alloc, course.keys)?;
     let mut plain: PlainShard = KeyedShard::new(alloc, defs.copy(alloc)?, 2)?;
     let mut sliced: Shard = KeyedShard::new(alloc, defs, 2)?;
-    apply_all(rt, &mut plain, &mut sliced, &keys, seed, &mut steps)
+    apply_all(
+        rt,
+        &mut plain,
+        &mut sliced,
+        &keys,
+        course.entries,
+        course.seed,
+        &mut steps,
+    )
 }
 
-fn three_keys() -> Result<[KeyText; 3], Fail> {
-    let a = KeyText::from_bytes(b"a")?;
-    let b = KeyText::from_bytes(b"b")?;
-    let c = KeyText::from_bytes(b"c")?;
-    Ok([a, b, c])
+// So many keys, each of one letter.
+fn keys_of(alloc: Global, count: u64) -> Result<Vec<KeyText>, Fail>
+    requires { count ≤ KEYS_MAX }
+    ensures { IfOk result (λ keys. length keys.items ≡ count) }
+{
+    let mut keys = Vec::new(alloc);
+    for number in 0..count {
+        keys.push(KeyText::from_bytes(&[b'a' + number as u8])?)?;
+    }
+    Ok(keys)
 }
 
 // All entries are applied to both, in step.
@@ -82,22 +107,26 @@ fn apply_all(
     rt: &impl Abort,
     plain: &mut PlainShard,
     sliced: &mut Shard,
-    keys: &[KeyText; 3],
+    keys: &[KeyText],
+    entries: u64,
     seed: u64,
     steps: &mut Steps<Work>,
 ) -> Result<Seen, Fail>
+    requires entries { entries ≤ ENTRIES_MAX }
+    requires keys { 1 ≤ length keys.now }
     requires plain { plain.old.sources ≡ 2 }
     requires sliced { sliced.old.sources ≡ 2 }
 {
     let mut draws = Draws { seed };
     let mut seen = Seen::nothing();
-    'entries: for number in 0..ENTRIES {
-        let entry = entry(number, &mut draws, keys);
+    let watched = keys.len().min(3);
+    'entries: for number in 0..entries {
+        let entry = entry(number, entries, &mut draws, keys);
         step(rt, plain, sliced, &entry, steps, &mut seen)?;
-        compare_slices(rt, plain, sliced, keys, number, &mut seen);
+        compare_slices(rt, plain, sliced, &keys[..watched], number, &mut seen);
     }
     assert_eq!(rt; plain.journal_len(), sliced.journal_len());
-    assert_eq!(rt; plain.journal_len().saturating_add(seen.refused), ENTRIES);
+    assert_eq!(rt; plain.journal_len().saturating_add(seen.refused), entries);
     Ok(seen)
 }
 
@@ -151,12 +180,12 @@ fn compare_changes(
     seen.note(by_lists);
 }
 
-// Each key has as many slices in both.
+// Each of these keys has as many slices in both.
 fn compare_slices(
     rt: &impl Abort,
     plain: &PlainShard,
     sliced: &Shard,
-    keys: &[KeyText; 3],
+    keys: &[KeyText],
     number: u64,
     seen: &mut Seen,
 ) {

@@ -2,8 +2,8 @@
 //! stands on (Tangwongsan, Hirzel, Schneider, "Optimal and general out-of-order sliding-window
 //! aggregation", VLDB 2019).
 //!
-//! *Stands on* `agg_laws`, `fiba_nodes` and `fiba_changes`. *Promise*: an arena tree is its list of
-//! pairs with rising keys, and its work grows with its height, which is a logarithm of their number.
+//! *Stands on* `agg_laws` and `fiba_nodes`. *Promise*: an arena tree is its list of pairs with rising
+//! keys, and its work grows with its height, which is a logarithm of their number.
 #![tactic(auto)]
 
 mod tree;

@@ -3,11 +3,10 @@ ghost use Rattle.agg_laws.specs.Counters.{Works};
 ghost use Rattle.agg_laws.specs.Laws.{total};
 ghost use Rattle.agg_laws.specs.Pairs.{AreRising, has_key, within, values_of};
 ghost use Rattle.agg_laws.specs.Tables.{Inserts, IsHeight, IsReach, MayInsert, Removes, Replaces};
-ghost use Rattle.fiba_changes.specs.Arena.{IsBalanced};
+ghost use Rattle.fiba_nodes.specs.Arena.{IsBalanced};
 
 use agg_laws::{AggTree, Monoid, Probes, Steps};
-use fiba_changes::{Change, Root, change_root, first_item, fold_span};
-use fiba_nodes::{Bound, Item, Nodes, Place};
+use fiba_nodes::{Bound, Change, Item, Nodes, Place, Root, change_root, first_item, fold_span};
 use std::alloc::Global;
 use std::marker::Model;
 use stream_base::NoMemory;
@@ -28,7 +27,7 @@ pub struct ArenaTree<M: Monoid> {
 
 impl<M: Monoid> Model for ArenaTree<M> {
     ghost use Rattle.std.specs.Prelude.{◌-◌, false};
-    ghost use Rattle.fiba_changes.specs.Arena.{Arena, IsArena, pairs_in};
+    ghost use Rattle.fiba_nodes.specs.Arena.{Arena, IsArena, pairs_in};
 
     ghost Value = { Arena M };
 

@@ -1,17 +1,17 @@
 -- A tree that got its first item has one node.
 use Rattle.std.proofs.Common.{◌≡◌, ◌≤◌, ◌+◌, ◌-◌, ◌++◌, ℕ, zero, suc, Bool, true, List, [], ◌∷◌, Option, None, Some, length, refl, ap, ◌∙◌, arith, length-append}
 use Rattle.fiba_nodes.specs.declared.item.Item.{Item}
-use Rattle.fiba_changes.specs.declared.root.Root.{Root}
+use Rattle.fiba_nodes.specs.declared.root.Root.{Root}
 use Rattle.fiba_nodes.specs.declared.slot.Slot.{Slot}
-use Rattle.fiba_changes.specs.declared.change.Change.TheVariants.{Insert}
+use Rattle.fiba_nodes.specs.declared.change.Change.TheVariants.{Insert}
 use Rattle.fiba_nodes.specs.Stores.{Store}
 use Rattle.fiba_nodes.specs.Trees.{IsAt, Look, pairs_at, plain, size, tally, weigh}
-use Rattle.fiba_changes.specs.Changes.{Applies, incoming, pairs_of}
-use Rattle.fiba_changes.specs.Roots.{IsChanged}
+use Rattle.fiba_nodes.specs.Changes.{Applies, incoming, pairs_of}
+use Rattle.fiba_nodes.specs.Roots.{IsChanged}
 use Rattle.fiba_nodes.proofs.Opened.{no_pairs}
-use Rattle.fiba_changes.proofs.Planting.{weigh_low}
+use Rattle.fiba_nodes.proofs.Planting.{weigh_low}
 use Rattle.fiba_nodes.proofs.Sound.{weight_of}
-use Rattle.fiba_spine.proofs.Edges.{opens}
+use Rattle.fiba_finger.proofs.Edges.{opens}
 
 module _ {M : Type 0} where
   tally_none : (w : ℕ → ℕ) (look : Look M) (slots : List (Slot M)) (last : ℕ) → tally (weigh w look 0) slots last ≡ 0

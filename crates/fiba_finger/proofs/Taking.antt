@@ -3,15 +3,15 @@ use Rattle.std.proofs.Common.{◌≡◌, ◌≤◌, ◌==◌, ◌-◌, ◌++◌,
 use Rattle.std.specs.Prelude.{slice_get}
 use Rattle.std.proofs.lemmas.Bool.Decides.{nat_tests}
 use Rattle.fiba_nodes.specs.declared.item.Item.{Item}
-use Rattle.fiba_changes.specs.declared.root.Root.{Root}
-use Rattle.fiba_changes.specs.declared.change.Change.TheVariants.{Remove, First}
-use Rattle.fiba_changes.specs.Arena.{pairs_in}
+use Rattle.fiba_nodes.specs.declared.root.Root.{Root}
+use Rattle.fiba_nodes.specs.declared.change.Change.TheVariants.{Remove, First}
+use Rattle.fiba_nodes.specs.Arena.{pairs_in}
 use Rattle.fiba_nodes.specs.Stores.{Store}
 use Rattle.fiba_nodes.specs.Trees.{pair_of, pairs_at, plain}
-use Rattle.fiba_changes.specs.Changes.{Applies, CanApply}
-use Rattle.fiba_changes.specs.Roots.{CanChange, IsChanged, IsPlanted}
-use Rattle.fiba_spine.specs.Pulls.{IsDrained, IsPulled}
-use Rattle.fiba_spine.proofs.Pulling.{taken_some}
+use Rattle.fiba_nodes.specs.Changes.{Applies, CanApply}
+use Rattle.fiba_nodes.specs.Roots.{CanChange, IsChanged, IsPlanted}
+use Rattle.fiba_finger.specs.Pulls.{IsDrained, IsPulled}
+use Rattle.fiba_finger.proofs.Pulling.{taken_some}
 
 module _ {M : Type 0} where
   same_item : (x y : Item M) → pair_of x ≡ pair_of y → x ≡ y

@@ -1,14 +1,14 @@
 -- What a tree with a finger at both ends is in contracts, and what it keeps.
 use Rattle.std.specs.Prelude.{◌≡◌, ◌≤◌, ◌<◌, ◌+◌, ℕ, suc, true}
 use Rattle.agg_laws.specs.Tables.{IsReach, Table}
-use Rattle.fiba_changes.specs.declared.change.Change.TheVariants.{Remove}
-use Rattle.fiba_changes.specs.declared.changed.Changed.{Changed}
-use Rattle.fiba_changes.specs.declared.root.Root.{Root}
+use Rattle.fiba_nodes.specs.declared.change.Change.TheVariants.{Remove}
+use Rattle.fiba_nodes.specs.declared.changed.Changed.{Changed}
+use Rattle.fiba_nodes.specs.declared.root.Root.{Root}
 use Rattle.fiba_nodes.specs.Stores.{Store, full_nodes}
 use Rattle.fiba_nodes.specs.Trees.{plain, size}
-use Rattle.fiba_changes.specs.Arena.{IsArena, IsBalanced}
-use Rattle.fiba_changes.specs.Roots.{IsChanged, IsTree}
-use Rattle.fiba_spine.specs.Edges.{edge, left_edge}
+use Rattle.fiba_nodes.specs.Arena.{IsArena, IsBalanced}
+use Rattle.fiba_nodes.specs.Roots.{IsChanged, IsTree}
+use Rattle.fiba_finger.specs.Edges.{edge, left_edge}
 
 -- its pairs with room for more, its height, how many nodes it has, and how many nodes of its store are full, with three items
 pub record Fingers (M : Type 0) : Type 0 where

@@ -1,1 +1,4 @@
 pub mod Fingers
+pub mod Edges
+pub mod Climbs
+pub mod Pulls

@@ -1,18 +1,20 @@
 ghost use Rattle.std.specs.Prelude.{◌≡◌, ◌≤◌, ◌<◌, ◌+◌, ◌-◌, ◌*◌, ◌^◌, false, true};
 ghost use Rattle.agg_laws.specs.Counters.{Looks};
 ghost use Rattle.agg_laws.specs.Pairs.{AreRising, has_key};
-ghost use Rattle.fiba_changes.specs.Arena.{pairs_in};
+ghost use Rattle.fiba_nodes.specs.Arena.{pairs_in};
 ghost use Rattle.fiba_nodes.specs.Stores.{full_nodes};
-ghost use Rattle.fiba_changes.specs.Roots.{CanChange, IsTree};
-ghost use Rattle.fiba_changes.specs.declared.change.Change.TheVariants.{Insert};
-ghost use Rattle.fiba_spine.specs.Climbs.{IsPut, distance};
+ghost use Rattle.fiba_nodes.specs.Roots.{CanChange, IsTree};
+ghost use Rattle.fiba_nodes.specs.declared.change.Change.TheVariants.{Insert};
+ghost use Rattle.fiba_finger.specs.Climbs.{IsPut, distance};
 ghost use Rattle.fiba_finger.specs.Fingers.{IsFinger, IsFront, KeepsFront};
 
+use crate::ascending::climb;
+use crate::climbed::Climbed;
+use crate::edge::{leftmost, right_place, rightmost};
+use crate::growing::raise;
 use crate::grown::Grown;
 use agg_laws::{Monoid, Probes, Steps};
-use fiba_changes::{Change, Root, change_root};
-use fiba_nodes::{Item, Nodes};
-use fiba_spine::{Climbed, climb, leftmost, raise, right_place, rightmost};
+use fiba_nodes::{Change, Item, Nodes, Root, change_root};
 
 /// A tree after an insertion, its first and its last leaf, and what the insertion did.
 #[derive(Clone, Copy)]

@@ -1,15 +1,15 @@
 ghost use Rattle.std.specs.Prelude.{◌≡◌, ◌≤◌, ◌+◌, ◌*◌, true, Some, slice_get};
 ghost use Rattle.agg_laws.specs.Counters.{Works};
-ghost use Rattle.fiba_changes.specs.Arena.{pairs_in};
+ghost use Rattle.fiba_nodes.specs.Arena.{pairs_in};
 ghost use Rattle.fiba_nodes.specs.Trees.{pair_of};
-ghost use Rattle.fiba_changes.specs.Roots.{CanChange};
-ghost use Rattle.fiba_changes.specs.declared.change.Change.TheVariants.{Remove};
+ghost use Rattle.fiba_nodes.specs.Roots.{CanChange};
+ghost use Rattle.fiba_nodes.specs.declared.change.Change.TheVariants.{Remove};
 ghost use Rattle.fiba_finger.specs.Fingers.{IsFront, Takes};
 
+use crate::draining::pull;
+use crate::edge::right_place;
 use agg_laws::{Monoid, Probes, Steps};
-use fiba_changes::{Change, Changed, Root, change_root, plant};
-use fiba_nodes::{Item, Nodes, Open, Row};
-use fiba_spine::{pull, right_place};
+use fiba_nodes::{Change, Changed, Item, Nodes, Open, Root, Row, change_root, plant};
 
 /// Takes the item with a key out of a tree, if there is one: along the left edge where it is the
 /// first item, and else on the way from the root. At most 16 steps a level, and 16.

@@ -3,17 +3,16 @@ ghost use Rattle.agg_laws.specs.Counters.{Looks, Works};
 ghost use Rattle.agg_laws.specs.Laws.{total};
 ghost use Rattle.agg_laws.specs.Pairs.{AreRising, has_key, within, values_of};
 ghost use Rattle.agg_laws.specs.Tables.{Inserts, IsHeight, IsLeast, IsReach, MayInsert, Removes, Replaces, Reserves};
-ghost use Rattle.fiba_changes.specs.Arena.{IsBalanced};
-ghost use Rattle.fiba_spine.specs.Climbs.{distance};
+ghost use Rattle.fiba_nodes.specs.Arena.{IsBalanced};
+ghost use Rattle.fiba_finger.specs.Climbs.{distance};
 ghost use Rattle.fiba_finger.specs.Fingers.{Shrinks};
 
+use crate::edge::right_place;
 use crate::grown::Grown;
 use crate::put::{end_of, put_near, start_of};
 use crate::take::take;
 use agg_laws::{AggTree, Monoid, Probes, Steps};
-use fiba_changes::{Change, Root, change_root, fold_span};
-use fiba_nodes::{Bound, Item, Nodes};
-use fiba_spine::right_place;
+use fiba_nodes::{Bound, Change, Item, Nodes, Root, change_root, fold_span};
 use std::alloc::Global;
 use std::marker::Model;
 use stream_base::NoMemory;
@@ -38,7 +37,7 @@ pub struct FingerTree<M: Monoid> {
 
 impl<M: Monoid> Model for FingerTree<M> {
     ghost use Rattle.std.specs.Prelude.{◌-◌};
-    ghost use Rattle.fiba_changes.specs.Arena.{pairs_in};
+    ghost use Rattle.fiba_nodes.specs.Arena.{pairs_in};
     ghost use Rattle.fiba_nodes.specs.Stores.{full_nodes};
     ghost use Rattle.fiba_finger.specs.Fingers.{Fingers, IsFingered, nodes_in};
 

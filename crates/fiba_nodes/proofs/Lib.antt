@@ -8,3 +8,9 @@ pub mod Kids
 pub mod Nesting
 pub mod Writes
 pub mod Fullness
+pub mod Changing
+pub mod Below
+pub mod Strings
+pub mod Planting
+pub mod Tops
+pub mod Paying

@@ -6,3 +6,7 @@ pub mod Links
 pub mod Kids
 pub mod Nested
 pub mod Places
+pub mod Changes
+pub mod Roots
+pub mod Arena
+pub mod Filling

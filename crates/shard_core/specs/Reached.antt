@@ -17,12 +17,12 @@ pub record IsNextReached (numbers : List ℕ) (water from place : ℕ) : Type 0 
   pub reached : slice_index numbers place ≤ water
   pub none_before : NoneReached numbers water from place
 
--- each block of 64 numbers has one beside it that is no greater than any of them
+-- each block of 32 numbers has one beside it that is no greater than any of them
 pub record AreBlocks (numbers blocks : List ℕ) : Type 0 where
-  pub enough : length numbers ≤ 64 * length blocks
-  pub no_greater : (p : ℕ) → p < length numbers → slice_index blocks (p / 64) ≤ slice_index numbers p
+  pub enough : length numbers ≤ 32 * length blocks
+  pub no_greater : (p : ℕ) → p < length numbers → slice_index blocks (p / 32) ≤ slice_index numbers p
 
--- and so has each group of 64 blocks
+-- and so has each group of 32 blocks
 pub record AreGroups (numbers blocks groups : List ℕ) : Type 0 where
-  pub enough : length blocks ≤ 64 * length groups
-  pub no_greater : (p : ℕ) → p < length numbers → slice_index groups (p / 64 / 64) ≤ slice_index numbers p
+  pub enough : length blocks ≤ 32 * length groups
+  pub no_greater : (p : ℕ) → p < length numbers → slice_index groups (p / 32 / 32) ≤ slice_index numbers p

@@ -6,7 +6,7 @@ use std::marker::Model;
 use stream_base::NoMemory;
 
 // So many numbers lie in a block, and so many blocks in a group.
-const BLOCK: usize = 64;
+const BLOCK: usize = 32;
 
 // The due numbers of the states by their places. Beside each block of them stands a number that is
 // no greater than any of them, and so beside each group of blocks: what a watermark doesn't reach is
@@ -28,7 +28,7 @@ impl Model for Dues {
 
     ghost view = { λ s. record {
       items = s.numbers.items;
-      room = min (room s.numbers) (64 * length s.blocks.items - length s.numbers.items);
+      room = min (room s.numbers) (32 * length s.blocks.items - length s.numbers.items);
     } };
 
     ghost invariant = { λ s. AreBlocks s.numbers.items s.blocks.items
@@ -114,12 +114,12 @@ impl Dues {
 
 // One block or group more, where there are none for one number more.
 fn cover(least: &mut Vec<u64>, numbers: usize) -> Result<(), NoMemory>
-    requires { numbers ≤ 64 * length least.old.items }
+    requires { numbers ≤ 32 * length least.old.items }
     ensures fewer { length least.old.items ≤ length least.new.items }
     ensures one_more { length least.new.items ≤ length least.old.items + 1 }
     ensures same { (b : ℕ) → b < length least.old.items
         → slice_index least.new.items b ≡ slice_index least.old.items b }
-    ensures covered { OnOk result (numbers + 1 ≤ 64 * length least.new.items) }
+    ensures covered { OnOk result (numbers + 1 ≤ 32 * length least.new.items) }
 {
     if numbers / BLOCK == least.len() {
         least.push(u64::MAX)?;
@@ -165,8 +165,8 @@ fn look_into_groups(numbers: &[u64], blocks: &[u64], groups: &mut [u64], water: 
 
 // The least of the numbers of a block.
 fn least_of(numbers: &[u64], block: usize) -> u64
-    requires { 64 * block < length numbers.now }
-    ensures { (p : ℕ) → p / 64 ≡ block → p < length numbers.now
+    requires { 32 * block < length numbers.now }
+    ensures { (p : ℕ) → p / 32 ≡ block → p < length numbers.now
         → result ≤ slice_index numbers.now p }
 {
     let first = block * BLOCK;

@@ -1,9 +1,9 @@
 -- The node that was written last stands on the edge, which goes on below it to the finger.
 use Rattle.std.proofs.Common.{◌≡◌, ◌-◌, suc, true, sym, ap, subst, ◌∙◌, arith}
 use Rattle.fiba_nodes.specs.Trees.{IsAt, plain}
-use Rattle.fiba_spine.specs.Edges.{edge, left_edge}
-use Rattle.fiba_spine.proofs.Edges.{edge_parts, edge_sound, left_at}
-use Rattle.fiba_spine.proofs.Raising.{left_is}
+use Rattle.fiba_finger.specs.Edges.{edge, left_edge}
+use Rattle.fiba_finger.proofs.Edges.{edge_parts, edge_sound, left_at}
+use Rattle.fiba_finger.proofs.Raising.{left_is}
 use Rattle.fiba_finger.proofs.Sprouting.{sprout_taken}
 use Rattle.fiba_finger.proofs.put.put_near.Goals as goal
 

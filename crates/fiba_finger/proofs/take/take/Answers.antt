@@ -2,10 +2,10 @@
 use Rattle.std.proofs.Common.{◌≡◌, ◌-◌, Some, suc, true, sym, ap, subst, arith}
 use Rattle.std.specs.Prelude.{slice_get}
 use Rattle.fiba_nodes.specs.Trees.{IsAt, pair_of, pairs_at, plain, vacancy}
-use Rattle.fiba_changes.specs.Roots.{CanChange}
-use Rattle.fiba_changes.specs.declared.change.Change.TheVariants.{Remove}
+use Rattle.fiba_nodes.specs.Roots.{CanChange}
+use Rattle.fiba_nodes.specs.declared.change.Change.TheVariants.{Remove}
 use Rattle.fiba_nodes.proofs.Opened.{is_some}
-use Rattle.fiba_spine.proofs.Lefts.{IsLeast, least_of, left_least}
+use Rattle.fiba_finger.proofs.Lefts.{IsLeast, least_of, left_least}
 use Rattle.fiba_finger.proofs.take.take.Goals as goal
 
 pub peek-requires : goal.peek-requires

@@ -2,7 +2,7 @@
 use Rattle.fiba_nodes.specs.Trees.{plain}
 use Rattle.fiba_nodes.proofs.Opened.{no_pairs}
 use Rattle.std.proofs.Common.{false, refl}
-use Rattle.fiba_changes.proofs.Tops.{arena_fresh}
+use Rattle.fiba_nodes.proofs.Tops.{arena_fresh}
 use Rattle.fiba_arena.proofs.tree.ArenaTreeAggTree.fresh.Goals as goal
 
 pub invariant_of-result : goal.invariant_of-result

@@ -1,7 +1,7 @@
 -- The change is an insertion, since no pair has the key.
 use Rattle.std.proofs.Common.{false, ap, ◌∙◌, arith}
 use Rattle.agg_laws.specs.Pairs.{has_key, inserted}
-use Rattle.fiba_changes.proofs.Tops.{arena_inserted}
+use Rattle.fiba_nodes.proofs.Tops.{arena_inserted}
 use Rattle.fiba_arena.proofs.tree.ArenaTreeAggTree.insert.Goals as goal
 
 pub invariant_of-self : goal.invariant_of-self

@@ -2,8 +2,8 @@
 use Rattle.std.proofs.Common.{rules, false, ◌≡◌, ◌-◌, None, Some, length, sym, ap, ◌∙◌, arith}
 use Rattle.std.specs.Option.{option_map}
 use Rattle.agg_laws.specs.Pairs.{has_key, value_at, without}
-use Rattle.fiba_changes.specs.Changes.{pairs_of}
-use Rattle.fiba_changes.proofs.Tops.{arena_removed, removed_of}
+use Rattle.fiba_nodes.specs.Changes.{pairs_of}
+use Rattle.fiba_nodes.proofs.Tops.{arena_removed, removed_of}
 use Rattle.fiba_arena.proofs.tree.ArenaTreeAggTree.remove.Goals as goal
 
 pub invariant_of-self : goal.invariant_of-self

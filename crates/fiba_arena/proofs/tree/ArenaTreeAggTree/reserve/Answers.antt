@@ -1,6 +1,6 @@
 -- The nodes stay, and there is room for more.
 use Rattle.std.proofs.Common.{false, arith}
-use Rattle.fiba_changes.proofs.Tops.{arena_roomier, size_kept}
+use Rattle.fiba_nodes.proofs.Tops.{arena_roomier, size_kept}
 use Rattle.fiba_arena.proofs.tree.ArenaTreeAggTree.reserve.Goals as goal
 
 pub invariant_of-self : goal.invariant_of-self

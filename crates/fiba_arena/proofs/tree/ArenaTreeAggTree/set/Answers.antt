@@ -1,7 +1,7 @@
 -- The change puts an item in the place of another, since some pair has the key.
 use Rattle.std.proofs.Common.{false, ap, ◌∙◌, arith}
 use Rattle.agg_laws.specs.Pairs.{has_key, replaced}
-use Rattle.fiba_changes.proofs.Tops.{arena_replaced}
+use Rattle.fiba_nodes.proofs.Tops.{arena_replaced}
 use Rattle.fiba_arena.proofs.tree.ArenaTreeAggTree.set.Goals as goal
 
 pub invariant_of-self : goal.invariant_of-self

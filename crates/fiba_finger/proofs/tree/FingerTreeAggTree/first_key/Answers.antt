@@ -3,9 +3,9 @@ use Rattle.std.proofs.Common.{◌≡◌, ◌-◌, [], Some, true, suc, refl, sym
 use Rattle.agg_laws.specs.Pairs.{AreRising}
 use Rattle.std.specs.Prelude.{slice_get}
 use Rattle.fiba_nodes.specs.Trees.{IsAt, pair_of, pairs_at, plain, vacancy}
-use Rattle.fiba_changes.proofs.Tops.{key_of_first}
+use Rattle.fiba_nodes.proofs.Tops.{key_of_first}
 use Rattle.fiba_nodes.proofs.Opened.{is_some, no_pairs}
-use Rattle.fiba_spine.proofs.Lefts.{IsLeast, least_of, left_least}
+use Rattle.fiba_finger.proofs.Lefts.{IsLeast, least_of, left_least}
 use Rattle.fiba_finger.proofs.tree.FingerTreeAggTree.first_key.Goals as goal
 
 pub returns-then-self-eq0 : goal.returns-then-self-eq0

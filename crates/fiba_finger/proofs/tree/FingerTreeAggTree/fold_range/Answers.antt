@@ -3,8 +3,8 @@ use Rattle.std.proofs.Common.{length, sym, ap, ◌∙◌, arith}
 use Rattle.agg_laws.specs.Laws.{total}
 use Rattle.agg_laws.specs.Pairs.{values_of, within}
 use Rattle.agg_laws.proofs.RisingPairs.{within-empty}
-use Rattle.fiba_changes.specs.Arena.{pairs_in}
-use Rattle.fiba_changes.proofs.Tops.{is_range}
+use Rattle.fiba_nodes.specs.Arena.{pairs_in}
+use Rattle.fiba_nodes.proofs.Tops.{is_range}
 use Rattle.fiba_finger.proofs.tree.FingerTreeAggTree.fold_range.Goals as goal
 
 pub returns-then-high-low-clause-value : goal.returns-then-high-low-clause-value

@@ -3,7 +3,7 @@ use Rattle.fiba_nodes.specs.Trees.{plain}
 use Rattle.fiba_nodes.proofs.Fullness.{full_none}
 use Rattle.fiba_nodes.proofs.Opened.{no_pairs}
 use Rattle.std.proofs.Common.{true, arith, refl}
-use Rattle.fiba_changes.proofs.Tops.{arena_fresh}
+use Rattle.fiba_nodes.proofs.Tops.{arena_fresh}
 use Rattle.fiba_finger.proofs.tree.FingerTreeAggTree.fresh.Goals as goal
 
 pub invariant_of-result : goal.invariant_of-result

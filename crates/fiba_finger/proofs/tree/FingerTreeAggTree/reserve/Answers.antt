@@ -1,9 +1,9 @@
 -- The nodes stay, and there is room for more.
 use Rattle.std.proofs.Common.{true, arith, ap, sym, ◌∙◌}
 use Rattle.fiba_nodes.specs.Trees.{plain}
-use Rattle.fiba_spine.specs.Edges.{edge, left_edge}
+use Rattle.fiba_finger.specs.Edges.{edge, left_edge}
 use Rattle.fiba_nodes.proofs.Fullness.{full_kept}
-use Rattle.fiba_changes.proofs.Tops.{arena_roomier, size_kept}
+use Rattle.fiba_nodes.proofs.Tops.{arena_roomier, size_kept}
 use Rattle.fiba_finger.proofs.tree.FingerTreeAggTree.reserve.Goals as goal
 
 pub invariant_of-self : goal.invariant_of-self

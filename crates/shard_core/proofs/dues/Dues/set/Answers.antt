@@ -36,10 +36,10 @@ invariant_of-self c =
     let enough = c.self.invariant.0.enough in (
       record {
         enough = omega (arith, length-set {A = ℕ});
-        no_greater = λ p l. lowered numbers blocks (λ q. q / 64) place due c.index.result.now c.min.result within (omega arith) c.self.invariant.0.no_greater c.index.ensures c.min.ensures p (omega (arith, length-set {A = ℕ}));
+        no_greater = λ p l. lowered numbers blocks (λ q. q / 32) place due c.index.result.now c.min.result within (omega arith) c.self.invariant.0.no_greater c.index.ensures c.min.ensures p (omega (arith, length-set {A = ℕ}));
       },
       record {
         enough = omega (arith, length-set {A = ℕ});
-        no_greater = λ p l. lowered numbers groups (λ q. q / 64 / 64) place due c.index-2.result.now c.min-2.result within (omega arith) c.self.invariant.1.no_greater c.index-2.ensures c.min-2.ensures p (omega (arith, length-set {A = ℕ}));
+        no_greater = λ p l. lowered numbers groups (λ q. q / 32 / 32) place due c.index-2.result.now c.min-2.result within (omega arith) c.self.invariant.1.no_greater c.index-2.ensures c.min-2.ensures p (omega (arith, length-set {A = ℕ}));
       },
     )

@@ -1,5 +1,0 @@
--- Each level is lower.
-use Rattle.fiba_changes.proofs.least.+first_item.Given as goal
-
-abbrev pub decreases-first_item : goal.decreases-first_item
-decreases-first_item g l = l.below

@@ -1,4 +1,0 @@
-pub mod Changes
-pub mod Roots
-pub mod Arena
-pub mod Filling

@@ -1,9 +1,0 @@
-use crate::root::Root;
-use fiba_nodes::Item;
-
-/// The root of a tree after a change, and the item that went out.
-#[derive(Clone, Copy)]
-pub struct Changed<M> {
-    pub root: Root,
-    pub taken: Option<Item<M>>,
-}

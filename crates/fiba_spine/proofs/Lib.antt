@@ -1,6 +1,0 @@
-pub mod Edges
-pub mod Climbing
-pub mod Regrown
-pub mod Pulling
-pub mod Raising
-pub mod Lefts

@@ -1,5 +1,0 @@
-use Rattle.fiba_spine.proofs.draining.+pull.Given as goal
-
--- proposed from what the function passes where it calls itself
-abbrev pub decreases-pull : goal.decreases-pull
-decreases-pull g l = l.below

@@ -1,5 +1,0 @@
--- Each level is lower.
-use Rattle.fiba_spine.proofs.edge.+leftmost.Given as goal
-
-abbrev pub decreases-leftmost : goal.decreases-leftmost
-decreases-leftmost g l = l.below
