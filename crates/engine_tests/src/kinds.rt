@@ -11,7 +11,7 @@ use std::test::Fail;
 use stream_base::{Def, Defs, Func, Kind};
 
 // The course of most tests.
-fn short(seed: u64) -> Course
+fn course(seed: u64) -> Course
     ensures entries { result.entries ≡ 2000 }
     ensures keys { result.keys ≡ 3 }
 {
@@ -55,7 +55,7 @@ fn tumbling_windows_are_the_same_by_lists_and_by_slices(rt: HostRuntime) -> Resu
     let alloc = rt.alloc();
     let tens = Kind::Tumbling { length: 10 };
     let sevens = Kind::Tumbling { length: 7 };
-    let seen = compared(&rt, alloc, two(alloc, tens, sevens)?, short(1))?;
+    let seen = compared(&rt, alloc, two(alloc, tens, sevens)?, course(1))?;
     assert_seen(&rt, seen, 1_000);
     assert!(rt; seen.slices > 1_000, "{seen:?}");
     Ok(())
@@ -73,7 +73,7 @@ fn sliding_windows_are_the_same_by_lists_and_by_slices(rt: HostRuntime) -> Resul
         length: 10,
         slide: 4,
     };
-    let seen = compared(&rt, alloc, two(alloc, thirties, tens)?, short(2))?;
+    let seen = compared(&rt, alloc, two(alloc, thirties, tens)?, course(2))?;
     assert_seen(&rt, seen, 1_500);
     assert!(rt; seen.slices > 1_000, "{seen:?}");
     Ok(())
@@ -85,7 +85,7 @@ fn sessions_are_the_same_by_lists_and_by_slices(rt: HostRuntime) -> Result<(), F
     let alloc = rt.alloc();
     let short = Kind::Session { gap: 12 };
     let long = Kind::Session { gap: 30 };
-    let seen = compared(&rt, alloc, two(alloc, short, long)?, short(3))?;
+    let seen = compared(&rt, alloc, two(alloc, short, long)?, course(3))?;
     assert_seen(&rt, seen, 200);
     assert!(rt; seen.slices > 1_000, "{seen:?}");
     Ok(())
@@ -95,7 +95,7 @@ fn sessions_are_the_same_by_lists_and_by_slices(rt: HostRuntime) -> Result<(), F
 #[test]
 fn marks_windows_are_the_same_by_lists_and_by_slices(rt: HostRuntime) -> Result<(), Fail> {
     let alloc = rt.alloc();
-    let seen = compared(&rt, alloc, two(alloc, Kind::Marks, Kind::Marks)?, short(4))?;
+    let seen = compared(&rt, alloc, two(alloc, Kind::Marks, Kind::Marks)?, course(4))?;
     assert_seen(&rt, seen, 150);
     assert!(rt; seen.slices > 1_000, "{seen:?}");
     Ok(())
@@ -108,7 +108,7 @@ fn events_windows_are_the_same_by_lists_and_by_slices(rt: HostRuntime) -> Result
     let alloc = rt.alloc();
     let fours = Kind::Events { count: 4 };
     let elevens = Kind::Events { count: 11 };
-    let seen = compared(&rt, alloc, two(alloc, fours, elevens)?, short(5))?;
+    let seen = compared(&rt, alloc, two(alloc, fours, elevens)?, course(5))?;
     assert_seen(&rt, seen, 200);
     assert_eq!(rt; seen.slices, 0);
     Ok(())
@@ -153,7 +153,7 @@ fn all_kinds(alloc: Global, pause: u64, lateness: u64) -> Result<Defs, Fail>
 #[test]
 fn all_kinds_at_once_are_the_same_by_lists_and_by_slices(rt: HostRuntime) -> Result<(), Fail> {
     let alloc = rt.alloc();
-    let seen = compared(&rt, alloc, all_kinds(alloc, 12, 25)?, short(6))?;
+    let seen = compared(&rt, alloc, all_kinds(alloc, 12, 25)?, course(6))?;
     assert_seen(&rt, seen, 2_000);
     assert!(rt; seen.slices > 1_000, "{seen:?}");
     Ok(())
@@ -163,12 +163,12 @@ fn all_kinds_at_once_are_the_same_by_lists_and_by_slices(rt: HostRuntime) -> Res
 #[test]
 fn long_runs_of_all_kinds_are_the_same_by_lists_and_by_slices(rt: HostRuntime) -> Result<(), Fail> {
     let alloc = rt.alloc();
-    let course = Course {
+    let long = Course {
         entries: 100_000,
         keys: 20,
         seed: 7,
     };
-    let seen = compared(&rt, alloc, all_kinds(alloc, 100, 120)?, course)?;
+    let seen = compared(&rt, alloc, all_kinds(alloc, 100, 120)?, long)?;
     assert_seen(&rt, seen, 100_000);
     assert!(rt; seen.slices > 100_000, "{seen:?}");
     Ok(())
