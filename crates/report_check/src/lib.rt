@@ -10,6 +10,7 @@
 #![tactic(auto)]
 
 mod apart;
+mod by_lists;
 mod check;
 pub mod examples;
 mod finding;
@@ -26,9 +27,12 @@ mod routes;
 mod same;
 mod step;
 mod tell;
+mod teller;
 mod waters;
 
-pub use check::check_report;
+pub use by_lists::ByLists;
+pub use check::{check_report, check_report_by};
 pub use finding::Finding;
 pub use journal::Journal;
 pub use read::journals_of;
+pub use teller::Teller;

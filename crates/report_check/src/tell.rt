@@ -1,20 +1,21 @@
-//! The report of journals, told anew from the definitions.
+//! The report of journals, told anew.
 ghost use Rattle.std.specs.Prelude.{◌≡◌, ◌++◌, ◌∷◌, [], OnOk, codes, decimal};
 ghost use Rattle.stream_base.specs.Model.Text.{changes_under, journal_lines, line_of, report_of, shard_lines};
-ghost use Rattle.report_check.specs.Readable.{IsReadable};
 ghost use Rattle.report_lines.specs.Told.{form_of};
 
 use crate::journal::Journal;
-use crate::ledger::Ledger;
+use crate::teller::Teller;
 use agg_laws::Steps;
 use itoa::Buffer;
-use report_lines::{Told, put_changes, put_entry, put_pieces};
+use report_lines::{Told, put_pieces};
 use std::alloc::Global;
-use stream_base::{Defs, Entry, NoMemory};
+use stream_base::{Defs, NoMemory};
 
-/// Puts the report of journals of so many sources behind a text, in a form.
+/// Puts the report of journals of so many sources behind a text, in a form. Each journal is told by
+/// the teller.
 #[tactic(auto, unfolding(stream_base::specs::Model::Text::report_of))]
-pub fn put_report<L>(
+pub fn put_report<T: Teller, L>(
+    teller: &T,
     alloc: Global,
     told: Told,
     defs: &Defs,
@@ -27,7 +28,7 @@ pub fn put_report<L>(
         ++ report_of (form_of told) defs.now sources journals.now) }
 {
     put_front(told, out)?;
-    put_shards(alloc, told, defs, sources, journals, out, steps)?;
+    put_shards(teller, alloc, told, defs, sources, journals, out, steps)?;
     put_pieces(&[b"end\n"], out)
 }
 
@@ -42,7 +43,8 @@ fn put_front(told: Told, out: &mut Vec<u8>) -> Result<(), NoMemory>
 }
 
 // Puts the lines of shards: the header of each, and its journal.
-fn put_shards<L>(
+fn put_shards<T: Teller, L>(
+    teller: &T,
     alloc: Global,
     told: Told,
     defs: &Defs,
@@ -56,7 +58,7 @@ fn put_shards<L>(
 {
     for shard in 0..journals.len() {
         put_header(shard as u64, out)?;
-        put_journal(
+        teller.put_journal(
             alloc,
             told,
             defs,
@@ -76,31 +78,4 @@ fn put_header(shard: u64, out: &mut Vec<u8>) -> Result<(), NoMemory>
 {
     let mut number = Buffer::new();
     put_pieces(&[b"shard ", number.format(shard).as_bytes(), b"\n"], out)
-}
-
-// Puts the lines of a journal: each entry's own, and those of its changes.
-fn put_journal<L>(
-    alloc: Global,
-    told: Told,
-    defs: &Defs,
-    sources: u16,
-    journal: &[Entry],
-    out: &mut Vec<u8>,
-    steps: &mut Steps<L>,
-) -> Result<(), NoMemory>
-    requires { IsReadable journal.now }
-    ensures { OnOk result (out.new.items ≡ out.old.items
-        ++ journal_lines (changes_under (form_of told) defs.now sources) [] journal.now) }
-{
-    let mut ledger = Ledger::new(alloc, sources);
-    for place in 0..journal.len() {
-        let past = &journal[..place];
-        let entry = &journal[place];
-        let upto = &journal[..place + 1];
-        let mut changes = Vec::new(alloc);
-        ledger.take_in(defs, past, entry, upto, &mut changes, steps)?;
-        put_entry(entry, out)?;
-        put_changes(told, &changes, out)?;
-    }
-    Ok(())
 }

@@ -6,7 +6,7 @@ use Rattle.stream_base.specs.Model.Text.{Form, changes_under, journal_lines}
 use Rattle.report_check.specs.Ledgers.{IsLedger}
 use Rattle.report_lines.specs.Told.{form_of}
 use Rattle.report_check.specs.declared.ledger.Ledger.{Ledger}
-use Rattle.report_check.proofs.tell.put_journal.Given as goal
+use Rattle.report_check.proofs.by_lists.ByListsTeller.put_journal.Given as goal
 
 pub record IsToldUpTo (form : Form) (d : Definitions) (sources : ℕ) (journal : List Entry) (before out : List ℕ) (l : Ledger) (place : ℕ) : Type 0 where
   pub ledger_is : IsLedger d sources (take place journal) l

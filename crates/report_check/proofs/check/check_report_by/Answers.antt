@@ -5,7 +5,7 @@ use Rattle.stream_base.specs.Model.Text.{report_of}
 use Rattle.report_check.specs.Findings.{lists_of}
 use Rattle.report_lines.specs.Told.{form_of}
 use Rattle.report_check.proofs.Judging.{told_report}
-use Rattle.report_check.proofs.check.check_report.Goals as goal
+use Rattle.report_check.proofs.check.check_report_by.Goals as goal
 
 pub returns : goal.returns
 returns g c =

@@ -1,0 +1,21 @@
+//! The lines of a shard's journal.
+ghost use Rattle.std.specs.Prelude.{◌≡◌, ◌++◌, [], OnOk};
+ghost use Rattle.stream_base.specs.Model.Text.{changes_under, journal_lines};
+ghost use Rattle.report_lines.specs.Told.{form_of};
+
+use report_lines::{Told, put_changes, put_entry};
+use shard_core::Shard;
+use stream_base::NoMemory;
+
+/// Puts the lines of a shard's journal behind a text, in a form: each entry's own, and those of its
+/// changes.
+pub fn put_shard(told: Told, shard: &Shard, out: &mut Vec<u8>) -> Result<(), NoMemory>
+    ensures { OnOk result (out.new.items ≡ out.old.items ++ journal_lines (changes_under
+        (form_of told) shard.now.defs shard.now.sources) [] shard.now.journal) }
+{
+    for position in 0..shard.journal_len() {
+        put_entry(shard.entry_at(position), out)?;
+        put_changes(told, shard.changes_at(position), out)?;
+    }
+    Ok(())
+}
