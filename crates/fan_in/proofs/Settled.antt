@@ -33,11 +33,21 @@ unsettled d n lanes owners owned = record {
   none = λ k o lk. (owned.owned k (some_of lanes k lk) o lk).back_none;
 }
 
+-- the first rows came back
+pub record IsBringing (i : ℕ) (rows left : List (Vec (SenderState Entry) Global)) (first now : List OwnerJob) : Type 0 where
+  pub left_is : left ≡ drop i rows
+  pub many : length now ≡ length first
+  pub back : (k : ℕ) (o : OwnerJob) → k < length first → HasBack i k rows (get_or first k o) (get_or now k o)
+
 -- no row came back yet
-pub back_first : (lanes : List Lane) (owners : List OwnerJob) (rows : List (Vec (SenderState Entry) Global)) → AreUnsettled lanes owners → (k : ℕ) (o : OwnerJob) → k < length owners → HasBack 0 k rows (get_or owners k o) (get_or owners k o)
-back_first lanes owners rows h k o l =
-    let none = h.none k o (let m = h.many in omega arith) in
-    record { lane = refl; senders = refl; taken = refl; owner = refl; many = ap length none; back = λ j row s lj. absurd (omega arith) }
+pub bring_none : (lanes : List Lane) (owners : List OwnerJob) (rows : List (Vec (SenderState Entry) Global)) → AreUnsettled lanes owners → IsBringing 0 rows rows owners owners
+bring_none lanes owners rows h = record {
+  left_is = refl;
+  many = refl;
+  back = λ k o l.
+      let none = h.none k o (let m = h.many in omega arith) in
+      record { lane = refl; senders = refl; taken = refl; owner = refl; many = ap length none; back = λ j row s lj. absurd (omega arith) };
+}
 
 -- the senders of one row more may come back
 pub may_take_row : (lanes : List Lane) (owners now : List OwnerJob) (rows : List (Vec (SenderState Entry) Global)) (i : ℕ) (row : List (SenderState Entry)) → AreUnsettled lanes owners → AreBoxesOf i lanes row

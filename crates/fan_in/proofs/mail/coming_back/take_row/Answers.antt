@@ -38,3 +38,6 @@ loop-k-preserved c =
       back = place_more (λ j (a b : OwnerJob). (s : SenderState Entry) → TookBack (get_or c.args.row.items j s).sent a b) k c.args.owners.now owners o _ h.many (omega (arith, c.requires.one_each)) h.rest h.back
           (λ s. record { receiver = c.take_back.ensures.back ∙ ap (with_back (get_or owners k o).receiver) (sent s); owner = refl });
     }
+
+pub returns-clause-back : goal.returns-clause-back
+returns-clause-back c k o s l = c.loop-k.invariant.back k o (omega (arith, c.requires.one_each)) s

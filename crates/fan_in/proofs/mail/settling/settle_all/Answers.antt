@@ -1,5 +1,6 @@
-use Rattle.std.proofs.Common.{arith, ◌≡◌, ◌<◌, get_or, length, List, subst, ap, ◌∙◌}
+use Rattle.std.proofs.Common.{arith, ◌≡◌, ◌<◌, get_or, length, List, sym, subst, ap, ◌∙◌}
 use Rattle.stream_base.specs.declared.entry.Entry.{Entry}
+use Rattle.stream_base.specs.declared.limits.TheConstants.{JOURNAL_MAX}
 use Rattle.fan_in.specs.Settling.{HoldsSent}
 use Rattle.fan_in.proofs.Lists.{some_of, written}
 use Rattle.fan_in.proofs.Settled.{all_back, unsettled}
@@ -25,11 +26,12 @@ settle_each-requires-clause-over g c κs within =
     let lent = c.as_mut_slice.ensures.value in
     let many : length c.bring_back.new.owners ≡ length owners.items = c.bring_back.ensures.many ∙ ap length lent in
     let w = written owners.len owners.items c.bring_back.new.owners (omega (arith, owners.ok.0)) many in
+    let back = rw lent at c.bring_back.ensures.back in
     rw w (λ i k o e l lk full.
     let row = some_of c.args.rows.items i (omega (arith, c.requires.rows.many, c.requires.one_each)) in
     let s = some_of (get_or c.args.rows.items i row).items k (omega (arith, (c.requires.rows.boxes i row (omega (arith, c.requires.one_each))).many)) in
-    let is = (rw lent at c.bring_back.ensures.back) k o (omega (arith, c.requires.owned.many)) in
-    rw (is.back i row s (omega (arith, c.requires.rows.many, c.requires.one_each))) (c.requires.over i k row s e l full))
+    let is = back k o (omega (arith, c.requires.owned.many)) in
+    subst (λ (sent : List Entry). JOURNAL_MAX < length sent) (sym (is.back i row s (omega (arith, c.requires.rows.many, c.requires.one_each)))) (c.requires.over i k row s e l full))
 
 pub returns-clause-held : goal.returns-clause-held
 returns-clause-held g c k i row b e s lk li =
@@ -38,6 +40,8 @@ returns-clause-held g c k i row b e s lk li =
     let many : length c.bring_back.new.owners ≡ length owners.items = c.bring_back.ensures.many ∙ ap length lent in
     let w = written owners.len owners.items c.bring_back.new.owners (omega (arith, owners.ok.0)) many in
     let o = some_of owners.items k (omega (arith, c.requires.owned.many)) in
-    let is = (rw lent at c.bring_back.ensures.back) k o (omega (arith, c.requires.owned.many)) in
+    let back = rw lent at c.bring_back.ensures.back in
+    let held = rw w at c.settle_each.ensures.held in
+    let is = back k o (omega (arith, c.requires.owned.many)) in
     subst (λ (sent : List Entry). HoldsSent k i sent (get_or c.settle_each.new.ends i e).outcome (get_or c.settle_each.new.shards.items k s).journal) (is.back i row b (omega (arith, c.requires.rows.many, c.requires.one_each)))
-    ((rw w at c.settle_each.ensures.held) k i o e s lk li)
+    (held k i o e s lk li)

@@ -14,8 +14,8 @@ send_out-ends-requires-clause-ready g c κs within =
     let plan = c.args.plan.now in
     let post = c.in-Ok.ensures.open.1 in
     let few = plan.few_shards in
-    rw c.deref.ensures.value (all_ready sender_port g.F.Feed.state c.in-Ok.post.lanes.items plan.sources _ c.in-Ok.rows.items plan.some_sources c.requires.fresh post.many
-    (λ i row l. stand_at i _ _ (omega (arith, c.in-Ok.ensures.open.0)) (post.rows_are i row l)) (λ i row l. all_of i _ _ (post.rows_are i row l)) post.blank)
+    rw c.deref.ensures.value (all_ready sender_port g.F.Feed.state c.in-Ok.post.lanes.items plan.sources c.args.feeds.items c.in-Ok.rows.items plan.some_sources c.requires.fresh post.many
+    (λ i row l. stand_at i c.in-Ok.post.lanes.items (get_or c.in-Ok.rows.items i row).items (omega (arith, c.in-Ok.ensures.open.0)) (post.rows_are i row l)) (λ i row l. all_of i _ _ (post.rows_are i row l)) post.blank)
 
 pub settle_all-requires-clause-rows : goal.settle_all-requires-clause-rows
 settle_all-requires-clause-rows g c κs within =

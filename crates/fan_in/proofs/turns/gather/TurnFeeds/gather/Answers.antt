@@ -13,8 +13,8 @@ read_out-ends-requires-clause-ready g c κs within =
     let plan = c.args.plan.now in
     let floor = c.in-Ok.ensures.open in
     let few = plan.few_shards in
-    rw c.deref.ensures.value (all_ready pass_port g.F.Feed.state c.in-Ok.floor.desks.items plan.sources _ c.in-Ok.rows.items plan.some_sources c.requires.fresh floor.many
-    (λ i row l. stand_at i _ _ _ (omega (arith, c.in-Ok.ensures.shards)) (floor.rows_are i row l))
+    rw c.deref.ensures.value (all_ready pass_port g.F.Feed.state c.in-Ok.floor.desks.items plan.sources c.args.feeds.items c.in-Ok.rows.items plan.some_sources c.requires.fresh floor.many
+    (λ i row l. stand_at i c.in-Ok.floor.desks.items _ (get_or c.in-Ok.rows.items i row).items (omega (arith, c.in-Ok.ensures.shards)) (floor.rows_are i row l))
     (λ i row l. all_of i _ (record { defs = plan.defs; sources = plan.sources }) _ l (floor.rows_are i row l)) floor.blank)
 
 pub hand_back-requires : goal.hand_back-requires
