@@ -1,5 +1,5 @@
 -- From the desks that were opened and the feeds that were read to what is handed back.
-use Rattle.std.proofs.Common.{◌≡◌, ◌≤◌, ◌<◌, arith, ℕ, List, [], ◌++◌, length, get_or, sym, ap, subst, ◌∙◌, ◌⊎◌, ⊎_elim, Option, Some}
+use Rattle.std.proofs.Common.{◌≡◌, ◌≤◌, ◌<◌, ◌+◌, arith, ℕ, List, [], ◌++◌, length, get_or, sym, ap, subst, ◌∙◌, ◌⊎◌, ⊎_elim, Option, Some}
 use Rattle.std.specs.Prelude.{All, IfSome, Vec}
 use Rattle.std.specs.declared.alloc.Global.{Global}
 use Rattle.stream_base.specs.declared.entry.Entry.{Entry}
@@ -10,20 +10,19 @@ use Rattle.source_feed.specs.FeedView.{FeedView}
 use Rattle.turnstile.specs.declared.keeps.Keeps.{Ghosts}
 use Rattle.turnstile.specs.declared.pass.Pass.{Pass}
 use Rattle.turnstile.specs.declared.turnstile.Turnstile.{Turnstile}
-use Rattle.turnstile.specs.Passes.{made, seen}
+use Rattle.turnstile.specs.Passes.{number, fixed, made, seen}
 use Rattle.fan_in.specs.Closings.{AreStanding, IsClosed, IsSettled, MadeOwn}
 use Rattle.fan_in.specs.Desks.{BookedState}
 use Rattle.fan_in.specs.Floors.{AreSeats, IsFloor}
-use Rattle.fan_in.specs.Gathering.{HoldsFirst, FeedEnded, IsFault, IsFresh, NamesOneOf}
+use Rattle.fan_in.specs.Gathering.{HoldsFirst, FeedEnded, IsFault, NamesOneOf}
 use Rattle.fan_in.specs.Ports.{HasHanded}
-use Rattle.fan_in.specs.Reading.{AreSame, HaveHanded, IsReadyAt}
+use Rattle.fan_in.specs.Reading.{AreSame, HaveHanded, StandAt}
 use Rattle.fan_in.specs.Works.{without_shards}
 use Rattle.fan_in.specs.declared.fixed_part.FixedPart.{FixedPart}
 use Rattle.fan_in.specs.declared.outcome.Outcome.{Outcome}
 use Rattle.fan_in.specs.declared.outcome.Outcome.TheVariants.{Done, Fault, Full}
 use Rattle.fan_in.proofs.Backs.{back_without}
 use Rattle.fan_in.proofs.Lists.{some_of}
-use Rattle.fan_in.proofs.Read.{ready_at}
 use Rattle.fan_in.specs.Seating.{pass_port}
 
 pub fault_without : (o : Outcome) → IsFault (without_shards o)
@@ -43,17 +42,16 @@ back_of state faults a x y o p e choice b =
     (⊎_elim (λ w. subst (λ q. FeedEnded (state a) (state x) q (faults a) (faults x)) (sym w) (back_without (state a) (state x) o (faults a) (faults x) b)) (λ w. subst (λ q. FeedEnded (state a) (state x) q (faults a) (faults x)) (sym w) b) choice)
 
 module _ {g : Ghosts BookedState Entry FixedPart} where
-  -- a feed that wasn't read is ready to be read at the desks of its seats
-  pub ready : (start : FeedView) (i : ℕ) (desks : List (Turnstile BookedState Entry FixedPart)) (f : FixedPart) (row : List (Pass BookedState Entry FixedPart g)) → IsFresh i start → AreSeats (Some f) i desks row → All (λ p. made p ≡ []) row → i < f.sources
-      → length desks ≤ 16 → IsReadyAt pass_port desks start Done row
-  ready start i desks f row fresh seats blank l few =
-      ready_at pass_port desks start i row fresh
-      (record { few = few; many = seats.many; own = λ k d p lk. (seats.each k d p (let m = seats.many in omega arith)).own })
-      (λ k p lk.
+  -- the passes of a source stand at the desks
+  pub stand_at : (i : ℕ) (desks : List (Turnstile BookedState Entry FixedPart)) (f : Option FixedPart) (row : List (Pass BookedState Entry FixedPart g)) → length desks ≤ 16 → AreSeats f i desks row → StandAt pass_port desks row
+  stand_at i desks f row few seats = record { few = few; many = seats.many; own = λ k d p lk. (seats.each k d p (let m = seats.many in omega arith)).own }
+
+  -- they are those of the source
+  pub all_of : (i : ℕ) (desks : List (Turnstile BookedState Entry FixedPart)) (f : FixedPart) (row : List (Pass BookedState Entry FixedPart g)) → i < f.sources → AreSeats (Some f) i desks row → All (λ p. (number p ≡ i + 1) × IfSome (fixed p) (λ f. i < f.sources)) row
+  all_of i desks f row l seats k p lk =
       let ld : k < length desks = let m = seats.many in omega arith in
       let seat = seats.each k (some_of desks k ld) p ld in
-      (seat.number_is, subst (λ (o : Option FixedPart). IfSome o (λ f. i < f.sources)) (sym seat.fixed_is) l))
-      blank
+      (seat.number_is, subst (λ (o : Option FixedPart). IfSome o (λ f. i < f.sources)) (sym seat.fixed_is) l)
 
   pub standing : (f : Option FixedPart) (sources : ℕ) (desks : List (Turnstile BookedState Entry FixedPart)) (zeros : List (Pass BookedState Entry FixedPart g)) (rows rows' : List (Vec (Pass BookedState Entry FixedPart g) Global))
       → IsFloor f sources desks zeros rows → length rows' ≡ sources → ((i : ℕ) (row : Vec (Pass BookedState Entry FixedPart g) Global) → i < sources → AreSame pass_port (get_or rows i row).items (get_or rows' i row).items)

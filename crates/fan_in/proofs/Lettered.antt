@@ -7,7 +7,6 @@ use Rattle.std.specs.Prelude.{All, Contains}
 use native.Mathlib.Decide.{dec_le}
 use Rattle.std.proofs.lemmas.List.Elements.{All-cons, All-contains, All-nil, Contains-append_right, filter-append}
 use Rattle.stream_base.specs.declared.entry.Entry.{Entry}
-use Rattle.stream_base.specs.Model.Journals.{is_entry_within}
 use Rattle.stream_base.specs.Model.Routes.{entries_from}
 use Rattle.stream_base.specs.Model.Watermark.{has_ended}
 use Rattle.stream_base.specs.Model.What.{is_end}
@@ -70,10 +69,9 @@ place_of (l ∷ ls) (b ∷ bs) e ys h =
       entry_is = more.entry_is;
     }
 
--- a letter holds an entry of its sender's source, within the limits
+-- a letter holds an entry of its sender's source
 record IsFair (n : ℕ) (x : Letter Entry) : Type 0 where
   own : x.message.source ≡ x.from
-  within : is_entry_within x.message ≡ true
   known : x.from < n
 
 from_letters : (n i : ℕ) (xs : List (Letter Entry)) → All (IsFair n) xs → entries_from i (entries_in xs) ≡ messages_of i xs
@@ -98,7 +96,6 @@ module _ (n : ℕ) (taken : List (Letter Entry)) (sent : List (List Entry)) (man
       let inside : Contains list x.message = Contains-append_right (messages_of x.from xs) (x.message ∷ messages_of x.from rest) x.message (0, omega arith, refl) in
       record {
         own = All-contains (λ y. y.source ≡ x.from) list x.message (subst (λ (w : List Entry). All (λ y. y.source ≡ x.from) w) is all.own) inside;
-        within = All-contains (λ y. is_entry_within y ≡ true) list x.message (subst (λ (w : List Entry). All (λ y. is_entry_within y ≡ true) w) is all.within) inside;
         known = l;
       }
 
@@ -130,10 +127,7 @@ module _ (n : ℕ) (taken : List (Letter Entry)) (sent : List (List Entry)) (man
       let before : has_ended x.from h.before ≡ false =
       ap (has_ended x.from) (sym at.before_is) ∙ ended_from x.from (entries_in at.front) ∙ ap (has_ended x.from) (from_letters n x.from at.front front) ∙ open_still in
       ⊎_elim (λ (past : n ≤ h.entry.source). let k = fair.known in absurd (omega arith))
-      (λ rest. ⊎_elim
-      (λ (beyond : is_entry_within h.entry ≡ false). absurd (true≢false (sym fair.within ∙ ap is_entry_within at.entry_is ∙ beyond)))
       (λ (ended : has_ended h.entry.source h.before ≡ true). absurd (true≢false (sym ended ∙ ap (λ s. has_ended s h.before) source ∙ before)))
-      rest)
       h.cause
 
   -- the journal holds its part of what was sent of a source

@@ -1,8 +1,8 @@
 -- Facts on lists that are read and written place by place.
-use Rattle.std.proofs.Common.{◌≡◌, ◌<◌, ◌+◌, arith, ℕ, List, [], ◌∷◌, ◌++◌, length, get_or, take, drop, sym, ap, subst, ◌∙◌, ⊎_elim}
+use Rattle.std.proofs.Common.{◌≡◌, ◌≤◌, ◌<◌, ◌+◌, arith, ℕ, List, [], ◌∷◌, ◌++◌, length, get_or, set, take, drop, sym, ap, subst, ◌∙◌, ⊎_elim}
 use Rattle.std.proofs.lemmas.Bool.{cases_lt}
-use Rattle.std.proofs.lemmas.List.{get_or_append_left, get_or_default, get_or-drop, get_or_push}
-use Rattle.std.proofs.lemmas.Grind.{common_steps}
+use Rattle.std.proofs.lemmas.List.{get_or_append_left, get_or_default, get_or-drop, get_or-set_other, get_or_push}
+use Rattle.std.proofs.lemmas.Grind.{common_steps, get_or-set_at}
 
 -- a fact of two lists at each place, with one element more in both
 pub push_at : {A B : Type 0} (R : A → B → Type 0) (xs : List A) (ys : List B) (x : A) (y : B) → length ys ≡ length xs → ((k : ℕ) (d : A) (e : B) → k < length xs → R (get_or xs k d) (get_or ys k e)) → R x y
@@ -11,6 +11,16 @@ push_at R xs ys x y n h r k d e l =
     ⊎_elim (λ lt. subst (λ a. R a (get_or (ys ++ y ∷ []) k e)) (sym (get_or_append_left xs (x ∷ []) d k lt)) (subst (λ b. R (get_or xs k d) b) (sym (get_or_append_left ys (y ∷ []) e k (omega arith))) (h k d e lt)))
     (λ ge. let is : length xs ≡ k = omega arith in subst (λ a. R a (get_or (ys ++ y ∷ []) k e)) (sym (get_or_push xs x d k is)) (subst (λ b. R x b) (sym (get_or_push ys y e k (n ∙ is))) r))
     (cases_lt k (length xs))
+
+-- the first places of a list were changed, and the others not yet: one place more
+pub place_more : {V : Type 0} (G : ℕ → V → V → Type 0) (i : ℕ) (old now : List V) (v v' : V) → length now ≡ length old → i < length old → ((k : ℕ) (d : V) → i ≤ k → get_or now k d ≡ get_or old k d)
+    → ((k : ℕ) (d : V) → k < i → G k (get_or old k d) (get_or now k d)) → G i (get_or now i v) v' → (k : ℕ) (d : V) → k < i + 1 → G k (get_or old k d) (get_or (set now i v') k d)
+place_more G i old now v v' many l rest changed here k d lt =
+    ⊎_elim (λ (less : k < i). subst (λ w. G k (get_or old k d) w) (sym (get_or-set_other now i k v' d (λ e. omega arith))) (changed k d less))
+    (λ ge. let e : k ≡ i = omega arith in
+    let was : get_or now i v ≡ get_or old k d = get_or_default now i v d (omega arith) ∙ ap (λ j. get_or now j d) (sym e) ∙ rest k d (omega arith) in
+    subst (λ w. G k (get_or old k d) w) (sym (get_or-set_at now i k v' d e (omega arith))) (subst (λ w. G k w v') was (subst (λ j. G j (get_or now i v) v') (sym e) here)))
+    (cases_lt k i)
 
 -- what a slice of a whole list leaves there
 pub written : {A : Type 0} (n : ℕ) (xs ys : List A) → n ≡ length xs → length ys ≡ length xs → take n (ys ++ drop (length ys) xs) ≡ ys

@@ -7,26 +7,24 @@ use Rattle.stream_base.specs.declared.entry.Entry.{Entry}
 use Rattle.source_feed.specs.FeedView.{FeedView}
 use Rattle.mail_lane.specs.Lane.{Lane, SenderState}
 use Rattle.fan_in.specs.declared.outcome.Outcome.{Outcome}
-use Rattle.fan_in.specs.declared.outcome.Outcome.TheVariants.{Done}
 use Rattle.fan_in.specs.declared.mail.owner_job.OwnerJob.{OwnerJob}
-use Rattle.fan_in.specs.Gathering.{FeedEnded, IsFresh}
+use Rattle.fan_in.specs.Gathering.{FeedEnded}
 use Rattle.fan_in.specs.Posts.{AreBoxesOf, IsPost}
-use Rattle.fan_in.specs.Reading.{AreFrom, AreSame, IsReadyAt}
+use Rattle.fan_in.specs.Reading.{AreFrom, AreSame, StandAt}
 use Rattle.fan_in.specs.Settling.{AreSentRows, Follows}
 use Rattle.fan_in.specs.Sending.{sender_port}
 use Rattle.fan_in.proofs.Lists.{some_of}
-use Rattle.fan_in.proofs.Read.{ready_at}
 use Rattle.fan_in.proofs.Outcomes.{back_follows}
 
--- a feed that wasn't read is ready to be read and sent
-pub ready : (start : FeedView) (i : ℕ) (lanes : List Lane) (row : List (SenderState Entry)) → length lanes ≤ 16 → IsFresh i start → AreBoxesOf i lanes row → All (λ s. s.sent ≡ []) row → IsReadyAt sender_port lanes start Done row
-ready start i lanes row few fresh boxes blank =
-    ready_at sender_port lanes start i row fresh
-    (record { few = few; many = boxes.many; own = λ k l s lt. (boxes.each k l s (let m = boxes.many in omega arith)).lane_is })
-    (λ k s lk.
+-- the senders of a source stand at the lanes
+pub stand_at : (i : ℕ) (lanes : List Lane) (row : List (SenderState Entry)) → length lanes ≤ 16 → AreBoxesOf i lanes row → StandAt sender_port lanes row
+stand_at i lanes row few boxes = record { few = few; many = boxes.many; own = λ k l s lt. (boxes.each k l s (let m = boxes.many in omega arith)).lane_is }
+
+-- they are those of the source
+pub all_of : (i : ℕ) (lanes : List Lane) (row : List (SenderState Entry)) → AreBoxesOf i lanes row → All (λ s. s.number ≡ i) row
+all_of i lanes row boxes k s lk =
     let ll : k < length lanes = let m = boxes.many in omega arith in
-    (boxes.each k (some_of lanes k ll) s ll).number_is)
-    blank
+    (boxes.each k (some_of lanes k ll) s ll).number_is
 
 -- the rows of senders after all feeds were read
 pub sent_rows : (d : Definitions) (sources : ℕ) (lanes : List Lane) (owners : List OwnerJob) (rows rows' : List (Vec (SenderState Entry) Global)) → IsPost d sources lanes owners rows → length rows' ≡ sources

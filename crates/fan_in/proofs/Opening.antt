@@ -2,11 +2,8 @@
 use Rattle.std.proofs.Common.{◌≡◌, ◌≤◌, ◌<◌, ◌+◌, ◌-◌, ◌^◌, arith, length-append, ℕ, List, [], ◌∷◌, ◌++◌, length, get_or, set, sym, ap, subst, ◌∙◌, Option, Some}
 use Rattle.std.specs.Prelude.{All, Vec}
 use Rattle.std.specs.declared.alloc.Global.{Global}
-use Rattle.std.proofs.Common.{⊎_elim}
-use Rattle.std.proofs.lemmas.Bool.{cases_eq}
-use Rattle.std.proofs.lemmas.Grind.{get_or-set_at}
-use Rattle.std.proofs.lemmas.List.{get_or_default, get_or-set_other, length-set}
-use Rattle.fan_in.proofs.Lists.{push_at}
+use Rattle.std.proofs.lemmas.List.{get_or-set_other, length-set}
+use Rattle.fan_in.proofs.Lists.{place_more, push_at}
 use Rattle.std.proofs.lemmas.List.Elements.{All-push, All-weaker}
 use Rattle.stream_base.specs.declared.entry.Entry.{Entry}
 use Rattle.turnstile.specs.declared.keeps.Keeps.{Ghosts}
@@ -72,18 +69,10 @@ module _ {g : Ghosts BookedState Entry FixedPart} where
             (All-push (λ n. (0 < n) × (n ≤ i + 1)) (born zero) (number pass) (All-weaker (λ n. (0 < n) × (n ≤ i)) (λ n. (0 < n) × (n ≤ i + 1)) (λ n a. (a.0, omega arith)) (born zero) h.born_are) (omega arith, omega arith));
         many = length-set now i row' ∙ h.many;
         rest = λ k ro lt. get_or-set_other now i k row' ro (λ e. omega arith) ∙ h.rest k ro (omega arith);
-        gained = λ k ro lt. ⊎_elim (λ e. here k ro e number_is) (λ ne. subst (λ (v : Vec (Pass BookedState Entry FixedPart g) Global). GainsSeat desk (fixed first) k (get_or old k ro).items v.items) (sym (get_or-set_other now i k row' ro ne)) (h.gained k ro (omega arith))) (cases_eq k i);
+        gained = place_more (λ k (a b : Vec (Pass BookedState Entry FixedPart g) Global). GainsSeat desk (fixed first) k a.items b.items) i old now row row' h.many lo h.rest h.gained (record {
+          pass = pass;
+          adds = adds;
+          seat = record { own = own.1; number_is = number_is; fixed_is = f ∙ h.fixed_is; born_none = none.1 };
+          made_none = none.0;
+        });
       }
-    where
-      here : (k : ℕ) (ro : Vec (Pass BookedState Entry FixedPart g) Global) → k ≡ i → number pass ≡ i + 1 → GainsSeat desk (fixed first) k (get_or old k ro).items (get_or (set now i row') k ro).items
-      here k ro e number_is =
-          let m = h.many in
-          let l : i < length now = omega arith in
-          let at : get_or (set now i row') k ro ≡ row' = get_or-set_at now i k row' ro e l in
-          let old_is : get_or old k ro ≡ get_or now i row = sym (h.rest k ro (omega arith)) ∙ ap (λ j. get_or now j ro) e ∙ get_or_default now i ro row l in
-          record {
-            pass = pass;
-            adds = ap (λ (v : Vec (Pass BookedState Entry FixedPart g) Global). v.items) at ∙ adds ∙ ap (λ (v : Vec (Pass BookedState Entry FixedPart g) Global). v.items ++ pass ∷ []) (sym old_is);
-            seat = record { own = own.1; number_is = number_is ∙ ap (λ j. j + 1) (sym e); fixed_is = f ∙ h.fixed_is; born_none = none.1 };
-            made_none = none.0;
-          }

@@ -3,9 +3,8 @@ use Rattle.std.proofs.Common.{◌≡◌, ◌≤◌, ◌<◌, ◌+◌, arith, len
 use Rattle.std.specs.Prelude.{All, Vec}
 use Rattle.std.specs.declared.alloc.Global.{Global}
 use Rattle.std.proofs.Common.{⊎_elim}
-use Rattle.std.proofs.lemmas.Bool.{cases_eq, cases_lt}
-use Rattle.std.proofs.lemmas.Grind.{get_or-set_at}
-use Rattle.std.proofs.lemmas.List.{get_or_append_left, get_or_default, get_or-set_other, get_or_push, length-set, map-append}
+use Rattle.std.proofs.lemmas.Bool.{cases_lt}
+use Rattle.std.proofs.lemmas.List.{get_or_append_left, get_or-set_other, get_or_push, length-set, map-append}
 use Rattle.std.proofs.lemmas.List.Elements.{All-push}
 use Rattle.stream_base.specs.Limits.{Definitions}
 use Rattle.stream_base.specs.declared.entry.Entry.{Entry}
@@ -16,7 +15,7 @@ use Rattle.fan_in.specs.declared.mail.owner.Owner.{Owner}
 use Rattle.fan_in.specs.Owning.{OwnsAfter, entries_in}
 use Rattle.fan_in.specs.declared.mail.owner_job.OwnerJob.{OwnerJob}
 use Rattle.fan_in.specs.Posts.{GainBoxes, GainsBox, IsBoxOf, IsPost, OwnsLane}
-use Rattle.fan_in.proofs.Lists.{next_is, push_at}
+use Rattle.fan_in.proofs.Lists.{next_is, place_more, push_at}
 
 get_at : {A : Type 0} (xs : List A) (k : ℕ) (d : A) → k < length xs → slice_get xs k ≡ Some (get_or xs k d)
 get_at [] k d l = absurd (omega arith)
@@ -75,21 +74,13 @@ box_more lane i all left left' old now sender row row' h senders unsent lo many 
       left_is = after;
       many = length-set now i row' ∙ h.many;
       rest = λ k ro lt. get_or-set_other now i k row' ro (λ e. omega arith) ∙ h.rest k ro (omega arith);
-      gained = λ k ro lt. ⊎_elim (λ e. here k ro e placed none) (λ ne. subst (λ (v : Vec (SenderState Entry) Global). GainsBox lane k (get_or old k ro).items v.items) (sym (get_or-set_other now i k row' ro ne)) (h.gained k ro (omega arith))) (cases_eq k i);
+      gained = place_more (λ k (a b : Vec (SenderState Entry) Global). GainsBox lane k a.items b.items) i old now row row' h.many lo h.rest h.gained (record {
+        sender = sender;
+        adds = adds;
+        box = record { lane_is = placed.0; number_is = placed.1 };
+        sent_none = none;
+      });
     }
-  where
-    here : (k : ℕ) (ro : Vec (SenderState Entry) Global) → k ≡ i → (sender.lane ≡ lane.id) × (sender.number ≡ i) → sender.sent ≡ [] → GainsBox lane k (get_or old k ro).items (get_or (set now i row') k ro).items
-    here k ro e placed none =
-        let m = h.many in
-        let l : i < length now = omega arith in
-        let at : get_or (set now i row') k ro ≡ row' = get_or-set_at now i k row' ro e l in
-        let old_is : get_or old k ro ≡ get_or now i row = sym (h.rest k ro (omega arith)) ∙ ap (λ j. get_or now j ro) e ∙ get_or_default now i ro row l in
-        record {
-          sender = sender;
-          adds = ap (λ (v : Vec (SenderState Entry) Global). v.items) at ∙ adds ∙ ap (λ (v : Vec (SenderState Entry) Global). v.items ++ sender ∷ []) (sym old_is);
-          box = record { lane_is = placed.0; number_is = placed.1 ∙ sym e };
-          sent_none = none;
-        }
 
 -- the owner of a lane from which nothing was taken yet
 pub owns_first : (d e : Definitions) (sources n k : ℕ) (lane : Lane) (receiver : ReceiverState Entry) (owner : Owner) (shard : Sharded) → e ≡ d → shard ≡ record { defs = e; sources = sources; journal = [] } → n ≡ k

@@ -1,5 +1,5 @@
 -- Feeds and rows that were made readers of, the last one first, and back.
-use Rattle.std.proofs.Common.{◌≡◌, ◌<◌, ◌+◌, ◌-◌, arith, ℕ, List, [], length, get_or, refl, sym, subst, ◌∙◌}
+use Rattle.std.proofs.Common.{◌≡◌, ◌≤◌, ◌<◌, ◌+◌, ◌-◌, arith, ℕ, List, [], length, get_or, refl, sym, subst, ◌∙◌}
 use Rattle.std.specs.Prelude.{All, Vec}
 use Rattle.std.specs.declared.alloc.Global.{Global}
 use Rattle.source_feed.specs.FeedView.{FeedView}
@@ -7,23 +7,32 @@ use Rattle.fan_in.specs.declared.gathered.FeedEnd.{FeedEnd}
 use Rattle.fan_in.specs.declared.outcome.Outcome.TheVariants.{Done}
 use Rattle.fan_in.specs.declared.port.Port.{Ghosts}
 use Rattle.fan_in.specs.declared.reader.Reader.{Reader}
-use Rattle.fan_in.specs.Gathering.{IsFresh}
-use Rattle.fan_in.specs.Reading.{IsReadyAt, StandAt}
+use Rattle.fan_in.specs.Gathering.{AreFreshFeeds}
+use Rattle.fan_in.specs.Reading.{StandAt}
 use Rattle.fan_in.specs.Readers.{AreReadOut, AreReady, HasRead, HaveRead, MayRead}
 use Rattle.fan_in.proofs.Lists.{some_of}
 
--- a feed that wasn't read is ready to be read, with the ports of its source
-pub ready_at : {P I : Type 0} (port : Ghosts P I) (inlets : List I) (start : FeedView) (i : ℕ) (ports : List P) → IsFresh i start → StandAt port inlets ports → All (port.is_of i) ports → All (λ p. port.handed p ≡ []) ports → IsReadyAt port inlets start Done ports
-ready_at port inlets start i ports fresh stand own blank = record {
-  stand = stand;
-  ready = record {
-    running = fresh.running;
-    unanswered = fresh.unanswered;
-    unread = fresh.blank;
-    done = refl;
-    own_source = subst (λ s. All (port.is_of s) ports) (sym fresh.of_source) own;
-    blank = blank;
-  };
+-- feeds that weren't read are ready to be read, each with a row of ports of its source that handed nothing in yet
+pub all_ready : {F P I : Type 0} (port : Ghosts P I) (state : F → FeedView) (inlets : List I) (sources : ℕ) (feeds : List F) (rows : List (Vec P Global)) → 1 ≤ sources → AreFreshFeeds state sources feeds → length rows ≡ sources
+    → ((i : ℕ) (row : Vec P Global) → i < sources → StandAt port inlets (get_or rows i row).items) → ((i : ℕ) (row : Vec P Global) → i < sources → All (port.is_of i) (get_or rows i row).items)
+    → ((i : ℕ) (row : Vec P Global) → i < sources → All (λ p. port.handed p ≡ []) (get_or rows i row).items) → AreReady port state inlets feeds rows
+all_ready port state inlets sources feeds rows some fresh many stand own blank = record {
+  some = let n = fresh.one_each in omega arith;
+  one_each = many ∙ sym fresh.one_each;
+  ready = λ i f row l.
+      let ls : i < sources = let n = fresh.one_each in omega arith in
+      let feed = fresh.fresh i f l in
+      record {
+        stand = stand i row ls;
+        ready = record {
+          running = feed.running;
+          unanswered = feed.unanswered;
+          unread = feed.blank;
+          done = refl;
+          own_source = subst (λ s. All (port.is_of s) (get_or rows i row).items) (sym feed.of_source) (own i row ls);
+          blank = blank i row ls;
+        };
+      };
 }
 
 module _ {F P I : Type 0} (port : Ghosts P I) (state : F → FeedView) (faults : F → ℕ) (inlets : List I) (feeds : List F) (rows : List (Vec P Global)) (readers : List (Reader F P)) (many : length readers ≡ length feeds)

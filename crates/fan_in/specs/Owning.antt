@@ -3,7 +3,6 @@ use Rattle.std.specs.Prelude.{◌≡◌, ◌≢◌, ◌≤◌, ◌<◌, ◌⊎�
 use Rattle.stream_base.specs.Limits.{Definitions}
 use Rattle.stream_base.specs.declared.entry.Entry.{Entry}
 use Rattle.stream_base.specs.declared.limits.TheConstants.{JOURNAL_MAX}
-use Rattle.stream_base.specs.Model.Journals.{is_entry_within}
 use Rattle.stream_base.specs.Model.Routes.{entries_from}
 use Rattle.stream_base.specs.Model.Watermark.{has_ended}
 use Rattle.mail_lane.specs.declared.letter.Letter.{Letter}
@@ -16,9 +15,9 @@ use Rattle.fan_in.specs.Ports.{IsAbout}
 abbrev pub note_of : ℕ → List Outcome → Outcome
 note_of source notes = slice_index_or notes source Done
 
--- why an entry is none that a feed sends behind these entries: it is of another source, beyond the limits, or its source has ended
+-- why an entry is none that a feed sends behind these entries: it is of another source, or its source has ended
 abbrev pub StraysBehind : ℕ → List Entry → Entry → Type 0
-StraysBehind sources before entry = (sources ≤ entry.source) ⊎ (is_entry_within entry ≡ false) ⊎ (has_ended entry.source before ≡ true)
+StraysBehind sources before entry = (sources ≤ entry.source) ⊎ (has_ended entry.source before ≡ true)
 
 -- among these entries is one that no feed sends
 pub record HasStray (sources : ℕ) (got : List Entry) : Type 0 where

@@ -49,6 +49,6 @@ pub record IsPost (d : Definitions) (sources : ℕ) (lanes : List Lane) (owners 
   pub rows_are : (i : ℕ) (row : Vec (SenderState Entry) Global) → i < sources → AreBoxesOf i lanes (slice_index_or rows i row).items
   pub blank : (i : ℕ) (row : Vec (SenderState Entry) Global) → i < sources → All (λ s. s.sent ≡ []) (slice_index_or rows i row).items
 
--- a post of this plan, of the lanes that were opened so far, and the rows of their senders
-abbrev pub IsPostOf : Plan → Post → List (Vec (SenderState Entry) Global) → Type 0
-IsPostOf plan post rows = IsPost plan.defs plan.sources post.lanes.items post.owners.items rows
+-- a post of this plan, of the lanes of so many shards that were opened so far, and the rows of their senders
+abbrev pub IsPostOf : Plan → ℕ → Post → List (Vec (SenderState Entry) Global) → Type 0
+IsPostOf plan shards post rows = (length post.lanes.items ≡ shards) × IsPost plan.defs plan.sources post.lanes.items post.owners.items rows

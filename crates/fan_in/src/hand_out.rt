@@ -12,7 +12,7 @@ use std::sync::Wait;
 use std::thread::Threads;
 use stream_base::Entry;
 
-// Hands an entry in at each shard to which it goes, in their order, up to the first that refuses it.
+// Hands an entry in at each shard to which it goes, in their order, up to the first to refuse it.
 pub(crate) fn hand_out<P: Port, G: Gate, R: Threads + Wait>(
     rt: &R,
     gate: &G,

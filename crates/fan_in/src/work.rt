@@ -73,22 +73,23 @@ pub(crate) fn fill<F, P: Drop>(
 }
 
 // Takes the readers apart again, the last one first, which is the first feed's.
-pub(crate) fn take_apart<F, P: Drop>(
-    mut readers: Vec<Reader<F, P>>,
-    ends: &mut Vec<FeedEnd<F>>,
-    rows: &mut Vec<Vec<P>>,
-)
-    requires ends { IsReserved (length readers.items) ends.old }
-    requires rows { IsReserved (length readers.items) rows.old }
-    ensures many_ends { length ends.new.items ≡ length readers.items }
-    ensures many_rows { length rows.new.items ≡ length readers.items }
-    ensures each { (i j : ℕ) (e : _) (row : _) (r : _) → i + j + 1 ≡ length readers.items
-        → slice_index_or readers.items i r ≡ record {
-          feed = (slice_index_or ends.new.items j e).feed;
-          outcome = (slice_index_or ends.new.items j e).outcome;
-          ports = slice_index_or rows.new.items j row;
+pub(crate) fn take_apart<F, P: Drop>(work: Work<F, P>) -> (Vec<FeedEnd<F>>, Vec<Vec<P>>)
+    requires ends { IsReserved (length work.readers.items) work.ends }
+    requires rows { IsReserved (length work.readers.items) work.rows }
+    ensures many_ends { length result.0.items ≡ length work.readers.items }
+    ensures many_rows { length result.1.items ≡ length work.readers.items }
+    ensures each { (i j : ℕ) (e : _) (row : _) (r : _) → i + j + 1 ≡ length work.readers.items
+        → slice_index_or work.readers.items i r ≡ record {
+          feed = (slice_index_or result.0.items j e).feed;
+          outcome = (slice_index_or result.0.items j e).outcome;
+          ports = slice_index_or result.1.items j row;
         } }
 {
+    let Work {
+        mut readers,
+        mut ends,
+        mut rows,
+    } = work;
     for _i in 0..readers.len() {
         let Reader {
             feed,
@@ -99,4 +100,5 @@ pub(crate) fn take_apart<F, P: Drop>(
         rows.push_reserved(ports);
     }
     readers.destroy_empty();
+    (ends, rows)
 }

@@ -79,8 +79,7 @@ fn prepare<F>(
     alloc: Global,
     plan: &Plan,
 ) -> Result<(Post, Vec<Vec<Outbox>>, Work<F, Outbox>, Vec<Shard>), NoMemory>
-    ensures lanes { IfOk result (λ r. length r.0.lanes.items ≡ plan.now.shards) }
-    ensures open { IfOk result (λ r. IsPostOf plan.now r.0 r.1.items) }
+    ensures open { IfOk result (λ r. IsPostOf plan.now plan.now.shards r.0 r.1.items) }
     ensures room { IfOk result (λ r. HasRoom plan.now.sources r.2) }
     ensures shards { IfOk result (λ r. IsReserved plan.now.shards r.3) }
 {

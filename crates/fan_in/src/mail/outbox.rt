@@ -1,8 +1,10 @@
-ghost use Rattle.std.specs.Prelude.{◌≡◌, ◌≤◌, ◌<◌, [], length, OnOk, OnErr};
+ghost use Rattle.std.specs.Prelude.{◌≡◌, ◌≤◌, ◌<◌, true, [], length, OnOk, OnErr};
 ghost use Rattle.stream_base.specs.declared.limits.TheConstants.{JOURNAL_MAX};
+ghost use Rattle.stream_base.specs.Model.Journals.{is_entry_within};
 ghost use Rattle.mail_lane.specs.Lane.{IsSenderOf, with_message};
 ghost use Rattle.fan_in.specs.Sending.{IsSameSender, sender_laws};
 
+use crate::mail::message::Message;
 use crate::outcome::Outcome;
 use crate::port::Port;
 use mail_lane::{Back, Mail, Sender};
@@ -16,7 +18,7 @@ use stream_base::{Entry, JOURNAL_MAX, NoMemory};
 // A sender of a lane, which counts what it has sent. Contracts see the sender.
 #[derive(Drop)]
 pub(crate) struct Outbox {
-    sender: Sender<Entry>,
+    sender: Sender<Message>,
     count: u64,
 }
 
@@ -33,14 +35,14 @@ impl Model for Outbox {
 }
 
 impl Outbox {
-    pub(crate) fn new(sender: Sender<Entry>) -> Outbox
+    pub(crate) fn new(sender: Sender<Message>) -> Outbox
         requires { sender.sent ≡ [] }
         ensures { result ≡ sender }
     {
         Outbox { sender, count: 0 }
     }
 
-    pub(crate) fn into_sender(self) -> Sender<Entry>
+    pub(crate) fn into_sender(self) -> Sender<Message>
         ensures { result ≡ self }
     {
         let Outbox { sender, count: _ } = self;
@@ -48,13 +50,14 @@ impl Outbox {
     }
 
     // Sends one entry more. A lane takes no more than one above what a journal holds.
-    fn send<R: Wait>(&mut self, rt: &R, mail: &Mail<Entry>, entry: Entry) -> Result<(), NoMemory>
+    fn send<R: Wait>(&mut self, rt: &R, mail: &Mail<Message>, entry: Entry) -> Result<(), NoMemory>
         requires own { IsSenderOf mail.now self.old }
+        requires within { is_entry_within entry ≡ true }
         requires few { length (self.old).sent ≤ JOURNAL_MAX }
         ensures sent { OnOk result (self.new ≡ with_message self.old entry) }
         ensures unsent { OnErr result (self.new ≡ self.old) }
     {
-        match mail.send(rt, &mut self.sender, entry) {
+        match mail.send(rt, &mut self.sender, Message::new(entry)) {
             Ok(()) => {
                 self.count += 1;
                 Ok(())
@@ -65,7 +68,7 @@ impl Outbox {
 }
 
 impl Port for Outbox {
-    type Inlet = Mail<Entry>;
+    type Inlet = Mail<Message>;
 
     ghost is_at = { λ mail sender. IsSenderOf mail sender };
 
@@ -84,7 +87,7 @@ impl Port for Outbox {
         &mut self,
         rt: &R,
         _gate: &G,
-        inlet: &Mail<Entry>,
+        inlet: &Mail<Message>,
         shard: u16,
         entry: &Entry,
     ) -> Outcome {

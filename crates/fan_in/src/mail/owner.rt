@@ -1,6 +1,7 @@
 ghost use Rattle.std.specs.Prelude.{◌≡◌, ◌≤◌, ◌<◌};
 ghost use Rattle.shard_core.specs.Shard.{IsJournal};
 
+use crate::mail::message::Message;
 use crate::outcome::Outcome;
 use crate::plan::Plan;
 use agg_laws::Steps;
@@ -8,7 +9,6 @@ use outside::Gate;
 use shard_core::{ApplyFault, Shard};
 use source_feed::FeedFault;
 use std::thread::Threads;
-use stream_base::Entry;
 
 // The owner of a shard: it applies the entries of the shard's lane, and notes of each source whether
 // one of its entries was refused, or was left once memory had run out.
@@ -52,12 +52,13 @@ impl Owner {
 
     // Applies an entry, unless memory ran out before. The gate is passed with 16 and the number of
     // the shard.
-    pub(crate) fn take_in<G: Gate, R: Threads>(&mut self, rt: &R, gate: &G, entry: &Entry)
+    pub(crate) fn take_in<G: Gate, R: Threads>(&mut self, rt: &R, gate: &G, message: &Message)
         ensures after { (d : Definitions) (sources k : ℕ) (got : List Entry)
             → OwnsAfter d sources k got self.old
-            → OwnsAfter d sources k (got ++ entry.now ∷ []) self.new }
+            → OwnsAfter d sources k (got ++ message.now ∷ []) self.new }
     {
-        if self.stray || entry.source >= self.sources || !entry.is_within_limits() {
+        let entry = message.entry();
+        if entry.source >= self.sources {
             self.stray = true;
             return;
         }

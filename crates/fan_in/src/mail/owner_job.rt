@@ -1,6 +1,7 @@
 ghost use Rattle.std.specs.Prelude.{◌≡◌};
 ghost use Rattle.fan_in.specs.Posts.{OwnsLane};
 
+use crate::mail::message::Message;
 use crate::mail::owner::Owner;
 use crate::plan::Plan;
 use mail_lane::{Mail, Receiver};
@@ -9,7 +10,6 @@ use std::sync::Wait;
 use std::sync::atomic::{AtomicBool, AtomicU64, Ordering};
 use std::thread::Threads;
 use std::time::Duration;
-use stream_base::Entry;
 
 // How long an owner sleeps that found its lane empty, in microseconds.
 const NAP: u64 = 50;
@@ -17,7 +17,7 @@ const NAP: u64 = 50;
 // The work on one shard: the receiver of its lane, and its owner.
 #[derive(Drop)]
 pub(crate) struct OwnerJob {
-    pub(crate) receiver: Receiver<Entry>,
+    pub(crate) receiver: Receiver<Message>,
     pub(crate) owner: Owner,
 }
 
@@ -26,7 +26,7 @@ pub(crate) fn own_lane<G: Gate, R: Threads + Wait>(
     rt: &R,
     gate: &G,
     plan: &Plan,
-    mail: &Mail<Entry>,
+    mail: &Mail<Message>,
     ended: &AtomicBool,
     job: &mut OwnerJob,
 )
@@ -36,7 +36,7 @@ pub(crate) fn own_lane<G: Gate, R: Threads + Wait>(
     'looks: for _ in rt.forever() {
         let all_ended = ended.load(Ordering::SeqCst);
         match mail.take(rt, &mut job.receiver) {
-            Some(entry) => job.owner.take_in(rt, gate, &entry),
+            Some(message) => job.owner.take_in(rt, gate, &message),
             None if all_ended => return,
             None => nap(rt),
         }

@@ -2,6 +2,7 @@ ghost use Rattle.std.specs.Prelude.{◌≡◌, ◌<◌, ◌+◌, [], All, length
 ghost use Rattle.mail_lane.specs.Lane.{AreSendersOf};
 ghost use Rattle.fan_in.specs.Posts.{GainBoxes, IsPostOf};
 
+use crate::mail::message::Message;
 use crate::mail::outbox::Outbox;
 use crate::mail::owner::Owner;
 use crate::mail::owner_job::OwnerJob;
@@ -10,19 +11,18 @@ use crate::work::empty_rows;
 use mail_lane::{Mail, Sender};
 use shard_core::Shard;
 use std::alloc::Global;
-use stream_base::{Entry, NoMemory};
+use stream_base::NoMemory;
 
 // The lanes of all shards, and the owner of each.
 #[derive(Drop)]
 pub(crate) struct Post {
-    pub(crate) lanes: Vec<Mail<Entry>>,
+    pub(crate) lanes: Vec<Mail<Message>>,
     pub(crate) owners: Vec<OwnerJob>,
 }
 
 // Opens a lane for each shard, with a sender for each source, which stand in a row for each source.
 pub(crate) fn open_post(alloc: Global, plan: &Plan) -> Result<(Post, Vec<Vec<Outbox>>), NoMemory>
-    ensures shards { IfOk result (λ r. length r.0.lanes.items ≡ plan.now.shards) }
-    ensures open { IfOk result (λ r. IsPostOf plan.now r.0 r.1.items) }
+    ensures open { IfOk result (λ r. IsPostOf plan.now plan.now.shards r.0 r.1.items) }
 {
     let mut rows = empty_rows(alloc, plan.sources)?;
     let mut post = Post {
@@ -44,11 +44,8 @@ fn open_lane(
     rows: &mut Vec<Vec<Outbox>>,
 ) -> Result<(), NoMemory>
     requires few { number < 16 }
-    requires next { number ≡ length post.old.lanes.items }
-    requires open { IsPostOf plan.now post.old rows.old.items }
-    ensures one_more { OnOk result
-        (length post.new.lanes.items ≡ length post.old.lanes.items + 1) }
-    ensures open { OnOk result (IsPostOf plan.now post.new rows.new.items) }
+    requires open { IsPostOf plan.now number post.old rows.old.items }
+    ensures open { OnOk result (IsPostOf plan.now (number + 1) post.new rows.new.items) }
 {
     let shard = Shard::new(alloc, plan.defs.copy(alloc)?, plan.sources)?;
     let (mail, receiver, senders) = Mail::new(alloc, plan.sources)?;
@@ -61,8 +58,8 @@ fn open_lane(
 
 // Hands each row the sender of its source.
 fn hand_outboxes(
-    mail: &Mail<Entry>,
-    senders: Vec<Sender<Entry>>,
+    mail: &Mail<Message>,
+    senders: Vec<Sender<Message>>,
     rows: &mut [Vec<Outbox>],
 ) -> Result<(), NoMemory>
     requires senders { AreSendersOf mail.now senders.items }

@@ -6,6 +6,7 @@ ghost use Rattle.fan_in.specs.Sending.{sender_port};
 ghost use Rattle.fan_in.specs.Works.{HasRoom};
 
 use crate::gathered::FeedEnd;
+use crate::mail::message::Message;
 use crate::mail::outbox::Outbox;
 use crate::mail::owner_job::{OwnerJob, own_lane};
 use crate::plan::Plan;
@@ -19,7 +20,6 @@ use std::sync::Wait;
 use std::sync::atomic::{AtomicBool, Ordering};
 use std::thread;
 use std::thread::Threads;
-use stream_base::Entry;
 
 // Reads all feeds, each with its row of senders, while the owners apply what comes. The feeds come
 // back with their outcomes, and the rows.
@@ -27,9 +27,9 @@ pub(crate) fn send_out<F: Feed + Send, G: Gate, R: Threads + Wait + Sync>(
     rt: &R,
     gate: &G,
     plan: &Plan,
-    lanes: &[Mail<Entry>],
+    lanes: &[Mail<Message>],
     owners: &mut [OwnerJob],
-    work: Work<F, Outbox>,
+    mut work: Work<F, Outbox>,
     feeds: Vec<F>,
     rows: Vec<Vec<Outbox>>,
 ) -> (Vec<FeedEnd<F>>, Vec<Vec<Outbox>>)
@@ -40,15 +40,9 @@ pub(crate) fn send_out<F: Feed + Send, G: Gate, R: Threads + Wait + Sync>(
     ensures read { AreReadOut sender_port F.state F.faults (length lanes.now) feeds.items
         rows.items result.0.items result.1.items }
 {
-    let Work {
-        mut readers,
-        mut ends,
-        rows: mut boxes,
-    } = work;
-    fill(&mut readers, feeds, rows);
-    read_beside(rt, gate, plan, lanes, owners, readers.as_mut_slice());
-    take_apart(readers, &mut ends, &mut boxes);
-    (ends, boxes)
+    fill(&mut work.readers, feeds, rows);
+    read_beside(rt, gate, plan, lanes, owners, work.readers.as_mut_slice());
+    take_apart(work)
 }
 
 // Reads all feeds beside the owners. `join_mut` calls its second closure in this thread, and its
@@ -58,7 +52,7 @@ fn read_beside<F: Feed + Send, G: Gate, R: Threads + Wait + Sync>(
     rt: &R,
     gate: &G,
     plan: &Plan,
-    lanes: &[Mail<Entry>],
+    lanes: &[Mail<Message>],
     owners: &mut [OwnerJob],
     readers: &mut [Reader<F, Outbox>],
 )
@@ -92,7 +86,7 @@ fn own_all<G: Gate, R: Threads + Wait + Sync>(
     rt: &R,
     gate: &G,
     plan: &Plan,
-    lanes: &[Mail<Entry>],
+    lanes: &[Mail<Message>],
     ended: &AtomicBool,
     owners: &mut [OwnerJob],
 )

@@ -1,29 +1,30 @@
-ghost use Rattle.std.specs.Prelude.{◌≡◌, ◌≤◌, ◌<◌, ◌+◌, ◌++◌, ℕ, List, [], ◌∷◌, length};
+ghost use Rattle.std.specs.Prelude.{◌≡◌, ◌≤◌, ◌<◌, ◌++◌, ℕ, List, [], ◌∷◌, length};
 ghost use Rattle.std.specs.Prelude.{All, slice_index_or};
 ghost use Rattle.stream_base.specs.Limits.{Definitions};
 ghost use Rattle.stream_base.specs.declared.entry.Entry.{Entry};
-ghost use Rattle.mail_lane.specs.Lane.{IsReceiverOf, TakenWhole};
+ghost use Rattle.mail_lane.specs.Lane.{TakenWhole, sent_by};
 ghost use Rattle.fan_in.specs.Gathering.{AreSameFeeds};
 ghost use Rattle.fan_in.specs.Owning.{OwnsAfter, entries_in, note_of};
-ghost use Rattle.fan_in.specs.Posts.{AreOwned, OwnsLane};
+ghost use Rattle.fan_in.specs.Posts.{AreOwned};
 ghost use Rattle.fan_in.specs.Ports.{IsAbout};
-ghost use Rattle.fan_in.specs.Settling.{AreSentRows, Follows, HoldsSent, IsSettledShard};
-ghost use Rattle.fan_in.specs.Settling.{LoseFirst, SentOver, StartWith, worse};
+ghost use Rattle.fan_in.specs.Settling.{AreAllBack, AreSentRows, BackOver, Follows, HoldsSent};
+ghost use Rattle.fan_in.specs.Settling.{IsAllBack, IsSettledShard, SentOver, worse};
 ghost use Rattle.fan_in.specs.Works.{IsReserved};
 
 use crate::gathered::FeedEnd;
+use crate::mail::coming_back::bring_back;
+use crate::mail::message::Message;
 use crate::mail::outbox::Outbox;
 use crate::mail::owner::Owner;
 use crate::mail::owner_job::OwnerJob;
 use crate::outcome::Outcome;
 use crate::plan::Plan;
-use mail_lane::{Mail, Receiver, Settled};
+use mail_lane::{Mail, Settled};
 use outside::Gate;
 use shard_core::Shard;
 use std::alloc::Global;
 use std::sync::Wait;
 use std::thread::Threads;
-use stream_base::Entry;
 
 // Settles all lanes in their order, and hands the shards out. What the owners noted goes into the
 // outcomes of the feeds.
@@ -32,9 +33,9 @@ pub(crate) fn settle_all<F, G: Gate, R: Threads + Wait>(
     gate: &G,
     alloc: Global,
     plan: &Plan,
-    lanes: Vec<Mail<Entry>>,
-    owners: Vec<OwnerJob>,
-    mut rows: Vec<Vec<Outbox>>,
+    lanes: Vec<Mail<Message>>,
+    mut owners: Vec<OwnerJob>,
+    rows: Vec<Vec<Outbox>>,
     shards: &mut Vec<Shard>,
     ends: &mut [FeedEnd<F>],
 )
@@ -53,80 +54,82 @@ pub(crate) fn settle_all<F, G: Gate, R: Threads + Wait>(
         (slice_index_or (slice_index_or rows.items i row).items k b).sent
         (slice_index_or ends.new i e).outcome (slice_index_or shards.new.items k s).journal }
 {
+    bring_back(&lanes, owners.as_mut_slice(), rows);
+    settle_each(rt, gate, alloc, plan, lanes, owners, shards, ends);
+}
+
+// The same, where all senders are back.
+fn settle_each<F, G: Gate, R: Threads + Wait>(
+    rt: &R,
+    gate: &G,
+    alloc: Global,
+    plan: &Plan,
+    lanes: Vec<Mail<Message>>,
+    owners: Vec<OwnerJob>,
+    shards: &mut Vec<Shard>,
+    ends: &mut [FeedEnd<F>],
+)
+    requires back { AreAllBack plan.now.defs plan.now.sources lanes.items owners.items }
+    requires room { IsReserved (length lanes.items) shards.old }
+    requires one_each { length ends.old ≡ plan.now.sources }
+    requires over { BackOver lanes.items owners.items ends.old }
+    ensures many { length shards.new.items ≡ length lanes.items }
+    ensures settled { All (IsSettledShard plan.now.defs plan.now.sources) shards.new.items }
+    ensures same { AreSameFeeds ends.old ends.new }
+    ensures follows { (i : ℕ) (e : _) → i < length ends.old → Follows (length lanes.items)
+        (slice_index_or ends.old i e).outcome (slice_index_or ends.new i e).outcome }
+    ensures held { (k i : ℕ) (o : _) (e : _) (s : _) → k < length lanes.items
+        → i < length ends.old → HoldsSent k i
+        (sent_by i ((slice_index_or owners.items k o).receiver).back)
+        (slice_index_or ends.new i e).outcome (slice_index_or shards.new.items k s).journal }
+{
     let many = lanes.len();
     let mut lanes = lanes.into_iter();
     let mut owners = owners.into_iter();
     for _k in 0..many {
         let mail = lanes.next().unwrap();
         let job = owners.next().unwrap();
-        let owner = settle_lane(rt, gate, alloc, plan, mail, job, rows.as_mut_slice());
+        let owner = settle_lane(rt, gate, alloc, plan, mail, job);
         take_notes(ends, &owner.notes);
         shards.push_reserved(owner.shard);
     }
 }
 
-// Settles one lane: the senders come back, and the owner applies what is left.
+// Settles one lane, whose senders are all back: the owner applies what is left.
 fn settle_lane<G: Gate, R: Threads + Wait>(
     rt: &R,
     gate: &G,
     alloc: Global,
     plan: &Plan,
-    mail: Mail<Entry>,
+    mail: Mail<Message>,
     job: OwnerJob,
-    rows: &mut [Vec<Outbox>],
 ) -> Owner
-    requires senders { mail.senders ≡ plan.now.sources }
-    requires owns { OwnsLane plan.now.defs plan.now.sources job.owner.number mail job }
-    requires many { length rows.old ≡ plan.now.sources }
-    requires rows { StartWith mail rows.old }
-    ensures number { result.number ≡ job.owner.number }
+    requires back { IsAllBack plan.now.defs plan.now.sources job.owner.number mail job }
     ensures settled { IsSettledShard plan.now.defs plan.now.sources result.shard }
     ensures about { (i : ℕ) → IsAbout job.owner.number (note_of i result.notes) }
-    ensures held { (i : ℕ) (row : _) (b : _) → i < length rows.old → HoldsSent job.owner.number i
-        (slice_index_or (slice_index_or rows.old i row).items 0 b).sent
+    ensures held { (i : ℕ) → HoldsSent job.owner.number i (sent_by i job.receiver.back)
         (note_of i result.notes) result.shard.journal }
-    ensures rows { LoseFirst rows.old rows.new }
 {
     let OwnerJob {
-        mut receiver,
+        receiver,
         mut owner,
     } = job;
     let _sources = plan.sources;
-    bring_back(&mail, &mut receiver, rows);
     let mut settled = mail.settle(rt, receiver, Vec::new(alloc));
     apply_rest(rt, gate, &mut settled, &mut owner);
     if owner.stray {
         // Of each source the owner has just what its feed sent, and a feed sends nothing that is
-        // beyond the limits or behind its end.
+        // behind its end.
         unreachable!()
     }
     owner
-}
-
-// The receiver takes the first sender of each row back.
-fn bring_back(mail: &Mail<Entry>, receiver: &mut Receiver<Entry>, rows: &mut [Vec<Outbox>])
-    requires own { IsReceiverOf mail.now receiver.old }
-    requires none { receiver.old.back ≡ [] }
-    requires rows { StartWith mail.now rows.old }
-    ensures own { IsReceiverOf mail.now receiver.new }
-    ensures taken { receiver.new.taken ≡ receiver.old.taken }
-    ensures many { length receiver.new.back ≡ length rows.old }
-    ensures back { (i : ℕ) (row : _) (b : _) → i < length rows.old
-        → slice_index_or receiver.new.back i []
-        ≡ (slice_index_or (slice_index_or rows.old i row).items 0 b).sent }
-    ensures rows { LoseFirst rows.old rows.new }
-{
-    for i in 0..rows.len() {
-        let outbox = rows[i].remove(0);
-        mail.take_back(receiver, outbox.into_sender());
-    }
 }
 
 // The owner applies what is left in a settled lane.
 fn apply_rest<G: Gate, R: Threads + Wait>(
     rt: &R,
     gate: &G,
-    settled: &mut Settled<Entry>,
+    settled: &mut Settled<Message>,
     owner: &mut Owner,
 )
     ensures whole { TakenWhole settled.new }
@@ -137,7 +140,7 @@ fn apply_rest<G: Gate, R: Threads + Wait>(
 {
     'left: for _ in rt.forever() {
         match settled.next(rt) {
-            Some(entry) => owner.take_in(rt, gate, &entry),
+            Some(message) => owner.take_in(rt, gate, &message),
             None => return,
         }
     }

@@ -16,7 +16,7 @@ pub(crate) fn read_out<F: Feed + Send, P: Port + Send + Drop, G: Gate, R: Thread
     rt: &R,
     gate: &G,
     inlets: &[P::Inlet],
-    work: Work<F, P>,
+    mut work: Work<F, P>,
     feeds: Vec<F>,
     rows: Vec<Vec<P>>,
 ) -> (Vec<FeedEnd<F>>, Vec<Vec<P>>)
@@ -25,13 +25,7 @@ pub(crate) fn read_out<F: Feed + Send, P: Port + Send + Drop, G: Gate, R: Thread
     ensures read { AreReadOut P.Port F.state F.faults (length inlets.now) feeds.items
         rows.items result.0.items result.1.items }
 {
-    let Work {
-        mut readers,
-        mut ends,
-        rows: mut seats,
-    } = work;
-    fill(&mut readers, feeds, rows);
-    read_all(rt, gate, inlets, readers.as_mut_slice());
-    take_apart(readers, &mut ends, &mut seats);
-    (ends, seats)
+    fill(&mut work.readers, feeds, rows);
+    read_all(rt, gate, inlets, work.readers.as_mut_slice());
+    take_apart(work)
 }

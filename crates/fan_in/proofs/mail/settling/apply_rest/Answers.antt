@@ -9,7 +9,7 @@ left-preserved g c =
       tt,
       tt,
       ap (λ s. s.sent) got.2 ∙ c.left.invariant.2,
-      λ d n k a. rest_more d n k c.left.settled _ c.in-Some-next.entry _ got (c.take_in.ensures.after d n k _ (c.left.invariant.3 d n k a)),
+      λ d n k a. rest_more d n k c.left.settled _ c.in-Some-next.message _ got (c.take_in.ensures.after d n k _ (c.left.invariant.3 d n k a)),
     )
 
 pub returns-in-None-next-clause-after : goal.returns-in-None-next-clause-after

@@ -1,72 +1,47 @@
-use Rattle.std.proofs.Common.{arith, ◌≡◌, ◌<◌, get_or, length, option_to_list, sym, subst, ap, ◌∙◌}
-use Rattle.std.proofs.lemmas.Grind.{common_steps}
-use Rattle.fan_in.specs.Settling.{Follows}
-use Rattle.fan_in.proofs.Drained.{next_in, taken_first}
-use Rattle.fan_in.proofs.Lists.{written}
-use Rattle.fan_in.proofs.Settled.{next_owns, next_rows, next_senders, settle_more}
+use Rattle.std.proofs.Common.{arith, ◌≡◌, ◌<◌, get_or, length, List, sym, subst, ap, ◌∙◌}
+use Rattle.stream_base.specs.declared.entry.Entry.{Entry}
+use Rattle.stream_base.specs.declared.limits.TheConstants.{JOURNAL_MAX}
+use Rattle.fan_in.specs.Settling.{HoldsSent}
+use Rattle.fan_in.proofs.Lists.{some_of, written}
+use Rattle.fan_in.proofs.Settled.{all_back, unsettled}
 use Rattle.fan_in.proofs.mail.settling.settle_all.Goals as goal
 
-pub settle_lane-owner-requires-clause-owns : goal.settle_lane-owner-requires-clause-owns
-settle_lane-owner-requires-clause-owns g c κs within =
-    let lk : c.loop-k._k < length c.args.lanes.items = omega (arith, c.len-many.ensures, c.args.lanes.ok.0) in
-    let mail = c.unwrap-mail.result in
-    let job = c.unwrap-job.result in
-    let next_mail = taken_first _ _ _ mail c.next.ensures.items c.unwrap-mail.ensures in
-    let next_job = taken_first _ _ _ job c.next-in-loop-k.ensures.items c.unwrap-job.ensures in
-    next_owns (λ e. e.outcome) _ _ _ _ _ _ _ _ _ _ _ _ mail job c.loop-k.invariant.settling c.requires.owned c.requires.rows lk c.requires.over (sym (ap (λ l. get_or l 0 mail) next_mail)) (sym (ap (λ l. get_or l 0 job) next_job))
+pub bring_back-requires-clause-unsettled : goal.bring_back-requires-clause-unsettled
+bring_back-requires-clause-unsettled g c = rw (c.deref.ensures.value, c.as_mut_slice.ensures.value) (unsettled _ _ _ _ c.requires.owned)
 
-pub settle_lane-owner-requires-clause-rows : goal.settle_lane-owner-requires-clause-rows
-settle_lane-owner-requires-clause-rows g c κs within =
-    let lk : c.loop-k._k < length c.args.lanes.items = omega (arith, c.len-many.ensures, c.args.lanes.ok.0) in
-    let mail = c.unwrap-mail.result in
-    let job = c.unwrap-job.result in
-    let next_mail = taken_first _ _ _ mail c.next.ensures.items c.unwrap-mail.ensures in
-    let next_job = taken_first _ _ _ job c.next-in-loop-k.ensures.items c.unwrap-job.ensures in
-    rw c.as_mut_slice.ensures.value (next_rows (λ e. e.outcome) _ _ _ _ _ _ _ _ _ _ _ _ mail job c.loop-k.invariant.settling c.requires.owned c.requires.rows lk c.requires.over (sym (ap (λ l. get_or l 0 mail) next_mail)) (sym (ap (λ l. get_or l 0 job) next_job)))
+pub bring_back-requires-clause-boxes : goal.bring_back-requires-clause-boxes
+bring_back-requires-clause-boxes g c = rw c.deref.ensures.value (λ i row l. c.requires.rows.boxes i row (omega (arith, c.requires.rows.many)))
 
-pub settle_lane-owner-requires-clause-senders : goal.settle_lane-owner-requires-clause-senders
-settle_lane-owner-requires-clause-senders g c κs within =
-    let lk : c.loop-k._k < length c.args.lanes.items = omega (arith, c.len-many.ensures, c.args.lanes.ok.0) in
-    let mail = c.unwrap-mail.result in
-    let job = c.unwrap-job.result in
-    let next_mail = taken_first _ _ _ mail c.next.ensures.items c.unwrap-mail.ensures in
-    let next_job = taken_first _ _ _ job c.next-in-loop-k.ensures.items c.unwrap-job.ensures in
-    next_senders (λ e. e.outcome) _ _ _ _ _ _ _ _ _ _ _ _ mail job c.loop-k.invariant.settling c.requires.owned c.requires.rows lk c.requires.over (sym (ap (λ l. get_or l 0 mail) next_mail)) (sym (ap (λ l. get_or l 0 job) next_job))
-
-pub loop-k-preserved : goal.loop-k-preserved
-loop-k-preserved g c =
-    let h = c.loop-k.invariant in
-    let k = c.loop-k._k in
-    let lk : k < length c.args.lanes.items = omega (arith, c.len-many.ensures, c.args.lanes.ok.0) in
-    let mail = c.unwrap-mail.result in
-    let job = c.unwrap-job.result in
-    let next_mail = taken_first _ _ _ mail c.next.ensures.items c.unwrap-mail.ensures in
-    let next_job = taken_first _ _ _ job c.next-in-loop-k.ensures.items c.unwrap-job.ensures in
-    let one_mail = ap (λ o. length (option_to_list o)) c.unwrap-mail.ensures in
-    let one_job = ap (λ o. length (option_to_list o)) c.unwrap-job.ensures in
-    let rows = c.loop-k.rows in
+pub settle_each-requires-clause-back : goal.settle_each-requires-clause-back
+settle_each-requires-clause-back g c κs within =
+    let owners = c.args.owners in
     let lent = c.as_mut_slice.ensures.value in
-    let lose = rw lent at c.settle_lane-owner.ensures.rows in
-    let held = rw lent at c.settle_lane-owner.ensures.held in
-    let len : rows.len ≡ length rows.items = omega (arith, rows.ok.0) in
-    let many : length c.settle_lane-owner.new.rows ≡ length rows.items = lose.many in
-    let w = written rows.len rows.items c.settle_lane-owner.new.rows len many in
-    record {
-      lanes_len = omega (arith, c.next.ensures.len, one_mail, h.lanes_len);
-      owners_len = omega (arith, c.next-in-loop-k.ensures.len, one_job, h.owners_len);
-      room = grind (arith, common_steps);
-      feeds = λ i e l. c.take_notes.ensures.same.feeds i e (omega (arith, h.settling.many_olds, h.settling.many_news)) ∙ h.feeds i e l;
-      settling = rw (w, c.push_reserved.ensures.items) (settle_more (λ e. e.outcome) _ _ _ _ _ _ _ _ _ _ _ _ mail job h.settling c.requires.owned c.requires.rows lk c.requires.over (sym (ap (λ l. get_or l 0 mail) next_mail)) (sym (ap (λ l. get_or l 0 job) next_job))
-          _ _ _ c.settle_lane-owner.result _ (next_in c.args.lanes.items _ _ k mail h.settling.lanes_left next_mail).1 (next_in c.args.owners.items _ _ k job h.settling.owners_left next_job).1 lose c.settle_lane-owner.ensures.settled c.settle_lane-owner.ensures.about held c.take_notes.ensures.same.many c.take_notes.ensures.outcomes);
-    }
+    let many : length c.bring_back.new.owners ≡ length owners.items = c.bring_back.ensures.many ∙ ap length lent in
+    let w = written owners.len owners.items c.bring_back.new.owners (omega (arith, owners.ok.0)) many in
+    rw w (all_back _ _ _ owners.items c.bring_back.new.owners c.args.rows.items c.requires.owned c.requires.rows many (rw lent at c.bring_back.ensures.back))
 
-pub returns-clause-follows : goal.returns-clause-follows
-returns-clause-follows g c i e l =
-    let h = c.loop-k.invariant.settling in
-    let is : c.loop-k._k ≡ length c.args.lanes.items = omega (arith, c.len-many.ensures, c.args.lanes.ok.0) in
-    subst (λ n. Follows n (get_or c.args.ends.now i e).outcome (get_or c.loop-k.ends i e).outcome) is (h.follows i e (omega (arith, h.many_olds)))
+pub settle_each-requires-clause-over : goal.settle_each-requires-clause-over
+settle_each-requires-clause-over g c κs within =
+    let owners = c.args.owners in
+    let lent = c.as_mut_slice.ensures.value in
+    let many : length c.bring_back.new.owners ≡ length owners.items = c.bring_back.ensures.many ∙ ap length lent in
+    let w = written owners.len owners.items c.bring_back.new.owners (omega (arith, owners.ok.0)) many in
+    let back = rw lent at c.bring_back.ensures.back in
+    rw w (λ i k o e l lk full.
+    let row = some_of c.args.rows.items i (omega (arith, c.requires.rows.many, c.requires.one_each)) in
+    let s = some_of (get_or c.args.rows.items i row).items k (omega (arith, (c.requires.rows.boxes i row (omega (arith, c.requires.one_each))).many)) in
+    let is = back k o (omega (arith, c.requires.owned.many)) in
+    subst (λ (sent : List Entry). JOURNAL_MAX < length sent) (sym (is.back i row s (omega (arith, c.requires.rows.many, c.requires.one_each)))) (c.requires.over i k row s e l full))
 
 pub returns-clause-held : goal.returns-clause-held
 returns-clause-held g c k i row b e s lk li =
-    let h = c.loop-k.invariant.settling in
-    h.held k i row b e s (omega (arith, c.len-many.ensures, c.args.lanes.ok.0)) (omega (arith, h.many_olds))
+    let owners = c.args.owners in
+    let lent = c.as_mut_slice.ensures.value in
+    let many : length c.bring_back.new.owners ≡ length owners.items = c.bring_back.ensures.many ∙ ap length lent in
+    let w = written owners.len owners.items c.bring_back.new.owners (omega (arith, owners.ok.0)) many in
+    let o = some_of owners.items k (omega (arith, c.requires.owned.many)) in
+    let back = rw lent at c.bring_back.ensures.back in
+    let held = rw w at c.settle_each.ensures.held in
+    let is = back k o (omega (arith, c.requires.owned.many)) in
+    subst (λ (sent : List Entry). HoldsSent k i sent (get_or c.settle_each.new.ends i e).outcome (get_or c.settle_each.new.shards.items k s).journal) (is.back i row b (omega (arith, c.requires.rows.many, c.requires.one_each)))
+    (held k i o e s lk li)

@@ -4,30 +4,25 @@ use Rattle.fan_in.specs.Reading.{AreFrom, HaveHanded}
 use Rattle.fan_in.specs.Settling.{Follows}
 use Rattle.fan_in.specs.Sending.{sender_port}
 use Rattle.fan_in.proofs.Lists.{some_of, written}
-use Rattle.fan_in.proofs.Mailed.{back_at, ready, sent_rows}
+use Rattle.fan_in.proofs.Mailed.{all_of, back_at, sent_rows, stand_at}
 use Rattle.fan_in.proofs.Outcomes.{named_follows, part_of}
+use Rattle.fan_in.proofs.Read.{all_ready}
 use Rattle.fan_in.proofs.mail.gather.MailFeeds.gather.Goals as goal
 
 pub send_out-ends-requires-clause-ready : goal.send_out-ends-requires-clause-ready
 send_out-ends-requires-clause-ready g c κs within =
     let plan = c.args.plan.now in
-    let post = c.in-Ok.ensures.open in
-    let one_each = c.requires.fresh.one_each in
-    rw c.deref.ensures.value (record {
-      some = let some = plan.some_sources in omega (arith, one_each);
-      one_each = post.many ∙ sym one_each;
-      ready = λ i f row l.
-          let ls : i < plan.sources = omega (arith, one_each) in
-          ready (g.F.Feed.state (get_or c.args.feeds.items i f)) i c.in-Ok.post.lanes.items (get_or c.in-Ok.rows.items i row).items
-          (let few = plan.few_shards in omega (arith, c.in-Ok.ensures.lanes)) (c.requires.fresh.fresh i f l) (post.rows_are i row ls) (post.blank i row ls);
-    })
+    let post = c.in-Ok.ensures.open.1 in
+    let few = plan.few_shards in
+    rw c.deref.ensures.value (all_ready sender_port g.F.Feed.state c.in-Ok.post.lanes.items plan.sources c.args.feeds.items c.in-Ok.rows.items plan.some_sources c.requires.fresh post.many
+    (λ i row l. stand_at i c.in-Ok.post.lanes.items (get_or c.in-Ok.rows.items i row).items (omega (arith, c.in-Ok.ensures.open.0)) (post.rows_are i row l)) (λ i row l. all_of i _ _ (post.rows_are i row l)) post.blank)
 
 pub settle_all-requires-clause-rows : goal.settle_all-requires-clause-rows
 settle_all-requires-clause-rows g c κs within =
     let sent = c.send_out-ends.ensures.read in
     let one_each = c.requires.fresh.one_each in
-    let open_many = c.in-Ok.ensures.open.many in
-    sent_rows _ _ _ _ c.in-Ok.rows.items _ c.in-Ok.ensures.open (sent.many_rows ∙ one_each)
+    let open_many = c.in-Ok.ensures.open.1.many in
+    sent_rows _ _ _ _ c.in-Ok.rows.items _ c.in-Ok.ensures.open.1 (sent.many_rows ∙ one_each)
     (λ i row box l. (sent.read i (some_of c.args.feeds.items i (omega (arith, one_each))) row (some_of c.send_out-ends.result.0.items i (omega (arith, sent.many_ends, one_each))) box (omega (arith, one_each))).same)
     (λ i k box s l lk.
     let lf : i < length c.args.feeds.items = omega (arith, one_each) in
@@ -40,9 +35,9 @@ settle_all-requires-clause-over g c κs within = rw c.as_mut_slice-in-Ok.ensures
     let sent = c.send_out-ends.ensures.read in
     let one_each = c.requires.fresh.one_each in
     let lf : i < length c.args.feeds.items = omega (arith, sent.many_ends) in
-    let row = some_of c.in-Ok.rows.items i (omega (arith, c.in-Ok.ensures.open.many, one_each)) in
+    let row = some_of c.in-Ok.rows.items i (omega (arith, c.in-Ok.ensures.open.1.many, one_each)) in
     let read = sent.read i (some_of c.args.feeds.items i lf) row e box lf in
-    let seats = c.in-Ok.ensures.open.rows_are i row (omega (arith, one_each)) in
+    let seats = c.in-Ok.ensures.open.1.rows_are i row (omega (arith, one_each)) in
     let lk = subst (NamesOneOf (length c.deref.result.now)) full read.read.named in
     (read.read.parts k s (omega (arith, lk, ap length c.deref.ensures.value, read.same.many, seats.many))).is_full full)
 
@@ -57,7 +52,7 @@ returns-in-Ok-clause-gathered g c =
     let one_each = c.requires.fresh.one_each in
     let many_ends = c.send_out-ends.ensures.read.many_ends in
     let many_rows = c.send_out-ends.ensures.read.many_rows in
-    let open_many = c.in-Ok.ensures.open.many in
+    let open_many = c.in-Ok.ensures.open.1.many in
     let ends = c.send_out-ends.result.0 in
     let lent = c.as_mut_slice-in-Ok.ensures.value in
     let done = c.settle_all.new.ends in
@@ -65,7 +60,7 @@ returns-in-Ok-clause-gathered g c =
     let w = written ends.len ends.items done (omega (arith, ends.ok.0)) many in
     let follows = rw lent at c.settle_all.ensures.follows in
     let same = rw lent at c.settle_all.ensures.same.feeds in
-    let shards : length c.in-Ok.post.lanes.items ≡ n = c.in-Ok.ensures.lanes in
+    let shards : length c.in-Ok.post.lanes.items ≡ n = c.in-Ok.ensures.open.0 in
     let all_shards : length handed ≡ n = c.settle_all.ensures.many ∙ shards in
     record {
       many_ends = rw w (many ∙ many_ends ∙ one_each);
@@ -96,7 +91,7 @@ returns-in-Ok-clause-gathered g c =
           let sent = c.send_out-ends.ensures.read.read i f row e box lf in
           let senders = (get_or rows i box).items in
           let deref : length c.deref.result.now ≡ n = ap length c.deref.ensures.value ∙ shards in
-          let many_senders : length senders ≡ n = sent.same.many ∙ (c.in-Ok.ensures.open.rows_are i row l).many ∙ shards in
+          let many_senders : length senders ≡ n = sent.same.many ∙ (c.in-Ok.ensures.open.1.rows_are i row l).many ∙ shards in
           let own = (get_or ends.items i e).outcome in
           let before = subst (λ m. HaveHanded sender_port m (g.F.Feed.state (get_or ends.items i e).feed).gave own senders) deref sent.read.parts in
           let parts = subst (λ x. HaveHanded sender_port n (g.F.Feed.state x).gave own senders) (sym (same i e le)) before in

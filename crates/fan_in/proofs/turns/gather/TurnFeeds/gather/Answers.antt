@@ -2,8 +2,9 @@ use Rattle.std.proofs.Common.{sym, subst, ap, ◌∙◌, ◌≡◌, ◌<◌, len
 use Rattle.fan_in.specs.Gathering.{HoldsFirst, IsFault, NamesOneOf}
 use Rattle.fan_in.specs.Closings.{MadeOwn}
 use Rattle.fan_in.specs.Reading.{HaveHanded}
-use Rattle.fan_in.proofs.Final.{back_of, fault_without, named_without, parts_of, ready, standing}
+use Rattle.fan_in.proofs.Final.{all_of, back_of, fault_without, named_without, parts_of, stand_at, standing}
 use Rattle.fan_in.proofs.Lists.{some_of}
+use Rattle.fan_in.proofs.Read.{all_ready}
 use Rattle.fan_in.specs.Seating.{pass_port}
 use Rattle.fan_in.proofs.turns.gather.TurnFeeds.gather.Goals as goal
 
@@ -11,15 +12,10 @@ pub read_out-ends-requires-clause-ready : goal.read_out-ends-requires-clause-rea
 read_out-ends-requires-clause-ready g c κs within =
     let plan = c.args.plan.now in
     let floor = c.in-Ok.ensures.open in
-    let one_each = c.requires.fresh.one_each in
-    rw c.deref.ensures.value (record {
-      some = let some = plan.some_sources in omega (arith, one_each);
-      one_each = floor.many ∙ sym one_each;
-      ready = λ i f row l.
-          let ls : i < plan.sources = omega (arith, one_each) in
-          ready (g.F.Feed.state (get_or c.args.feeds.items i f)) i c.in-Ok.floor.desks.items (record { defs = plan.defs; sources = plan.sources }) (get_or c.in-Ok.rows.items i row).items (c.requires.fresh.fresh i f l) (floor.rows_are i row ls) (floor.blank i row ls) ls
-          (let few = plan.few_shards in omega (arith, c.in-Ok.ensures.shards));
-    })
+    let few = plan.few_shards in
+    rw c.deref.ensures.value (all_ready pass_port g.F.Feed.state c.in-Ok.floor.desks.items plan.sources c.args.feeds.items c.in-Ok.rows.items plan.some_sources c.requires.fresh floor.many
+    (λ i row l. stand_at i c.in-Ok.floor.desks.items _ (get_or c.in-Ok.rows.items i row).items (omega (arith, c.in-Ok.ensures.shards)) (floor.rows_are i row l))
+    (λ i row l. all_of i _ (record { defs = plan.defs; sources = plan.sources }) _ l (floor.rows_are i row l)) floor.blank)
 
 pub hand_back-requires : goal.hand_back-requires
 hand_back-requires g c =
