@@ -7,3 +7,4 @@ pub mod StateFacts
 pub mod Steps
 pub mod StoreFacts
 pub mod WorkFacts
+pub mod UntoldFacts

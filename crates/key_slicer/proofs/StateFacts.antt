@@ -1,5 +1,5 @@
 -- What the state of a key stands for.
-use Rattle.std.proofs.Common.{false, ◌≡◌, ◌∙◌, ◌≤◌, ◌<◌, ◌+◌, ◌-◌, ℕ, List, [], ◌∷◌, get_or, length, map, ap, sym, refl, subst, arith, rules, inl, inr, w64, ⊎_elim}
+use Rattle.std.proofs.Common.{false, Bool, ◌≡◌, ◌∙◌, ◌≤◌, ◌<◌, ◌+◌, ◌-◌, ℕ, List, [], ◌∷◌, get_or, length, map, ap, sym, refl, subst, arith, rules, inl, inr, w64, ⊎_elim}
 use Rattle.std.specs.Prelude.{◌≢◌, All, FitsSigned, filter}
 use Rattle.std.specs.BTreeSet.{insert_key}
 use Rattle.std.specs.List.{Contains, enumerate_from, flat_map, list_all}
@@ -48,7 +48,7 @@ use Rattle.held_laws.proofs.SettleFacts.{settled_up_to_least}
 use Rattle.held_laws.proofs.HoldFacts.{fresh_held, held_after_mark, held_after_move, held_after_tuple}
 use Rattle.held_laws.proofs.OpenFacts.{open_after_mark, open_after_tuple, open_from}
 use Rattle.key_slicer.specs.Parts.{AllStandAt, AllTakeTuple, AreStanding, EachPart, IsLeastOf, rooms}
-use Rattle.key_slicer.specs.States.{Fits, IsBlank, IsReadyToTake, StandsFor}
+use Rattle.key_slicer.specs.States.{Fits, IsBlank, IsReadyToPut, IsReadyToTake, StandsFor}
 use Rattle.key_slicer.proofs.Loops.{none_of, one_of_all}
 use Rattle.key_slicer.proofs.StoreFacts.{store_held, store_marked, store_purged, store_put, store_with_room}
 
@@ -330,6 +330,11 @@ ready_to_take bounded is_ready room water s s' parts parts' total promise scratc
   empty = none;
   fits_in = omega (arith, said, fits);
 }
+
+-- whoever is ready to take a tuple in is ready for it
+pub ready_to_put : {P : Type 0} (bounded : ℕ → ℕ → Type 0) (is_ready : ℕ → P → Type 0) (room : ℕ → P → ℕ) (untold : Bool) {water : ℕ} {s : Stored} {parts : List P} {promise : ℕ} {scratch : List Change} {spare : ℕ}
+    → IsReadyToTake bounded is_ready room water s parts promise scratch spare → IsReadyToPut bounded is_ready room untold water s parts promise scratch spare
+ready_to_put bounded is_ready room untold r = record { water_is = r.water_is; store = r.store; reach = r.reach; told = λ e. r }
 
 -- ---- how many slices have unsettled tuples
 module _ {P : Type 0} (stands : Standing P) (d : Definitions) (settles_at : ℕ → P → ℕ) (some : list_all (λ w. is_events w.kind) d.windows ≡ false) where

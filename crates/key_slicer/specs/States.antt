@@ -1,6 +1,7 @@
 -- For which lists the state of a key stands, and for which call it has room.
-use Rattle.std.specs.Prelude.{◌≡◌, ◌≤◌, ◌⊎◌, ℕ, List, [], All, length}
-use Rattle.std.specs.List.{Contains}
+use Rattle.std.specs.Prelude.{◌≡◌, ◌≤◌, ◌⊎◌, ◌&&◌, ℕ, Bool, false, List, [], All, length, nat_le}
+use Rattle.std.specs.List.{Contains, list_all}
+use Rattle.stream_base.specs.Laws.{is_timed}
 use Rattle.stream_base.specs.Limits.{Definitions}
 use Rattle.stream_base.specs.declared.change.Change.{Change}
 use Rattle.stream_base.specs.declared.kept.Kept.{Kept}
@@ -72,6 +73,17 @@ pub record IsReadyToTake {P : Type 0} (bounded : ℕ → ℕ → Type 0) (is_rea
   pub empty : scratch ≡ []
   pub fits_in : promise ≤ spare
 
+-- no part need be told of a tuple at a time: each window is tumbling or sliding, and the time is not before the watermark
+abbrev pub needs_no_part : Definitions → ℕ → ℕ → Bool
+needs_no_part d time water = nat_le water time && list_all (λ w. is_timed w.kind) d.windows
+
+-- the store has room for a tuple to come, its reach bounded by its slices; and where a part need be told of it, all are ready
+pub record IsReadyToPut {P : Type 0} (bounded : ℕ → ℕ → Type 0) (is_ready : ℕ → P → Type 0) (room : ℕ → P → ℕ) (untold : Bool) (water : ℕ) (s : Stored) (parts : List P) (promise : ℕ) (scratch : List Change) (spare : ℕ) : Type 0 where
+  pub water_is : IsWater water
+  pub store : 1 ≤ s.spare
+  pub reach : IsReachOver bounded (length s.slices) s.reach
+  pub told : untold ≡ false → IsReadyToTake bounded is_ready room water s parts promise scratch spare
+
 -- each part can move, and so much room is promised as all need
 pub record CanMoveAll {P : Type 0} (can_move : ℕ → P → Type 0) (room : ℕ → P → ℕ) (parts : List P) (promise : ℕ) : Type 0 where
   pub each : EachPart can_move parts
@@ -82,7 +94,7 @@ abbrev pub IsReady : {P : Type 0} → (ℕ → ℕ → Type 0) → (Definitions 
     → (Definitions → ℕ → Stored → ℕ → ℕ → P → Type 0) → (Definitions → ℕ → Stored → ℕ → ℕ → P → ℕ)
     → Definitions → Call → Stored → List P → ℕ → List Change → ℕ → Type 0
 IsReady bounded is_ready put_room mark_room can_move move_room d (Put time water) s parts promise scratch spare =
-    IsReadyToTake bounded (λ i part. is_ready d i time water part) (λ i part. put_room d i time water part) water s parts promise scratch spare
+    IsReadyToPut bounded (λ i part. is_ready d i time water part) (λ i part. put_room d i time water part) (needs_no_part d time water) water s parts promise scratch spare
 IsReady bounded is_ready put_room mark_room can_move move_room d (Mark time water) s parts promise scratch spare =
     IsReadyToTake bounded (λ i part. is_ready d i time water part) (λ i part. mark_room d i time water part) water s parts promise scratch spare
 IsReady bounded is_ready put_room mark_room can_move move_room d (Move old new) s parts promise scratch spare =

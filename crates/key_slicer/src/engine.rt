@@ -4,7 +4,7 @@ ghost use Rattle.key_slicer.specs.Parts.{AllAhead, all_credit};
 ghost use Rattle.key_slicer.specs.States.{Fits, IsReady};
 ghost use Rattle.key_slicer.specs.Work.{bounds_mark, bounds_put, catch_up, mark_work, move_work, put_work};
 
-use crate::key_state::{KeyState, all_count_events, is_water, leaves_due, put_in};
+use crate::key_state::{KeyState, all_count_events, is_water, leaves_due, needs_no_part, put_in};
 use crate::parts::Parts;
 use crate::sorted::append_sorted;
 use agg_laws::{AggTree, Steps};
@@ -60,8 +60,12 @@ impl<T: AggTree<Bundle> + Drop, P: AnyPart> KeyWindows for KeyState<T, P> {
     }
 
     fn reserve_put(&mut self, defs: &Defs, time: u64, water: u64) -> Result<u64, NoMemory> {
-        let room = self.parts.reserve_put(defs, time, water)?;
         self.store.reserve()?;
+        if needs_no_part(defs, time, water) {
+            self.promise = 0;
+            return Ok(0);
+        }
+        let room = self.parts.reserve_put(defs, time, water)?;
         self.make_room(room)?;
         Ok(room)
     }
@@ -76,6 +80,11 @@ impl<T: AggTree<Bundle> + Drop, P: AnyPart> KeyWindows for KeyState<T, P> {
         out: &mut Vec<Change>,
         steps: &mut Steps<L>,
     ) -> bool {
+        if needs_no_part(defs, time, water) {
+            self.next = pos + 1;
+            let entered = put_in(&mut self.store, defs, pos, time, value, steps);
+            return entered;
+        }
         self.parts.before(defs, &self.store, time, water, steps);
         let joined = put_in(&mut self.store, defs, pos, time, value, steps);
         self.parts.put(

@@ -11,7 +11,7 @@ ghost use Rattle.slice_store.specs.declared.placed.Placed.TheVariants.{Appended}
 ghost use Rattle.slice_store.specs.Placing.{is_last, placed_in};
 ghost use Rattle.key_windows.specs.Calls.{IsWater, kept_at};
 ghost use Rattle.key_parts.specs.Moves.{Comes, all_count_events};
-ghost use Rattle.key_slicer.specs.States.{IsFirstTime, MayEnter};
+ghost use Rattle.key_slicer.specs.States.{IsFirstTime, MayEnter, needs_no_part};
 
 use crate::parts::Parts;
 use agg_laws::{AggTree, Steps};
@@ -89,9 +89,20 @@ pub fn leaves_due(defs: &Defs, joined: bool) -> bool
     joined && all_timed(defs)
 }
 
+// Whether no part need be told of a tuple at a time: each window is tumbling or sliding, and the time
+// isn't before the watermark.
+pub fn needs_no_part(defs: &Defs, time: u64, water: u64) -> bool
+    ensures answer { result ≡ needs_no_part defs.now time water }
+    ensures behind { result ≡ true → water ≤ time }
+    ensures timed { result ≡ true → All (λ w. is_timed w.kind ≡ true) (defs.now).windows }
+{
+    water <= time && all_timed(defs)
+}
+
 // Whether each window is tumbling or sliding.
 fn all_timed(defs: &Defs) -> bool
-    ensures { result ≡ true → All (λ w. is_timed w.kind ≡ true) (defs.now).windows }
+    ensures answer { result ≡ list_all (λ w. is_timed w.kind) (defs.now).windows }
+    ensures timed { result ≡ true → All (λ w. is_timed w.kind ≡ true) (defs.now).windows }
 {
     defs.windows().iter().all(|def| matches!(
         def.kind,

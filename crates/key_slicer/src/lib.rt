@@ -16,7 +16,8 @@
 //! - `parts`: the parts of all windows, each at the place of its window.
 //! - `putting`, `marking`, `moving`: a tuple, a mark and a move of the watermark go from part to
 //!   part, and what they change is appended window by window. Before the store takes a tuple in,
-//!   each part keeps what stood; room is the sum of what the parts need.
+//!   each part keeps what stood; room is the sum of what the parts need. Where all windows are
+//!   tumbling or sliding, of a tuple at or behind the watermark no part is asked or told.
 //! - `sorted`: changes window by window are put in order, all retractions first.
 //! - `purging`, `leaving`: the least of the watermark minus the lateness and of the times of the
 //!   windows is the time up to which all tuples are settled. Slices before it leave where the first

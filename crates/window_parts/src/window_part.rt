@@ -22,7 +22,13 @@ pub enum WindowPart<Q: AggQueue<Bundle>> {
 }
 
 impl<Q: AggQueue<Bundle> + Drop> AnyPart for WindowPart<Q> {
+    ghost use Rattle.window_parts.specs.Untold.{ahead_with_tuple_any, stands_with_tuple_any};
+
     ghost serves = { λ d window within. within };
+
+    ghost stands_with_tuple = { stands_with_tuple_any };
+
+    ghost ahead_with_tuple = { ahead_with_tuple_any };
 }
 
 impl<Q: AggQueue<Bundle> + Drop> KeyPart for WindowPart<Q> {

@@ -1,5 +1,5 @@
 -- The store and the parts took the tuple in.
-use Rattle.std.proofs.Common.{◌≡◌, ◌≤◌, ◌+◌, ◌-◌, ◌++◌, ℕ, length, vec_len, arith, refl, rules, subst, sym, to_z, of_z, w64}
+use Rattle.std.proofs.Common.{◌≡◌, ◌∙◌, ◌≤◌, ◌+◌, ◌-◌, ◌++◌, ℕ, length, vec_len, arith, refl, rules, subst, sym, to_z, of_z, w64}
 use Rattle.std.specs.Prelude.{FitsSigned}
 use Rattle.std.proofs.lemmas.Int.{to_z-of_z}
 use Rattle.std.specs.List.{enumerate_from, flat_map}
@@ -13,7 +13,8 @@ use Rattle.key_slicer.specs.States.{Fits}
 use Rattle.key_slicer.specs.Work.{put_work}
 use Rattle.key_slicer.specs.Joining.{Joins}
 use Rattle.key_slicer.proofs.DueFacts.{joins_of, quiet_with_tuple, waits_with_tuple}
-use Rattle.key_slicer.proofs.StateFacts.{all_take, fits_put}
+use Rattle.key_slicer.proofs.StateFacts.{all_take, fits_put, put_step}
+use Rattle.key_slicer.proofs.UntoldFacts.{all_untold, all_untold_ahead, none_appended, untold_changes}
 use Rattle.key_slicer.proofs.SortFacts.{appended_sorted, as_many_turns}
 use Rattle.key_slicer.proofs.Loops.{grown}
 use Rattle.key_slicer.proofs.WorkFacts.{put_cost, put_is_bounded}
@@ -48,7 +49,7 @@ returns-clause-taken g c = record {
       all_take g.P.KeyPart.stands d g.P.KeyPart.is_asked m c.args.water s.next s.store s.parts.list.items c.before-2.new.self.list.items x c.put_in-joined.new.store refl c.requires.comes.ready.water_is f
       c.requires.position c.requires.few c.requires.comes.in_time.within c.requires.comes.in_time.accepted c.put_in-joined.ensures.comes c.before-2.ensures.stays c.before-2.ensures.asked in
       subst (λ v. c.append_sorted.new.out.items ≡ c.args.out.now.items ++ changes_by_put d s.key kept marks c.args.water (kept_at c.args.pos c.args.time v)) (to_z-of_z w64 c.args.value c.ranges.value)
-      (appended_sorted s.key m (with_tuple m x) d.windows s.scratch.items c.put.new.out.items c.as_slice.result.now c.args.out.now.items c.append_sorted.new.out.items c.requires.comes.ready.empty
+      (appended_sorted s.key m (with_tuple m x) d.windows s.scratch.items c.put.new.out.items c.as_slice.result.now c.args.out.now.items c.append_sorted.new.out.items (c.requires.comes.ready.told (sym c.needs_no_part.ensures.answer ∙ c.if-needs_no_part.false)).empty
       (c.put.ensures.changes m f.without s.store more all) c.as_slice.ensures.value c.append_sorted.ensures.items);
   capacity = c.append_sorted.ensures.capacity;
   fits = λ kept marks fits.
@@ -129,4 +130,85 @@ returns-clause-pace g c = record {
       all_take g.P.KeyPart.stands d g.P.KeyPart.is_asked m c.args.water s.next s.store s.parts.list.items c.before-2.new.self.list.items x c.put_in-joined.new.store refl c.requires.comes.ready.water_is f
       c.requires.position c.requires.few c.requires.comes.in_time.within c.requires.comes.in_time.accepted c.put_in-joined.ensures.comes c.before-2.ensures.stays c.before-2.ensures.asked in
       c.put.ensures.ahead m f.without s.store more all le (c.before-2.ensures.ahead c.args.water s.store each);
+}
+
+-- ---- no part need be told of it
+pub returns-then-needs_no_part-clause-taken : goal.returns-then-needs_no_part-clause-taken
+returns-then-needs_no_part-clause-taken g c = record {
+  key = search rules;
+  next = search rules;
+  changes = λ kept marks fits.
+      let s = c.args.self.now in
+      let d = c.args.defs.now in
+      let x = kept_at c.args.pos c.args.time c.args.value in
+      let f = fits.known in
+      none_appended c.args.out.now.items (changes_by_put d s.key kept marks c.args.water x)
+      (untold_changes d s.key kept marks c.args.water x f.held.may_leave.kinds (c.needs_no_part.ensures.timed c.if-needs_no_part.true) f.lists.kept.in_order c.requires.comes.in_time.within (c.needs_no_part.ensures.behind c.if-needs_no_part.true));
+  capacity = search rules;
+  fits = λ kept marks fits.
+      let x = kept_at c.args.pos c.args.time (to_z w64 (of_z w64 c.args.value)) in
+      let s = c.args.self.now in
+      let d = c.args.defs.now in
+      let m = moment kept marks c.args.water in
+      let f = fits.known in
+      let more = (c.put_in-entered.ensures.comes f.without).0 in
+      let step = put_step g.P.KeyPart.stands d m s.next s.store s.parts.list.items x more c.put_in-entered.new.store f c.requires.position c.requires.few c.requires.comes.in_time.within c.requires.comes.in_time.accepted (c.put_in-entered.ensures.comes f.without).1 in
+      subst (λ v. Fits g.P.KeyPart.stands d (put_in_order kept (kept_at c.args.pos c.args.time v)) marks c.args.water (c.args.pos + 1) c.put_in-entered.new.store s.parts.list.items) (to_z-of_z w64 c.args.value c.ranges.value)
+      (fits_put g.P.KeyPart.stands d kept marks c.args.water f.without s.store x more c.put_in-entered.new.store s.parts.list.items c.requires.comes.ready.water_is fits.none_settled step (subst (FitsSigned w64) (sym (to_z-of_z w64 c.args.value c.ranges.value)) c.ranges.value)
+      (all_untold g.P.KeyPart.stands d m f.without s.store x more c.put_in-entered.new.store s.parts.list.items (c.needs_no_part.ensures.timed c.if-needs_no_part.true) (c.needs_no_part.ensures.behind c.if-needs_no_part.true) step f.stood (g.met.P.AnyPart.stands_with_tuple d)) c.put_in-entered.ensures.bare);
+}
+
+pub returns-then-needs_no_part-clause-work : goal.returns-then-needs_no_part-clause-work
+returns-then-needs_no_part-clause-work g c = λ kept marks fits.
+    let x = kept_at c.args.pos c.args.time c.args.value in
+    let s = c.args.self.now in
+    let d = c.args.defs.now in
+    let m = moment kept marks c.args.water in
+    put_cost d s.key m (with_tuple m x) c.args.time s.store c.put_in-entered.new.store.reach 0 (length (changes_between d.windows s.key m (with_tuple m x))) c.args.steps.now c.args.steps.now c.put_in-entered.new.steps c.put_in-entered.new.steps
+    (omega arith) c.put_in-entered.ensures.work (omega arith) (omega arith) c.put_in-entered.ensures.reach refl
+
+pub returns-then-needs_no_part-clause-bound : goal.returns-then-needs_no_part-clause-bound
+returns-then-needs_no_part-clause-bound g c = λ kept marks fits.
+    let s = c.args.self.now in
+    let d = c.args.defs.now in
+    let m = moment kept marks c.args.water in
+    let new = moment (put_in_order kept (kept_at c.args.pos c.args.time c.args.value)) marks c.args.water in (
+      put_work d s.key m new c.args.time s.store,
+      put_is_bounded g.T.AggTree.bounded d s.key m fits.known.without c.args.time s.store fits.known.held fits.known.store fits.none_settled c.requires.comes.ready.reach new c.requires.comes.in_time.accepted,
+      returns-then-needs_no_part-clause-work g c kept marks fits,
+    )
+
+pub returns-then-needs_no_part-clause-due : goal.returns-then-needs_no_part-clause-due
+returns-then-needs_no_part-clause-due g c = λ stays kept marks due fits quiet.
+    let x = kept_at c.args.pos c.args.time c.args.value in
+    let s = c.args.self.now in
+    let d = c.args.defs.now in
+    let f = fits.known in
+    let now : Fits g.P.KeyPart.stands d (put_in_order kept x) marks c.args.water (c.args.pos + 1) c.put_in-entered.new.store s.parts.list.items = (returns-then-needs_no_part-clause-taken g c).fits kept marks fits in
+    let joins : Joins d.windows s.store c.args.time = joins_of d.windows s.store c.args.time f.store (c.put_in-entered.ensures.joined stays) in
+    let timed = c.needs_no_part.ensures.timed c.if-needs_no_part.true in
+    let tuples : tuples_of c.put_in-entered.new.store ≡ put_in_order (tuples_of s.store) x = subst (λ v. tuples_of c.put_in-entered.new.store ≡ put_in_order (tuples_of s.store) (kept_at c.args.pos c.args.time v)) (to_z-of_z w64 c.args.value c.ranges.value)
+    (c.put_in-entered.ensures.enters stays) in
+    record {
+      nothing_changes = λ new rises below.
+          quiet_with_tuple g.P.KeyPart.stands d s.key kept marks c.args.water new s.next (c.args.pos + 1) s.store c.put_in-entered.new.store s.parts.list.items s.parts.list.items x fits now timed joins rises
+          (quiet.nothing_changes new rises below);
+      waits = λ new is rises below.
+          waits_with_tuple g.P.KeyPart.stands d s.key kept marks c.args.water new s.next (c.args.pos + 1) s.store c.put_in-entered.new.store s.parts.list.items s.parts.list.items x fits now timed joins rises
+          g.met.P.KeyPart.waits tuples is (quiet.nothing_changes new rises below) (quiet.waits new is rises below);
+    }
+
+pub returns-then-needs_no_part-clause-pace : goal.returns-then-needs_no_part-clause-pace
+returns-then-needs_no_part-clause-pace g c = record {
+  credit = search rules;
+  ahead = λ le each.
+      let r = c.requires.comes.stands in
+      let x = kept_at c.args.pos c.args.time (to_z w64 (of_z w64 c.args.value)) in
+      let s = c.args.self.now in
+      let d = c.args.defs.now in
+      let m = moment r.0 r.1 c.args.water in
+      let f = r.2.known in
+      let more = (c.put_in-entered.ensures.comes f.without).0 in
+      let step = put_step g.P.KeyPart.stands d m s.next s.store s.parts.list.items x more c.put_in-entered.new.store f c.requires.position c.requires.few c.requires.comes.in_time.within c.requires.comes.in_time.accepted (c.put_in-entered.ensures.comes f.without).1 in
+      all_untold_ahead g.P.KeyPart.stands d m f.without s.store x more c.put_in-entered.new.store s.parts.list.items (c.needs_no_part.ensures.timed c.if-needs_no_part.true) (c.needs_no_part.ensures.behind c.if-needs_no_part.true) step f.stood g.P.KeyPart.is_ahead (g.met.P.AnyPart.ahead_with_tuple d) each;
 }
