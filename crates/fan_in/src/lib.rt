@@ -3,8 +3,8 @@
 //! *From* the entries of several feeds *to* the journals of several shards. *Stands on*
 //! `shard_core`, `turnstile`, `mail_lane` and `source_feed`. *Promise*: an offer is one turn that
 //! applies one entry. The entry then stands last in the list that the caller's pass has seen, under
-//! its number, and its changes are those of the definitions behind that list. A refused offer leaves
-//! the journal as it was, and its cause holds of it.
+//! its number, and its changes are those of the definitions behind that list. A refused offer
+//! leaves the journal as it was, and its cause holds of it.
 //!
 //! To gather is to read all feeds side by side and to apply each entry to its shards. There are two
 //! ways: `TurnFeeds` offers entries at a desk for each shard, and `MailFeeds` sends them on a lane

@@ -10,8 +10,8 @@ use shard_core::{ApplyFault, Shard};
 use source_feed::FeedFault;
 use std::thread::Threads;
 
-// The owner of a shard: it applies the entries of the shard's lane, and notes of each source whether
-// one of its entries was refused, or was left once memory had run out.
+// The owner of a shard: it applies the entries of the shard's lane, and notes of each source
+// whether one of its entries was refused, or was left once memory had run out.
 #[derive(Drop)]
 pub(crate) struct Owner {
     pub(crate) number: u16,

@@ -15,7 +15,9 @@ take_back-requires c =
     let o = c.index-owners-k.result in
     let box = c.unwrap-outbox.result in
     let is = (next_in c.args.row.items _ _ k box h.left (taken_first _ _ _ box c.next.ensures.items c.unwrap-outbox.ensures)).0 in
-    let may = subst (λ (j : OwnerJob). MayTakeBack _ j box) (sym (h.rest k o (omega arith))) (subst (λ (s : SenderState Entry). MayTakeBack _ _ s) (sym is) (c.requires.may k c.index-lanes-k.result o box c.loop-k-test.true)) in
+    let lane = get_or c.args.lanes.now k c.index-lanes-k.result in
+    let may = subst (λ (j : OwnerJob). MayTakeBack lane j box) (sym (h.rest k o (omega arith)))
+    (subst (λ (s : SenderState Entry). MayTakeBack lane (get_or c.args.owners.now k o) s) (sym is) (c.requires.may k c.index-lanes-k.result o box c.loop-k-test.true)) in
     let same = c.into_sender.ensures in
     record { receiver = may.own; sender = ap (λ (s : SenderState Entry). s.lane) same ∙ may.of_lane; next = ap (λ (s : SenderState Entry). s.number) same ∙ may.next }
 

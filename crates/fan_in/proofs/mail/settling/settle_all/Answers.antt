@@ -15,18 +15,15 @@ bring_back-requires-clause-boxes g c = rw c.deref.ensures.value (λ i row l. c.r
 pub settle_each-requires-clause-back : goal.settle_each-requires-clause-back
 settle_each-requires-clause-back g c κs within =
     let owners = c.args.owners in
-    let lent = c.as_mut_slice.ensures.value in
-    let many : length c.bring_back.new.owners ≡ length owners.items = c.bring_back.ensures.many ∙ ap length lent in
-    let w = written owners.len owners.items c.bring_back.new.owners (omega (arith, owners.ok.0)) many in
-    rw w (all_back _ _ _ owners.items c.bring_back.new.owners c.args.rows.items c.requires.owned c.requires.rows many (rw lent at c.bring_back.ensures.back))
+    let w = written owners.len owners.items c.bring_back.new.owners (omega (arith, owners.ok.0)) (c.bring_back.ensures.many ∙ ap length c.as_mut_slice.ensures.value) in
+    let back = rw c.as_mut_slice.ensures.value at c.bring_back.ensures.back in
+    rw w (all_back _ _ _ owners.items c.bring_back.new.owners c.args.rows.items c.requires.owned c.requires.rows (c.bring_back.ensures.many ∙ ap length c.as_mut_slice.ensures.value) back)
 
 pub settle_each-requires-clause-over : goal.settle_each-requires-clause-over
 settle_each-requires-clause-over g c κs within =
     let owners = c.args.owners in
-    let lent = c.as_mut_slice.ensures.value in
-    let many : length c.bring_back.new.owners ≡ length owners.items = c.bring_back.ensures.many ∙ ap length lent in
-    let w = written owners.len owners.items c.bring_back.new.owners (omega (arith, owners.ok.0)) many in
-    let back = rw lent at c.bring_back.ensures.back in
+    let w = written owners.len owners.items c.bring_back.new.owners (omega (arith, owners.ok.0)) (c.bring_back.ensures.many ∙ ap length c.as_mut_slice.ensures.value) in
+    let back = rw c.as_mut_slice.ensures.value at c.bring_back.ensures.back in
     rw w (λ i k o e l lk full.
     let row = some_of c.args.rows.items i (omega (arith, c.requires.rows.many, c.requires.one_each)) in
     let s = some_of (get_or c.args.rows.items i row).items k (omega (arith, (c.requires.rows.boxes i row (omega (arith, c.requires.one_each))).many)) in
@@ -36,11 +33,9 @@ settle_each-requires-clause-over g c κs within =
 pub returns-clause-held : goal.returns-clause-held
 returns-clause-held g c k i row b e s lk li =
     let owners = c.args.owners in
-    let lent = c.as_mut_slice.ensures.value in
-    let many : length c.bring_back.new.owners ≡ length owners.items = c.bring_back.ensures.many ∙ ap length lent in
-    let w = written owners.len owners.items c.bring_back.new.owners (omega (arith, owners.ok.0)) many in
+    let w = written owners.len owners.items c.bring_back.new.owners (omega (arith, owners.ok.0)) (c.bring_back.ensures.many ∙ ap length c.as_mut_slice.ensures.value) in
     let o = some_of owners.items k (omega (arith, c.requires.owned.many)) in
-    let back = rw lent at c.bring_back.ensures.back in
+    let back = rw c.as_mut_slice.ensures.value at c.bring_back.ensures.back in
     let held = rw w at c.settle_each.ensures.held in
     let is = back k o (omega (arith, c.requires.owned.many)) in
     subst (λ (sent : List Entry). HoldsSent k i sent (get_or c.settle_each.new.ends i e).outcome (get_or c.settle_each.new.shards.items k s).journal) (is.back i row b (omega (arith, c.requires.rows.many, c.requires.one_each)))
