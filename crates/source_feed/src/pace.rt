@@ -1,4 +1,4 @@
-ghost use Rattle.std.specs.Prelude.{◌≡◌, false, ◌<◌, ◌+◌, ◌^◌, ◌∷◌};
+ghost use Rattle.std.specs.Prelude.{◌≡◌, None, false, ◌<◌, ◌+◌, ◌^◌, ◌∷◌};
 ghost use Rattle.stream_base.specs.Model.What.{is_progress};
 ghost use Rattle.source_feed.specs.Events.{is_tuple};
 ghost use Rattle.source_feed.specs.Pace.{as_waters, made_by, paced, paced_over, told_by, waiting_of, waking_by};
@@ -55,22 +55,24 @@ impl Pace {
         }
     }
 
-    // Takes in the source's next event: answers what is told first of it, and what waits behind that.
-    pub fn take_in(&mut self, what: What) -> (What, Waiting)
-        requires { self.old.tuples + 1 < 2 ^ 64 }
-        ensures told { result.0 ∷ waiting_of result.1 ≡ told_by self.old what }
+    // Takes in the source's next event, where no event waits: answers what is told first of it, and puts
+    // what is told behind that where it waits.
+    pub fn take_in(&mut self, what: What, waiting: &mut Waiting) -> What
+        requires few { self.old.tuples + 1 < 2 ^ 64 }
+        requires none { waiting.old.event ≡ None }
+        ensures told { result ∷ waiting_of waiting.new ≡ told_by self.old what }
         ensures pace { self.new ≡ paced_over self.old (told_by self.old what) }
         ensures source { self.new.source ≡ self.old.source }
     {
         let waking = self.wake(&what);
         self.tell(&what);
-        let made = self.make(&what);
+        waiting.made = self.make(&what);
         match waking {
             Some(time) => {
-                let event = Some(what);
-                (What::Water { time }, Waiting { event, made })
+                waiting.event = Some(what);
+                What::Water { time }
             }
-            None => (what, Waiting { event: None, made }),
+            None => what,
         }
     }
 

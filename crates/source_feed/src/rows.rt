@@ -117,8 +117,7 @@ impl Rows {
         }
         match next_event(&mut self.reader, &mut self.fields, &mut self.number) {
             Ok(Some(what)) => {
-                let (first, waiting) = self.pace.take_in(what);
-                self.waiting = waiting;
+                let first = self.pace.take_in(what, &mut self.waiting);
                 Ok(Some(self.pace.entry(first)))
             }
             Ok(None) => {

@@ -1,4 +1,4 @@
-ghost use Rattle.std.specs.Prelude.{◌≡◌, ◌∷◌, [], IfSome, IfNone};
+ghost use Rattle.std.specs.Prelude.{◌≡◌, ◌∷◌, [], None, IfSome, IfNone};
 ghost use Rattle.source_feed.specs.Pace.{waiting_of};
 
 use stream_base::What;
@@ -25,6 +25,7 @@ impl Waiting {
     pub fn next(&mut self) -> Option<What>
         ensures some { IfSome result (λ what. waiting_of self.old ≡ what ∷ waiting_of self.new) }
         ensures none { IfNone result (waiting_of self.old ≡ []) }
+        ensures event { IfNone result (self.new.event ≡ None) }
         ensures same { IfNone result (self.new ≡ self.old) }
     {
         if let Some(what) = self.event {

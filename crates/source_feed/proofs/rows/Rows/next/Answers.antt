@@ -22,7 +22,7 @@ invariant_of-self-in-Ok-Some c =
     let took = rw c.in-Ok-Some.field-0-is at c.in-Ok-Some.ensures in
     let bounded : IsBounded a.pace = record { greatest = c.self.invariant.greatest; water = c.self.invariant.water } in
     let after = bounded_told a.pace c.in-Ok-Some.what bounded took.event in
-    let inner : AreInner (c.take_in-first.result.0 ∷ waiting_of c.take_in-first.result.1) = subst AreInner (sym told) (inner_told a.pace c.in-Ok-Some.what bounded took.event) in
+    let inner : AreInner (c.take_in-first.result ∷ waiting_of c.take_in-first.new.waiting) = subst AreInner (sym told) (inner_told a.pace c.in-Ok-Some.what bounded took.event) in
     let more = tuples_told a.pace c.in-Ok-Some.what in
     let before : a.pace.tuples ≤ a.number = rw c.in-Open.is at c.self.invariant.tuples in
     let further : a.number < c.next_event.new.number = took.on.further in
@@ -43,7 +43,7 @@ returns-in-Ok-Some-clause-gives c =
     let small : a.pace.source < 2 ^ 16 = omega arith in
     let bounded : IsBounded a.pace = record { greatest = c.self.invariant.greatest; water = c.self.invariant.water } in
     rw (← c.self.view_is, c.in-Open.is, c.entry-in-Ok-Some.ensures, c.take_in-first.ensures.pace)
-    (gives_event text_left a.number c.next_event.new.number a.reader c.next_event.new.reader a.pace (waiting_of a.waiting) (waiting_of c.take_in-first.result.1) c.in-Ok-Some.what c.take_in-first.result.0 c.in_default.ensures.none small bounded c.take_in-first.ensures.told (rw c.in-Ok-Some.field-0-is at c.in-Ok-Some.ensures))
+    (gives_event text_left a.number c.next_event.new.number a.reader c.next_event.new.reader a.pace (waiting_of a.waiting) (waiting_of c.take_in-first.new.waiting) c.in-Ok-Some.what c.take_in-first.result c.in_default.ensures.none small bounded c.take_in-first.ensures.told (rw c.in-Ok-Some.field-0-is at c.in-Ok-Some.ensures))
 
 -- no record is left
 pub returns-in-Ok-None-clause-gives : goal.returns-in-Ok-None-clause-gives
