@@ -1,4 +1,4 @@
-use Rattle.std.proofs.Common.{◌≡◌, ◌<◌, get_or, length, refl, sym, ap, subst, ◌∙◌, arith, option_to_list}
+use Rattle.std.proofs.Common.{get_or, length, refl, sym, ap, subst, ◌∙◌, arith, option_to_list}
 use Rattle.std.proofs.lemmas.List.{get_or_default, get_or-set_other, length-set}
 use Rattle.mail_lane.specs.Lane.{Lane, SenderState, with_back}
 use Rattle.stream_base.specs.declared.entry.Entry.{Entry}
