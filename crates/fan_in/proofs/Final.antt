@@ -1,5 +1,5 @@
 -- From the desks that were opened and the feeds that were read to what is handed back.
-use Rattle.std.proofs.Common.{◌≡◌, ◌≤◌, ◌<◌, ◌+◌, arith, ℕ, List, [], ◌++◌, length, get_or, sym, ap, subst, ◌∙◌, ◌⊎◌, ⊎_elim, Option, Some}
+use Rattle.std.proofs.Common.{◌≡◌, ◌≤◌, ◌<◌, ◌+◌, arith, ℕ, List, ◌++◌, length, get_or, sym, ap, subst, ◌∙◌, ◌⊎◌, ⊎_elim, Option, Some}
 use Rattle.std.specs.Prelude.{All, IfSome, Vec}
 use Rattle.std.specs.declared.alloc.Global.{Global}
 use Rattle.stream_base.specs.declared.entry.Entry.{Entry}

@@ -1,5 +1,5 @@
 -- The lanes are settled one by one.
-use Rattle.std.proofs.Common.{◌≡◌, ◌≤◌, ◌<◌, ◌+◌, arith, append-nil, length-append, ℕ, true, false, Bool, List, [], ◌∷◌, ◌++◌, length, drop, get_or, map, sym, refl, ap, subst, ◌∙◌, ⊎_elim}
+use Rattle.std.proofs.Common.{◌≡◌, ◌<◌, ◌+◌, arith, append-nil, length-append, ℕ, true, false, Bool, List, [], ◌∷◌, ◌++◌, length, drop, get_or, map, sym, refl, ap, subst, ◌∙◌, ⊎_elim}
 use Rattle.std.specs.Prelude.{All, Vec}
 use Rattle.std.specs.declared.alloc.Global.{Global}
 use Rattle.std.proofs.lemmas.Bool.{cases_lt}

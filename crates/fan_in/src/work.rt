@@ -72,7 +72,7 @@ pub(crate) fn fill<F, P: Drop>(
     feeds.destroy_empty();
 }
 
-// Takes the readers apart again, the last one first, which is the first feed's.
+// What came of the readers, once they were filled in and have read.
 pub(crate) fn take_apart<F, P: Drop>(work: Work<F, P>) -> (Vec<FeedEnd<F>>, Vec<Vec<P>>)
     requires ends { IsReserved (length work.readers.items) work.ends }
     requires rows { IsReserved (length work.readers.items) work.rows }
@@ -86,10 +86,31 @@ pub(crate) fn take_apart<F, P: Drop>(work: Work<F, P>) -> (Vec<FeedEnd<F>>, Vec<
         } }
 {
     let Work {
-        mut readers,
+        readers,
         mut ends,
         mut rows,
     } = work;
+    take_readers(readers, &mut ends, &mut rows);
+    (ends, rows)
+}
+
+// Takes the readers apart again, the last one first, which is the first feed's.
+fn take_readers<F, P: Drop>(
+    mut readers: Vec<Reader<F, P>>,
+    ends: &mut Vec<FeedEnd<F>>,
+    rows: &mut Vec<Vec<P>>,
+)
+    requires ends { IsReserved (length readers.items) ends.old }
+    requires rows { IsReserved (length readers.items) rows.old }
+    ensures many_ends { length ends.new.items ≡ length readers.items }
+    ensures many_rows { length rows.new.items ≡ length readers.items }
+    ensures each { (i j : ℕ) (e : _) (row : _) (r : _) → i + j + 1 ≡ length readers.items
+        → slice_index_or readers.items i r ≡ record {
+          feed = (slice_index_or ends.new.items j e).feed;
+          outcome = (slice_index_or ends.new.items j e).outcome;
+          ports = slice_index_or rows.new.items j row;
+        } }
+{
     for _i in 0..readers.len() {
         let Reader {
             feed,
@@ -100,5 +121,4 @@ pub(crate) fn take_apart<F, P: Drop>(work: Work<F, P>) -> (Vec<FeedEnd<F>>, Vec<
         rows.push_reserved(ports);
     }
     readers.destroy_empty();
-    (ends, rows)
 }

@@ -1,6 +1,6 @@
-use Rattle.std.proofs.Common.{◌≡◌, ◌<◌, get_or, length, refl, sym, ap, subst, ◌∙◌, arith, option_to_list}
+use Rattle.std.proofs.Common.{get_or, length, refl, sym, ap, subst, ◌∙◌, arith, option_to_list}
 use Rattle.std.proofs.lemmas.List.{get_or_default, get_or-set_other, length-set}
-use Rattle.mail_lane.specs.Lane.{SenderState, with_back}
+use Rattle.mail_lane.specs.Lane.{Lane, SenderState, with_back}
 use Rattle.stream_base.specs.declared.entry.Entry.{Entry}
 use Rattle.fan_in.specs.Settling.{MayTakeBack, TookBack}
 use Rattle.fan_in.specs.declared.mail.owner_job.OwnerJob.{OwnerJob}
@@ -16,8 +16,9 @@ take_back-requires c =
     let box = c.unwrap-outbox.result in
     let is = (next_in c.args.row.items _ _ k box h.left (taken_first _ _ _ box c.next.ensures.items c.unwrap-outbox.ensures)).0 in
     let lane = get_or c.args.lanes.now k c.index-lanes-k.result in
-    let may = subst (λ (j : OwnerJob). MayTakeBack lane j box) (sym (h.rest k o (omega arith)))
-    (subst (λ (s : SenderState Entry). MayTakeBack lane (get_or c.args.owners.now k o) s) (sym is) (c.requires.may k c.index-lanes-k.result o box c.loop-k-test.true)) in
+    let may = subst (λ (l : Lane). MayTakeBack l (get_or c.loop-k.owners k o) box) (sym c.index-lanes-k.is)
+    (subst (λ (j : OwnerJob). MayTakeBack lane j box) (sym (h.rest k o (omega arith)))
+    (subst (λ (s : SenderState Entry). MayTakeBack lane (get_or c.args.owners.now k o) s) (sym is) (c.requires.may k c.index-lanes-k.result o box c.loop-k-test.true))) in
     let same = c.into_sender.ensures in
     record { receiver = may.own; sender = ap (λ (s : SenderState Entry). s.lane) same ∙ may.of_lane; next = ap (λ (s : SenderState Entry). s.number) same ∙ may.next }
 

@@ -1,6 +1,6 @@
 use Rattle.std.proofs.Common.{◌≡◌, ◌<◌, ◌+◌, ℕ, take, length, slice_index_or}
 use Rattle.std.specs.Vec.{vec_capacity}
-use Rattle.fan_in.proofs.work.take_apart.Given as goal
+use Rattle.fan_in.proofs.work.take_readers.Given as goal
 
 abbrev pub invariant-loop-i : goal.invariant-loop-i
 invariant-loop-i g l = record {
