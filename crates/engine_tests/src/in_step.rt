@@ -2,8 +2,9 @@
 
 ghost use Rattle.std.specs.Prelude.{◌≡◌, ◌≤◌, ◌<◌, length, true, IfOk, OnOk};
 ghost use Rattle.stream_base.specs.Model.Journals.{is_entry_within};
+ghost use Rattle.engine_tests.specs.Courses.{IsCourse};
 
-use crate::entries::{Draws, ENTRIES_MAX, KEYS_MAX, entry};
+use crate::entries::{Course, Draws, KEYS_MAX, entry};
 use agg_laws::Steps;
 use plain_keys::PlainKey;
 use shard_core::{Applied, ApplyFault, KeyedShard, Shard, apply_counted};
@@ -56,14 +57,6 @@ impl Seen {
     }
 }
 
-// How many entries there are, of how many keys, and where their draws begin.
-#[derive(Clone, Copy)]
-pub struct Course {
-    pub entries: u64,
-    pub keys: u64,
-    pub seed: u64,
-}
-
 // What two shards of two sources, with an empty journal, say of the generated entries.
 pub fn compared<R: Abort + Threads>(
     rt: &R,
@@ -71,33 +64,24 @@ pub fn compared<R: Abort + Threads>(
     defs: Defs,
     course: Course,
 ) -> Result<Seen, Fail>
-    requires entries { course.entries ≤ ENTRIES_MAX }
-    requires some { 1 ≤ course.keys }
-    requires few { course.keys ≤ KEYS_MAX }
+    requires { IsCourse course }
 {
     let mut steps: Steps<Work> = Steps::start(rt);
     let keys = keys_of(alloc, course.keys)?;
     let mut plain: PlainShard = KeyedShard::new(alloc, defs.copy(alloc)?, 2)?;
     let mut sliced: Shard = KeyedShard::new(alloc, defs, 2)?;
-    apply_all(
-        rt,
-        &mut plain,
-        &mut sliced,
-        &keys,
-        course.entries,
-        course.seed,
-        &mut steps,
-    )
+    apply_all(rt, &mut plain, &mut sliced, &keys, &course, &mut steps)
 }
 
-// So many keys, each of one letter.
+// So many keys, each of two letters.
 fn keys_of(alloc: Global, count: u64) -> Result<Vec<KeyText>, Fail>
     requires { count ≤ KEYS_MAX }
     ensures { IfOk result (λ keys. length keys.items ≡ count) }
 {
     let mut keys = Vec::new(alloc);
     for number in 0..count {
-        keys.push(KeyText::from_bytes(&[b'a' + number as u8])?)?;
+        let letters = [b'a' + (number / 26) as u8, b'a' + (number % 26) as u8];
+        keys.push(KeyText::from_bytes(&letters)?)?;
     }
     Ok(keys)
 }
@@ -108,25 +92,27 @@ fn apply_all(
     plain: &mut PlainShard,
     sliced: &mut Shard,
     keys: &[KeyText],
-    entries: u64,
-    seed: u64,
+    course: &Course,
     steps: &mut Steps<Work>,
 ) -> Result<Seen, Fail>
-    requires entries { entries ≤ ENTRIES_MAX }
+    requires course { IsCourse course.now }
     requires keys { 1 ≤ length keys.now }
     requires plain { plain.old.sources ≡ 2 }
     requires sliced { sliced.old.sources ≡ 2 }
 {
-    let mut draws = Draws { seed };
+    let mut draws = Draws { seed: course.seed };
     let mut seen = Seen::nothing();
     let watched = keys.len().min(3);
-    'entries: for number in 0..entries {
-        let entry = entry(number, entries, &mut draws, keys);
+    'entries: for number in 0..course.entries {
+        let entry = entry(number, course, &mut draws, keys);
         step(rt, plain, sliced, &entry, steps, &mut seen)?;
         compare_slices(rt, plain, sliced, &keys[..watched], number, &mut seen);
     }
     assert_eq!(rt; plain.journal_len(), sliced.journal_len());
-    assert_eq!(rt; plain.journal_len().saturating_add(seen.refused), entries);
+    assert_eq!(rt;
+        plain.journal_len().saturating_add(seen.refused),
+        course.entries
+    );
     Ok(seen)
 }
 

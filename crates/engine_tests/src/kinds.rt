@@ -4,7 +4,11 @@
 //! 6,000 units. So a key has a tuple about each 13 units, and a mark each 90. The floors below are
 //! well under what follows from that for each kind.
 
-use crate::in_step::{Course, Seen, compared};
+ghost use Rattle.std.specs.Prelude.{◌≡◌, ◌≤◌};
+ghost use Rattle.engine_tests.specs.Courses.{IsCourse};
+
+use crate::entries::Course;
+use crate::in_step::{Seen, compared};
 use std::alloc::Global;
 use std::process::Abort;
 use std::test::Fail;
@@ -12,12 +16,12 @@ use stream_base::{Def, Defs, Func, Kind};
 
 // The course of most tests.
 fn course(seed: u64) -> Course
-    ensures entries { result.entries ≡ 2000 }
-    ensures keys { result.keys ≡ 3 }
+    ensures { IsCourse result }
 {
     Course {
         entries: 2_000,
         keys: 3,
+        spread: 1,
         seed,
     }
 }
@@ -118,8 +122,8 @@ fn events_windows_are_the_same_by_lists_and_by_slices(rt: HostRuntime) -> Result
 // as much longer than it.
 fn all_kinds(alloc: Global, pause: u64, lateness: u64) -> Result<Defs, Fail>
     requires some { 1 ≤ pause }
-    requires short { pause ≤ 1000 }
-    requires late { lateness ≤ 1000 }
+    requires short { pause ≤ 10000 }
+    requires late { lateness ≤ 10000 }
 {
     let windows = vec![in alloc;
         Def {
@@ -159,16 +163,18 @@ fn all_kinds_at_once_are_the_same_by_lists_and_by_slices(rt: HostRuntime) -> Res
     Ok(())
 }
 
-// Fifty times as many entries, of which each key has a tuple about each 86 units.
+// Fifty times as many entries, of so many keys that each has a tuple about each 2,140 units, and
+// their times stray fifty times as far.
 #[test]
 fn long_runs_of_all_kinds_are_the_same_by_lists_and_by_slices(rt: HostRuntime) -> Result<(), Fail> {
     let alloc = rt.alloc();
     let long = Course {
         entries: 100_000,
-        keys: 20,
+        keys: 500,
+        spread: 50,
         seed: 7,
     };
-    let seen = compared(&rt, alloc, all_kinds(alloc, 100, 120)?, long)?;
+    let seen = compared(&rt, alloc, all_kinds(alloc, 2_000, 5_000)?, long)?;
     assert_seen(&rt, seen, 100_000);
     assert!(rt; seen.slices > 100_000, "{seen:?}");
     Ok(())
