@@ -5,45 +5,46 @@ use agg_queue::{Daba, TwoStacks};
 use aggregates::{Sum, Trace};
 use std::collections::VecDeque;
 use std::process::Abort;
-use std::test::Fail;
 
 // Keeps the steps of a test apart.
 struct Work;
 
+// What each row shows, the sum of all items, and then the first one, which goes out.
+const OUT: [(&str, Sum, Option<Sum>); 4] = [
+    ("of three", Sum { sum: 6 }, Some(Sum { sum: 1 })),
+    ("of two", Sum { sum: 5 }, Some(Sum { sum: 2 })),
+    ("of one", Sum { sum: 3 }, Some(Sum { sum: 3 })),
+    ("of none", Sum { sum: 0 }, None),
+];
+
 // Three numbers go in, come out in the same order, and are added up before and between.
-fn adds_up_in_order<Q: AggQueue<Sum>>(
-    rt: &impl Abort,
-    queue: &mut Q,
-    steps: &mut Steps<Work>,
-) -> Result<(), Fail> {
-    queue.reserve(3)?;
+fn adds_up_in_order<Q: AggQueue<Sum>>(rt: &impl Abort, queue: &mut Q, steps: &mut Steps<Work>) {
+    let Ok(()) = queue.reserve(3) else {
+        panic!(rt; "no memory");
+    };
     queue.push(Sum::lift(1), steps);
     queue.push(Sum::lift(2), steps);
     queue.push(Sum::lift(3), steps);
     assert_eq!(rt; queue.len(), 3);
-    assert_eq!(rt; queue.fold(steps), Sum { sum: 6 });
-    assert_eq!(rt; queue.pop(steps), Some(Sum { sum: 1 }));
-    assert_eq!(rt; queue.fold(steps), Sum { sum: 5 });
-    assert_eq!(rt; queue.pop(steps), Some(Sum { sum: 2 }));
-    assert_eq!(rt; queue.pop(steps), Some(Sum { sum: 3 }));
-    assert_eq!(rt; queue.pop(steps), None);
-    Ok(())
+    for (word, all, first) in &OUT {
+        assert_eq!(rt;
+            (queue.fold(steps), queue.pop(steps)),
+            (*all, *first),
+            "{word}"
+        );
+    }
 }
 
 // The fold keeps the order of the numbers, and an emptied queue folds to the unit.
-fn keeps_the_order<Q: AggQueue<Trace>>(
-    rt: &impl Abort,
-    queue: &mut Q,
-    steps: &mut Steps<Work>,
-) -> Result<(), Fail> {
-    queue.reserve(2)?;
+fn keeps_the_order<Q: AggQueue<Trace>>(rt: &impl Abort, queue: &mut Q, steps: &mut Steps<Work>) {
+    let Ok(()) = queue.reserve(2) else {
+        panic!(rt; "no memory");
+    };
     queue.push(Trace::lift(3), steps);
     queue.push(Trace::lift(1), steps);
     assert_eq!(rt; queue.fold(steps).b, 3_298_534_884_634);
     queue.clear();
-    assert_eq!(rt; queue.len(), 0);
-    assert_eq!(rt; queue.fold(steps), Trace { a: 1, b: 0 });
-    Ok(())
+    assert_eq!(rt; (queue.len(), queue.fold(steps)), (0, Trace { a: 1, b: 0 }));
 }
 
 // A caller of two stacks themselves has their bounds on credit.
@@ -66,42 +67,41 @@ fn through_daba(queue: &mut Daba<Sum>, value: Sum, steps: &mut Steps<Work>) -> S
     queue.fold(steps)
 }
 
-#[test]
-fn two_stacks_add_up_in_order(rt: HostRuntime) -> Result<(), Fail> {
-    let mut steps: Steps<Work> = Steps::start(&rt);
-    let mut queue: TwoStacks<Sum> = TwoStacks::fresh(rt.alloc());
-    adds_up_in_order(&rt, &mut queue, &mut steps)?;
-    queue.reserve(1)?;
+fn works_as_two_stacks(rt: &impl Abort, queue: &mut TwoStacks<Sum>, steps: &mut Steps<Work>) {
+    adds_up_in_order(rt, queue, steps);
+    let Ok(()) = queue.reserve(1) else {
+        panic!(rt; "no memory");
+    };
     assert_eq!(rt;
-        through_two_stacks(&mut queue, Sum::lift(4), &mut steps),
+        through_two_stacks(queue, Sum::lift(4), steps),
         Sum { sum: 0 }
     );
-    Ok(())
+}
+
+fn works_as_daba(rt: &impl Abort, queue: &mut Daba<Sum>, steps: &mut Steps<Work>) {
+    adds_up_in_order(rt, queue, steps);
+    let Ok(()) = queue.reserve(1) else {
+        panic!(rt; "no memory");
+    };
+    assert_eq!(rt; through_daba(queue, Sum::lift(4), steps), Sum { sum: 0 });
 }
 
 #[test]
-fn daba_adds_up_in_order(rt: HostRuntime) -> Result<(), Fail> {
+fn two_stacks_add_up_and_keep_the_order(rt: HostRuntime) {
     let mut steps: Steps<Work> = Steps::start(&rt);
-    let mut queue: Daba<Sum> = Daba::fresh(rt.alloc());
-    adds_up_in_order(&rt, &mut queue, &mut steps)?;
-    queue.reserve(1)?;
-    assert_eq!(rt;
-        through_daba(&mut queue, Sum::lift(4), &mut steps),
-        Sum { sum: 0 }
-    );
-    Ok(())
+    let mut sums: TwoStacks<Sum> = TwoStacks::fresh(rt.alloc());
+    works_as_two_stacks(&rt, &mut sums, &mut steps);
+    let mut traces: TwoStacks<Trace> = TwoStacks::fresh(rt.alloc());
+    keeps_the_order(&rt, &mut traces, &mut steps);
 }
 
 #[test]
-fn two_stacks_keep_the_order(rt: HostRuntime) -> Result<(), Fail> {
-    let mut queue: TwoStacks<Trace> = TwoStacks::fresh(rt.alloc());
-    keeps_the_order(&rt, &mut queue, &mut Steps::start(&rt))
-}
-
-#[test]
-fn daba_keeps_the_order(rt: HostRuntime) -> Result<(), Fail> {
-    let mut queue: Daba<Trace> = Daba::fresh(rt.alloc());
-    keeps_the_order(&rt, &mut queue, &mut Steps::start(&rt))
+fn daba_adds_up_and_keeps_the_order(rt: HostRuntime) {
+    let mut steps: Steps<Work> = Steps::start(&rt);
+    let mut sums: Daba<Sum> = Daba::fresh(rt.alloc());
+    works_as_daba(&rt, &mut sums, &mut steps);
+    let mut traces: Daba<Trace> = Daba::fresh(rt.alloc());
+    keeps_the_order(&rt, &mut traces, &mut steps);
 }
 
 // The numbers of a plain list, each standing for n -> 1099511628211 * n + number, one after another.
@@ -130,7 +130,7 @@ fn same_call<Q: AggQueue<Trace>>(
     queue: &mut Q,
     list: &mut VecDeque<i64>,
     steps: &mut Steps<Work>,
-) -> Result<(), Fail> {
+) {
     match lot % 256 {
         0 => {
             queue.clear();
@@ -139,29 +139,47 @@ fn same_call<Q: AggQueue<Trace>>(
         1..=120 => assert_eq!(rt; queue.pop(steps), list.pop_front().map(Trace::lift)),
         _ => {
             let number = lot.cast_signed();
-            queue.reserve(1)?;
+            let Ok(()) = list.push_back(number) else {
+                panic!(rt; "no memory");
+            };
+            let Ok(()) = queue.reserve(1) else {
+                panic!(rt; "no memory");
+            };
             queue.push(Trace::lift(number), steps);
-            list.push_back(number)?;
         }
     }
-    assert_eq!(rt; queue.len(), list.len() as u64);
-    assert_eq!(rt; queue.fold(steps), traced(list));
-    Ok(())
+    assert_eq!(rt;
+        (queue.len(), queue.fold(steps)),
+        (list.len() as u64, traced(list))
+    );
 }
 
-#[test]
-fn both_fold_as_a_plain_list_over_mixed_calls(rt: HostRuntime) -> Result<(), Fail> {
-    let mut steps: Steps<Work> = Steps::start(&rt);
-    let mut stacks: TwoStacks<Trace> = TwoStacks::fresh(rt.alloc());
-    let mut daba: Daba<Trace> = Daba::fresh(rt.alloc());
-    let mut lists = (VecDeque::new(rt.alloc()), VecDeque::new(rt.alloc()));
+// A queue folds as a plain list over 4000 mixed calls.
+fn folds_as_a_list<Q: AggQueue<Trace>>(
+    rt: &impl Abort,
+    queue: &mut Q,
+    list: &mut VecDeque<i64>,
+    steps: &mut Steps<Work>,
+) {
     let mut draw = 1;
     for _ in 0..4000 {
         draw = next_draw(draw);
-        same_call(&rt, draw >> 33, &mut stacks, &mut lists.0, &mut steps)?;
-        same_call(&rt, draw >> 33, &mut daba, &mut lists.1, &mut steps)?;
+        same_call(rt, draw >> 33, queue, list, steps);
     }
-    Ok(())
+}
+
+#[test]
+fn two_stacks_fold_as_a_plain_list_over_mixed_calls(rt: HostRuntime) {
+    let mut queue: TwoStacks<Trace> = TwoStacks::fresh(rt.alloc());
+    let mut list = VecDeque::new(rt.alloc());
+    folds_as_a_list(&rt, &mut queue, &mut list, &mut Steps::start(&rt));
+}
+
+#[test]
+fn daba_folds_as_a_plain_list_over_mixed_calls(rt: HostRuntime) {
+    let mut queue: Daba<Trace> = Daba::fresh(rt.alloc());
+    let mut list = VecDeque::new(rt.alloc());
+    folds_as_a_list(&rt, &mut queue, &mut list, &mut Steps::start(&rt));
 }
 
 // The numbers of a plain list added up.
@@ -173,27 +191,40 @@ fn summed(numbers: &VecDeque<i64>) -> Sum {
     all
 }
 
-#[test]
-fn daba_keeps_its_bounds_over_ten_thousand_items(rt: HostRuntime) -> Result<(), Fail> {
-    let mut steps: Steps<Work> = Steps::start(&rt);
-    let mut queue: Daba<Sum> = Daba::fresh(rt.alloc());
-    let mut list = VecDeque::new(rt.alloc());
-    queue.reserve(10_000)?;
+// Ten thousand items come and go in 20,000 calls, each within its bound.
+fn keeps_its_bounds(
+    rt: &impl Abort,
+    queue: &mut Daba<Sum>,
+    list: &mut VecDeque<i64>,
+    steps: &mut Steps<Work>,
+)
+    requires { 10000 ≤ queue.old.spare }
+{
     let mut pushed: u32 = 0;
     for call in 0..20_000 {
         let before = steps.count();
         if pushed < 10_000 && call % 12 < 7 {
-            queue.push(Sum::lift(i64::from(pushed)), &mut steps);
-            list.push_back(i64::from(pushed))?;
+            let Ok(()) = list.push_back(i64::from(pushed)) else {
+                panic!(rt; "no memory");
+            };
+            queue.push(Sum::lift(i64::from(pushed)), steps);
             pushed += 1;
             assert!(rt; steps.count() <= before.saturating_add(4));
         } else {
-            assert_eq!(rt; queue.pop(&mut steps), list.pop_front().map(Sum::lift));
+            assert_eq!(rt; queue.pop(steps), list.pop_front().map(Sum::lift));
             assert!(rt; steps.count() <= before.saturating_add(3));
         }
-        assert_eq!(rt; queue.fold(&mut steps), summed(&list));
+        assert_eq!(rt; queue.fold(steps), summed(list));
     }
-    assert_eq!(rt; pushed, 10_000);
-    assert_eq!(rt; queue.len(), 0);
-    Ok(())
+    assert_eq!(rt; (pushed, queue.len()), (10_000, 0));
+}
+
+#[test]
+fn daba_keeps_its_bounds_over_ten_thousand_items(rt: HostRuntime) {
+    let mut queue: Daba<Sum> = Daba::fresh(rt.alloc());
+    let mut list = VecDeque::new(rt.alloc());
+    let Ok(()) = queue.reserve(10_000) else {
+        panic!(rt; "no memory");
+    };
+    keeps_its_bounds(&rt, &mut queue, &mut list, &mut Steps::start(&rt));
 }

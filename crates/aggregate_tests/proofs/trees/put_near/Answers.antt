@@ -5,8 +5,8 @@ use Rattle.aggregate_tests.proofs.Absent.{none_left}
 use Rattle.aggregate_tests.proofs.trees.put_near.Goals as goal
 
 pub insert_near-grown-requires : goal.insert_near-grown-requires
-insert_near-grown-requires c =
+insert_near-grown-requires c d =
     record {
-      absent = ap (has_key c.args.key) (c.reserve.ensures.reserves.kept ∙ c.remove-former.ensures.removes.rest) ∙ none_left (λ p. p.0 == c.args.key) c.args.tree.now.table.pairs;
+      absent = ap (has_key d.args.key) (d.reserve.ensures.reserves.kept ∙ d.remove-former.ensures.removes.rest) ∙ none_left (λ p. p.0 == d.args.key) d.args.tree.now.table.pairs;
       room = search rules;
     }

@@ -1,6 +1,6 @@
 -- There is room for all that are still to be pushed.
 use Rattle.std.proofs.Common.{◌≤◌, ◌+◌}
-use Rattle.aggregate_tests.proofs.queues.daba_keeps_its_bounds_over_ten_thousand_items.Given as goal
+use Rattle.aggregate_tests.proofs.queues.keeps_its_bounds.Given as goal
 
 abbrev pub invariant-loop-call : goal.invariant-loop-call
 invariant-loop-call g l = 10000 ≤ l.queue.spare + l.pushed
