@@ -5,13 +5,13 @@
 #[cfg(test)]
 mod checks;
 #[cfg(test)]
-mod faults;
-#[cfg(test)]
-mod findings;
-#[cfg(test)]
 mod lines;
 #[cfg(test)]
 mod reports;
+#[cfg(test)]
+mod said;
+#[cfg(test)]
+mod sinks;
 #[cfg(test)]
 mod summaries;
 #[cfg(test)]

@@ -1,14 +1,12 @@
-ghost use Rattle.std.specs.Prelude.{◌≡◌, IfOk, OnOk};
+ghost use Rattle.std.specs.Prelude.{◌≡◌};
 
+use crate::said::{Said, what_of};
+use crate::sinks::{failing_sink, is_prefix};
 use agg_laws::Steps;
 use emission_text::write_report;
-use outside::MemSink;
 use shard_core::Shard;
-use std::alloc::Global;
 use std::process::Abort;
-use std::test::Fail;
-use std::thread::Threads;
-use stream_base::{Def, Defs, Entry, Func, KeyText, Kind, What};
+use stream_base::{Def, Defs, Entry, Func, Kind, What};
 
 // Keeps the counters of a test apart.
 struct Work;
@@ -30,89 +28,80 @@ j 0 e
 end
 ";
 
+// What the sources of two shards say, whose report this is.
+const FIRST: [Said; 3] = [Said::Tuple("b", 2, 6), Said::Water(10), Said::End];
+
+const SECOND: [Said; 5] = [
+    Said::Tuple("a", 1, -5),
+    Said::Water(10),
+    Said::Tuple("a", 9, 7),
+    Said::Tuple("c", 19, 0),
+    Said::End,
+];
+
 // A shard for one source, with sums over tumbling windows of length 10.
-fn empty_shard(alloc: Global) -> Result<Shard, Fail>
-    ensures { IfOk result (λ shard. shard.sources ≡ 1) }
+fn empty_shard(rt: &(impl AllocGlobal + Abort)) -> Shard
+    ensures { result.sources ≡ 1 }
 {
     let tumbling = Def {
         kind: Kind::Tumbling { length: 10 },
         func: Func::Sum,
     };
-    let defs = Defs::new(vec![in alloc; tumbling]?, 0, 0, 0)?;
-    Ok(Shard::new(alloc, defs, 1)?)
+    let Ok(windows) = vec![in rt.alloc(); tumbling] else {
+        panic!(rt; "out of memory");
+    };
+    let Ok(defs) = Defs::new(windows, 0, 0, 0) else {
+        panic!(rt; "no definitions");
+    };
+    let Ok(shard) = Shard::new(rt.alloc(), defs, 1) else {
+        panic!(rt; "out of memory");
+    };
+    shard
 }
 
-fn put(rt: &impl Abort, shard: &mut Shard, what: What, steps: &mut Steps<Work>) -> Result<(), Fail>
+fn put(rt: &impl Abort, shard: &mut Shard, what: What, steps: &mut Steps<Work>)
     requires { shard.old.sources ≡ 1 }
-    ensures { OnOk result (shard.new.sources ≡ 1) }
+    ensures { shard.new.sources ≡ 1 }
 {
     let entry = Entry { source: 0, what };
     assert!(rt; entry.is_within_limits());
-    let _applied = shard.apply(&entry, steps)?;
-    Ok(())
+    let Ok(_applied) = shard.apply(&entry, steps) else {
+        panic!(rt; "refused");
+    };
 }
 
 // A shard whose source said this.
-fn shard_of(
-    rt: &impl Abort,
-    alloc: Global,
-    said: &[What],
-    steps: &mut Steps<Work>,
-) -> Result<Shard, Fail> {
-    let mut shard = empty_shard(alloc)?;
+fn shard_of(rt: &(impl AllocGlobal + Abort), said: &[Said], steps: &mut Steps<Work>) -> Shard {
+    let mut shard = empty_shard(rt);
     for what in said {
-        put(rt, &mut shard, *what, steps)?;
+        put(rt, &mut shard, what_of(rt, what), steps);
     }
-    Ok(shard)
+    shard
 }
 
-fn tuple(key: KeyText, time: u64, value: i64) -> What {
-    What::Tuple { key, time, value }
+// The report of shards, of which the write of this number fails, where it takes so many.
+fn goes_out(rt: &(impl AllocGlobal + Abort), shards: &[Shard; 2], writes: u64, failing: u64) {
+    let mut sink = failing_sink(rt, 1_000, failing, 8);
+    let written = write_report(shards, &mut sink).is_ok();
+    assert_eq!(rt; written, failing == writes, "write {failing}");
+    let count = if written {
+        REPORT.len() as u64
+    } else {
+        failing.saturating_mul(8)
+    };
+    is_prefix(rt, &sink, REPORT, count, failing);
 }
 
-fn water(time: u64) -> What {
-    What::Water { time }
-}
-
-// Two shards whose report is known.
-fn two_shards<R: Abort + Threads>(rt: &R, alloc: Global) -> Result<[Shard; 2], Fail> {
-    let a = KeyText::from_bytes(b"a")?;
-    let b = KeyText::from_bytes(b"b")?;
-    let c = KeyText::from_bytes(b"c")?;
-    let said = [tuple(b, 2, 6), water(10), What::End];
-    let more = [
-        tuple(a, 1, -5),
-        water(10),
-        tuple(a, 9, 7),
-        tuple(c, 19, 0),
-        What::End,
+// Each write of the report fails in turn, and at last none.
+#[test]
+fn a_report_goes_out_whole_or_a_prefix_where_a_write_fails(rt: HostRuntime) {
+    let mut steps: Steps<Work> = Steps::start(&rt);
+    let shards = [
+        shard_of(&rt, &FIRST, &mut steps),
+        shard_of(&rt, &SECOND, &mut steps),
     ];
-    let mut steps: Steps<Work> = Steps::start(rt);
-    let first = shard_of(rt, alloc, &said, &mut steps)?;
-    let second = shard_of(rt, alloc, &more, &mut steps)?;
-    Ok([first, second])
-}
-
-#[test]
-fn a_report_has_each_shard_with_its_entries_and_their_changes(rt: HostRuntime) -> Result<(), Fail> {
-    let shards = two_shards(&rt, rt.alloc())?;
-    let mut sink = MemSink::new(rt.alloc(), 1_000, Vec::new(rt.alloc()), 8)?;
-    write_report(&shards, &mut sink)?;
-    assert_eq!(rt; str::from_utf8(sink.bytes())?, str::from_utf8(REPORT)?);
-    Ok(())
-}
-
-#[test]
-fn where_a_write_fails_a_prefix_of_the_report_went_out(rt: HostRuntime) -> Result<(), Fail> {
-    let shards = two_shards(&rt, rt.alloc())?;
-    let pieces = REPORT.len().div_ceil(8) as u64;
-    for failing in 0..pieces {
-        let failing_calls = vec![in rt.alloc(); failing]?;
-        let mut sink = MemSink::new(rt.alloc(), 1_000, failing_calls, 8)?;
-        let written = write_report(&shards, &mut sink);
-        assert!(rt; written.is_err(), "write {failing}");
-        let count = (8 * failing) as usize;
-        assert_eq!(rt; sink.bytes(), &REPORT[..count], "write {failing}");
+    let writes = REPORT.len().div_ceil(8) as u64;
+    for failing in 0..=writes {
+        goes_out(&rt, &shards, writes, failing);
     }
-    Ok(())
 }

@@ -1,12 +1,36 @@
+use crate::said::key_of;
+use crate::sinks::sink;
 use emission_text::write_summary;
-use outside::MemSink;
-use std::test::Fail;
-use stream_base::{FINAL, KeyText, Row, Shown};
+use std::process::Abort;
+use stream_base::{FINAL, Row, Shown};
 
-fn row(window: u32, key: KeyText, low: u64, high: u64, number: u64, shown: Shown) -> Row {
+// A window, a key, a start and an end, a number, and what is shown.
+type Told = (u32, &'static str, u64, u64, u64, Shown);
+
+const ROWS: [Told; 5] = [
+    (0, "a", 0, 5, 2, Shown::Whole(9)),
+    (2, "a", 0, FINAL, 1, Shown::Ratio { sum: -7, count: 2 }),
+    (0, "b", 5, 10, 3, Shown::Whole(-1)),
+    (3, "b", 0, 2, u64::MAX, Shown::Whole(0)),
+    (3, "b", 2, 4, u64::MAX, Shown::Whole(0)),
+];
+
+const SUMMARY: &str = "made 12
+window 0 2 5
++ 0 5 10 3 -1 b
+window 1 0 0
+window 2 1 1
++ 2 0 end 1 -7/2 a
+window 3 2 36893488147419103230
++ 3 2 4 18446744073709551615 0 b
+end
+";
+
+fn row(rt: &impl Abort, told: &Told) -> Row {
+    let (window, key, low, high, number, shown) = *told;
     Row {
         window,
-        key,
+        key: key_of(rt, key),
         low,
         high,
         number,
@@ -15,27 +39,9 @@ fn row(window: u32, key: KeyText, low: u64, high: u64, number: u64, shown: Shown
 }
 
 #[test]
-fn each_window_has_its_rows_their_numbers_and_its_last_row(rt: HostRuntime) -> Result<(), Fail> {
-    let a = KeyText::from_bytes(b"a")?;
-    let b = KeyText::from_bytes(b"b")?;
-    let rows = [
-        row(0, a, 0, 5, 2, Shown::Whole(9)),
-        row(2, a, 0, FINAL, 1, Shown::Ratio { sum: -7, count: 2 }),
-        row(0, b, 5, 10, 3, Shown::Whole(-1)),
-        row(3, b, 0, 2, u64::MAX, Shown::Whole(0)),
-        row(3, b, 2, 4, u64::MAX, Shown::Whole(0)),
-    ];
-    let mut sink = MemSink::new(rt.alloc(), 200, Vec::new(rt.alloc()), 7)?;
-    write_summary(12, 4, &rows, &mut sink)?;
-    let want = "made 12\n\
-        window 0 2 5\n\
-        + 0 5 10 3 -1 b\n\
-        window 1 0 0\n\
-        window 2 1 1\n\
-        + 2 0 end 1 -7/2 a\n\
-        window 3 2 36893488147419103230\n\
-        + 3 2 4 18446744073709551615 0 b\n\
-        end\n";
-    assert_eq!(rt; sink.bytes(), want.as_bytes());
-    Ok(())
+fn each_window_has_its_rows_their_numbers_and_its_last_row(rt: HostRuntime) {
+    let rows = ROWS.each_ref().map(|told| row(&rt, told));
+    let mut sink = sink(&rt, 200, 7);
+    assert!(rt; write_summary(12, 4, &rows, &mut sink).is_ok());
+    assert_eq!(rt; sink.bytes(), SUMMARY.as_bytes());
 }

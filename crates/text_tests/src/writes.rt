@@ -1,53 +1,63 @@
+use crate::sinks::{failing_sink, is_prefix, sink};
 use emission_text::{Fault, Pending, SinkFault, write_fault};
 use outside::MemSink;
-use std::test::Fail;
+use std::process::Abort;
 
 const LINE: &[u8] = b"fault full shard 12\n";
 
-#[test]
-fn where_a_write_fails_the_prefix_before_it_went_out(rt: HostRuntime) -> Result<(), Fail> {
-    for (piece, writes) in [(1u64, 20u64), (8, 3), (20, 1)] {
-        for failing in 0..writes {
-            let failing_calls = vec![in rt.alloc(); failing]?;
-            let mut sink = MemSink::new(rt.alloc(), 40, failing_calls, piece)?;
-            let written = write_fault(&Fault::FullShard { shard: 12 }, &mut sink);
-            assert_eq!(rt; written, Err(SinkFault::Write), "write {failing}");
-            let count = (piece * failing) as usize;
-            assert_eq!(rt; sink.bytes(), &LINE[..count], "write {failing}");
-        }
-        let failing_calls = vec![in rt.alloc(); writes]?;
-        let mut sink = MemSink::new(rt.alloc(), 40, failing_calls, piece)?;
-        write_fault(&Fault::FullShard { shard: 12 }, &mut sink)?;
-        assert_eq!(rt; sink.bytes(), LINE);
+// How many bytes a write takes, and how many writes the line takes then.
+const PIECES: [(u64, u64); 3] = [(1, 20), (8, 3), (20, 1)];
+
+// The line of a fault, of which the write of this number fails, where it takes more writes.
+fn goes_out(rt: &(impl AllocGlobal + Abort), piece: u64, writes: u64, failing: u64) {
+    assert!(rt; 1 <= piece);
+    let mut sink = failing_sink(rt, 40, failing, piece);
+    let written = write_fault(&Fault::FullShard { shard: 12 }, &mut sink);
+    if failing < writes {
+        assert_eq!(rt; written, Err(SinkFault::Write), "write {failing}");
+        is_prefix(rt, &sink, LINE, piece.saturating_mul(failing), failing);
+    } else {
+        assert_eq!(rt; written, Ok(()), "write {failing}");
+        is_prefix(rt, &sink, LINE, 20, failing);
     }
-    Ok(())
 }
 
 #[test]
-fn many_short_texts_go_out_in_one_write(rt: HostRuntime) -> Result<(), Fail> {
-    let failing_calls = vec![in rt.alloc(); 1]?;
-    let mut sink = MemSink::new(rt.alloc(), 5_000, failing_calls, 5_000)?;
+fn where_a_write_fails_the_prefix_before_it_went_out(rt: HostRuntime) {
+    for (piece, writes) in &PIECES {
+        for failing in 0..=*writes {
+            goes_out(&rt, *piece, *writes, failing);
+        }
+    }
+}
+
+fn add(rt: &impl Abort, text: &[u8], out: &mut Pending, sink: &mut MemSink) {
+    assert!(rt; out.add(text, sink).is_ok());
+}
+
+#[test]
+fn many_short_texts_go_out_in_one_write(rt: HostRuntime) {
+    let mut sink = failing_sink(&rt, 5_000, 1, 5_000);
     let mut out = Pending::new();
     for _ in 0..1_000 {
-        out.add(b"four", &mut sink)?;
+        add(&rt, b"four", &mut out, &mut sink);
     }
-    out.flush(&mut sink)?;
+    assert!(rt; out.flush(&mut sink).is_ok());
     assert_eq!(rt; sink.bytes().len(), 4_000);
-    Ok(())
 }
 
+const LONG: [u8; 5_000] = [b'-'; 5_000];
+
 #[test]
-fn texts_longer_than_the_buffer_keep_their_order(rt: HostRuntime) -> Result<(), Fail> {
-    let long = [b'-'; 5_000];
-    let mut sink = MemSink::new(rt.alloc(), 6_000, Vec::new(rt.alloc()), 7)?;
+fn texts_longer_than_the_buffer_keep_their_order(rt: HostRuntime) {
+    let mut sink = sink(&rt, 6_000, 7);
     let mut out = Pending::new();
-    out.add(b"first", &mut sink)?;
-    out.add(&long, &mut sink)?;
-    out.add(b"last", &mut sink)?;
-    out.flush(&mut sink)?;
+    add(&rt, b"first", &mut out, &mut sink);
+    add(&rt, &LONG, &mut out, &mut sink);
+    add(&rt, b"last", &mut out, &mut sink);
+    assert!(rt; out.flush(&mut sink).is_ok());
     let bytes = sink.bytes();
     assert_eq!(rt; bytes.len(), 5_009);
-    assert_eq!(rt; &bytes[..6], b"first-".as_slice());
-    assert_eq!(rt; &bytes[5_004..], b"-last".as_slice());
-    Ok(())
+    assert!(rt; bytes.starts_with(b"first-"));
+    assert!(rt; bytes.ends_with(b"-last"));
 }
