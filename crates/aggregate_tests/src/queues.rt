@@ -104,7 +104,8 @@ fn daba_adds_up_and_keeps_the_order(rt: HostRuntime) {
     keeps_the_order(&rt, &mut traces, &mut steps);
 }
 
-// The numbers of a plain list, each standing for n -> 1099511628211 * n + number, one after another.
+// The numbers of a plain list, each standing for n -> 1099511628211 * n + number, one behind the
+// other.
 fn traced(numbers: &VecDeque<i64>) -> Trace {
     let mut all = Trace { a: 1, b: 0 };
     for number in numbers {

@@ -4,7 +4,8 @@ use report_check::{Finding, check_report};
 use std::process::Abort;
 use stream_base::{Def, Defs, Entry, Func, Kind};
 
-// The report of one source, under sessions that end after 5 and reopen up to 5 behind the watermark.
+// The report of one source, under sessions that end after 5 and reopen up to 5 behind the
+// watermark.
 const REOPENED: &str = "shard 0
 j 0 t 0 1 a
 j 0 w 5

@@ -1,5 +1,5 @@
-//! Tests of the text of entries, changes, reports, summaries and fault lines, worked out by hand, of what
-//! went out where a write fails, and of what is found of reports.
+//! Tests of the text of entries, changes, reports, summaries and fault lines, worked out by hand, of
+//! what went out where a write fails, and of what is found of reports.
 #![tactic(auto)]
 
 #[cfg(test)]
