@@ -1,25 +1,15 @@
 //! Generated entries of two sources, of which a watermark is told now and then.
 
-ghost use Rattle.std.specs.Prelude.{◌≡◌, ◌≤◌, ◌<◌, ◌*◌, length, true};
+ghost use Rattle.std.specs.Prelude.{◌≡◌, ◌≤◌, ◌<◌, true};
 ghost use Rattle.stream_base.specs.Model.Journals.{is_entry_within};
-ghost use Rattle.engine_tests.specs.Courses.{IsCourse};
 
 use stream_base::{Entry, KeyText, What};
 
-// No more entries are generated, and for no more keys.
-pub const ENTRIES_MAX: u64 = 100_000;
+// So many entries are generated.
+pub const ENTRIES: u64 = 2_000;
 
-pub const KEYS_MAX: u64 = 676;
-
-// How many entries there are, of how many keys, how far their times stray, and where their draws
-// begin.
-#[derive(Clone, Copy)]
-pub struct Course {
-    pub entries: u64,
-    pub keys: u64,
-    pub spread: u64,
-    pub seed: u64,
-}
+// Source 1 ends here, and what it says later is refused.
+const FIRST_END: u64 = 1_900;
 
 // Numbers by a linear congruence, of which the upper bits are drawn.
 #[derive(Drop)]
@@ -41,70 +31,62 @@ impl Draws {
 }
 
 // The entry at a number. Times rise by 3 from one entry to the next, beside their jitter.
-// Source 1 ends before the last twentieth, and what it says later is refused.
-pub fn entry(number: u64, course: &Course, draws: &mut Draws, keys: &[KeyText]) -> Entry
-    requires course { IsCourse course.now }
-    requires number { number < course.now.entries }
-    requires keys { 1 ≤ length keys.now }
+pub fn entry(number: u64, draws: &mut Draws, keys: &[KeyText; 3]) -> Entry
+    requires { number < 2000 }
     ensures source { result.source < 2 }
     ensures within { is_entry_within result ≡ true }
 {
-    if number == course.entries - 1 {
+    if number == ENTRIES - 1 {
         return Entry {
             source: 0,
             what: What::End,
         };
     }
-    if number == course.entries - course.entries / 20 {
+    if number == FIRST_END {
         return Entry {
             source: 1,
             what: What::End,
         };
     }
     let source = draws.below(2) as u16;
-    let key = keys[draws.below(keys.len() as u64) as usize];
-    let spread = course.spread;
-    let what = said(300 * spread + 3 * number, spread, draws, key);
+    let key = keys[draws.below(3) as usize];
+    let what = said(300 + 3 * number, draws, key);
     Entry { source, what }
 }
 
 // Of 100 entries about 70 are tuples, 10 marks, 18 watermarks, and 2 say that the source is idle. A
 // watermark stands among the times of the entries about it, so many a later tuple is late. The
 // other source told its own some ten entries before, so some of those are still accepted.
-fn said(base: u64, spread: u64, draws: &mut Draws, key: KeyText) -> What
-    requires some { 1 ≤ spread }
-    requires few { spread ≤ 1000 }
-    requires low { 300 * spread ≤ base }
-    requires high { base < 600000 }
+fn said(base: u64, draws: &mut Draws, key: KeyText) -> What
+    requires low { 300 ≤ base }
+    requires high { base < 6300 }
     ensures { is_entry_within (record { source = 0; what = result }) ≡ true }
 {
     let draw = draws.below(100);
     if draw < 70 {
         let value = draws.below(2_001) as i64 - 1_000;
-        let time = jittered(base, spread, draws);
+        let time = jittered(base, draws);
         What::Tuple { key, time, value }
     } else if draw < 80 {
-        let time = jittered(base, spread, draws);
+        let time = jittered(base, draws);
         What::Mark { key, time }
     } else if draw < 98 {
-        let time = base + 19 * spread - draws.below(20 * spread);
+        let time = base + 19 - draws.below(20);
         What::Water { time }
     } else {
         What::Idle
     }
 }
 
-// Mostly up to 60 spreads behind or 19 ahead, and for each sixteenth up to 200 behind.
-fn jittered(base: u64, spread: u64, draws: &mut Draws) -> u64
-    requires some { 1 ≤ spread }
-    requires few { spread ≤ 1000 }
-    requires low { 300 * spread ≤ base }
-    requires high { base < 600000 }
-    ensures { result < 620000 }
+// Mostly up to 60 behind or 19 ahead, and for each sixteenth up to 199 behind.
+fn jittered(base: u64, draws: &mut Draws) -> u64
+    requires low { 300 ≤ base }
+    requires high { base < 6300 }
+    ensures { result < 6320 }
 {
     if draws.below(16) == 0 {
-        base - draws.below(200 * spread)
+        base - draws.below(200)
     } else {
-        base + 19 * spread - draws.below(80 * spread)
+        base + 19 - draws.below(80)
     }
 }

@@ -1,10 +1,9 @@
 //! Both engines under the same entries, compared at each.
 
-ghost use Rattle.std.specs.Prelude.{◌≡◌, ◌≤◌, ◌<◌, length, true, IfOk, OnOk};
+ghost use Rattle.std.specs.Prelude.{◌≡◌, ◌≤◌, ◌<◌, true, OnOk};
 ghost use Rattle.stream_base.specs.Model.Journals.{is_entry_within};
-ghost use Rattle.engine_tests.specs.Courses.{IsCourse};
 
-use crate::entries::{Course, Draws, KEYS_MAX, entry};
+use crate::entries::{Draws, ENTRIES, entry};
 use agg_laws::Steps;
 use plain_keys::PlainKey;
 use shard_core::{Applied, ApplyFault, KeyedShard, Shard, apply_counted};
@@ -28,7 +27,7 @@ pub struct Seen {
     pub revised: u64,
     pub dropped: u64,
     pub refused: u64,
-    // The slices of the first three keys, behind each entry anew.
+    // The slices of all keys, behind each entry anew.
     pub slices: u64,
 }
 
@@ -62,28 +61,20 @@ pub fn compared<R: Abort + Threads>(
     rt: &R,
     alloc: Global,
     defs: Defs,
-    course: Course,
-) -> Result<Seen, Fail>
-    requires { IsCourse course }
-{
+    seed: u64,
+) -> Result<Seen, Fail> {
     let mut steps: Steps<Work> = Steps::start(rt);
-    let keys = keys_of(alloc, course.keys)?;
+    let keys = three_keys()?;
     let mut plain: PlainShard = KeyedShard::new(alloc, defs.copy(alloc)?, 2)?;
     let mut sliced: Shard = KeyedShard::new(alloc, defs, 2)?;
-    apply_all(rt, &mut plain, &mut sliced, &keys, &course, &mut steps)
+    apply_all(rt, &mut plain, &mut sliced, &keys, seed, &mut steps)
 }
 
-// So many keys, each of two letters.
-fn keys_of(alloc: Global, count: u64) -> Result<Vec<KeyText>, Fail>
-    requires { count ≤ KEYS_MAX }
-    ensures { IfOk result (λ keys. length keys.items ≡ count) }
-{
-    let mut keys = Vec::new(alloc);
-    for number in 0..count {
-        let letters = [b'a' + (number / 26) as u8, b'a' + (number % 26) as u8];
-        keys.push(KeyText::from_bytes(&letters)?)?;
-    }
-    Ok(keys)
+fn three_keys() -> Result<[KeyText; 3], Fail> {
+    let a = KeyText::from_bytes(b"a")?;
+    let b = KeyText::from_bytes(b"b")?;
+    let c = KeyText::from_bytes(b"c")?;
+    Ok([a, b, c])
 }
 
 // All entries are applied to both, in step.
@@ -91,28 +82,22 @@ fn apply_all(
     rt: &impl Abort,
     plain: &mut PlainShard,
     sliced: &mut Shard,
-    keys: &[KeyText],
-    course: &Course,
+    keys: &[KeyText; 3],
+    seed: u64,
     steps: &mut Steps<Work>,
 ) -> Result<Seen, Fail>
-    requires course { IsCourse course.now }
-    requires keys { 1 ≤ length keys.now }
     requires plain { plain.old.sources ≡ 2 }
     requires sliced { sliced.old.sources ≡ 2 }
 {
-    let mut draws = Draws { seed: course.seed };
+    let mut draws = Draws { seed };
     let mut seen = Seen::nothing();
-    let watched = keys.len().min(3);
-    'entries: for number in 0..course.entries {
-        let entry = entry(number, course, &mut draws, keys);
+    'entries: for number in 0..ENTRIES {
+        let entry = entry(number, &mut draws, keys);
         step(rt, plain, sliced, &entry, steps, &mut seen)?;
-        compare_slices(rt, plain, sliced, &keys[..watched], number, &mut seen);
+        compare_slices(rt, plain, sliced, keys, number, &mut seen);
     }
     assert_eq!(rt; plain.journal_len(), sliced.journal_len());
-    assert_eq!(rt;
-        plain.journal_len().saturating_add(seen.refused),
-        course.entries
-    );
+    assert_eq!(rt; plain.journal_len().saturating_add(seen.refused), ENTRIES);
     Ok(seen)
 }
 
@@ -166,12 +151,12 @@ fn compare_changes(
     seen.note(by_lists);
 }
 
-// Each of these keys has as many slices in both.
+// Each key has as many slices in both.
 fn compare_slices(
     rt: &impl Abort,
     plain: &PlainShard,
     sliced: &Shard,
-    keys: &[KeyText],
+    keys: &[KeyText; 3],
     number: u64,
     seen: &mut Seen,
 ) {

@@ -1,30 +1,14 @@
 //! Each kind of window by both engines, and all kinds at once.
 //!
-//! Of 2,000 entries about 1,400 are tuples and 200 marks, of three keys; event time runs over
+//! Of the 2,000 entries about 1,400 are tuples and 200 marks, of three keys; event time runs over
 //! 6,000 units. So a key has a tuple about each 13 units, and a mark each 90. The floors below are
 //! well under what follows from that for each kind.
 
-ghost use Rattle.std.specs.Prelude.{◌≡◌, ◌≤◌};
-ghost use Rattle.engine_tests.specs.Courses.{IsCourse};
-
-use crate::entries::Course;
 use crate::in_step::{Seen, compared};
 use std::alloc::Global;
 use std::process::Abort;
 use std::test::Fail;
 use stream_base::{Def, Defs, Func, Kind};
-
-// The course of most tests.
-fn course(seed: u64) -> Course
-    ensures { IsCourse result }
-{
-    Course {
-        entries: 2_000,
-        keys: 3,
-        spread: 1,
-        seed,
-    }
-}
 
 // Two windows of this kind, or of two such kinds, under functions that differ in what they keep.
 fn two(alloc: Global, first: Kind, second: Kind) -> Result<Defs, Fail> {
@@ -59,7 +43,7 @@ fn tumbling_windows_are_the_same_by_lists_and_by_slices(rt: HostRuntime) -> Resu
     let alloc = rt.alloc();
     let tens = Kind::Tumbling { length: 10 };
     let sevens = Kind::Tumbling { length: 7 };
-    let seen = compared(&rt, alloc, two(alloc, tens, sevens)?, course(1))?;
+    let seen = compared(&rt, alloc, two(alloc, tens, sevens)?, 1)?;
     assert_seen(&rt, seen, 1_000);
     assert!(rt; seen.slices > 1_000, "{seen:?}");
     Ok(())
@@ -77,7 +61,7 @@ fn sliding_windows_are_the_same_by_lists_and_by_slices(rt: HostRuntime) -> Resul
         length: 10,
         slide: 4,
     };
-    let seen = compared(&rt, alloc, two(alloc, thirties, tens)?, course(2))?;
+    let seen = compared(&rt, alloc, two(alloc, thirties, tens)?, 2)?;
     assert_seen(&rt, seen, 1_500);
     assert!(rt; seen.slices > 1_000, "{seen:?}");
     Ok(())
@@ -89,7 +73,7 @@ fn sessions_are_the_same_by_lists_and_by_slices(rt: HostRuntime) -> Result<(), F
     let alloc = rt.alloc();
     let short = Kind::Session { gap: 12 };
     let long = Kind::Session { gap: 30 };
-    let seen = compared(&rt, alloc, two(alloc, short, long)?, course(3))?;
+    let seen = compared(&rt, alloc, two(alloc, short, long)?, 3)?;
     assert_seen(&rt, seen, 200);
     assert!(rt; seen.slices > 1_000, "{seen:?}");
     Ok(())
@@ -99,7 +83,7 @@ fn sessions_are_the_same_by_lists_and_by_slices(rt: HostRuntime) -> Result<(), F
 #[test]
 fn marks_windows_are_the_same_by_lists_and_by_slices(rt: HostRuntime) -> Result<(), Fail> {
     let alloc = rt.alloc();
-    let seen = compared(&rt, alloc, two(alloc, Kind::Marks, Kind::Marks)?, course(4))?;
+    let seen = compared(&rt, alloc, two(alloc, Kind::Marks, Kind::Marks)?, 4)?;
     assert_seen(&rt, seen, 150);
     assert!(rt; seen.slices > 1_000, "{seen:?}");
     Ok(())
@@ -112,33 +96,30 @@ fn events_windows_are_the_same_by_lists_and_by_slices(rt: HostRuntime) -> Result
     let alloc = rt.alloc();
     let fours = Kind::Events { count: 4 };
     let elevens = Kind::Events { count: 11 };
-    let seen = compared(&rt, alloc, two(alloc, fours, elevens)?, course(5))?;
+    let seen = compared(&rt, alloc, two(alloc, fours, elevens)?, 5)?;
     assert_seen(&rt, seen, 200);
     assert_eq!(rt; seen.slices, 0);
     Ok(())
 }
 
-// One window of each kind; a session ends behind a pause of this length, and the other windows are
-// as much longer than it.
-fn all_kinds(alloc: Global, pause: u64, lateness: u64) -> Result<Defs, Fail>
-    requires some { 1 ≤ pause }
-    requires short { pause ≤ 10000 }
-    requires late { lateness ≤ 10000 }
-{
+// The floors of the five kinds together; slices are cut at the bounds of all.
+#[test]
+fn all_kinds_at_once_are_the_same_by_lists_and_by_slices(rt: HostRuntime) -> Result<(), Fail> {
+    let alloc = rt.alloc();
     let windows = vec![in alloc;
         Def {
-            kind: Kind::Tumbling { length: pause },
+            kind: Kind::Tumbling { length: 10 },
             func: Func::Rises
         },
         Def {
             kind: Kind::Sliding {
-                length: 3 * pause,
-                slide: pause
+                length: 30,
+                slide: 10
             },
             func: Func::Max
         },
         Def {
-            kind: Kind::Session { gap: pause },
+            kind: Kind::Session { gap: 12 },
             func: Func::Trace
         },
         Def {
@@ -150,32 +131,8 @@ fn all_kinds(alloc: Global, pause: u64, lateness: u64) -> Result<Defs, Fail>
             func: Func::First
         },
     ]?;
-    Ok(Defs::new(windows, lateness, 0, 0)?)
-}
-
-// The floors of the five kinds together; slices are cut at the bounds of all.
-#[test]
-fn all_kinds_at_once_are_the_same_by_lists_and_by_slices(rt: HostRuntime) -> Result<(), Fail> {
-    let alloc = rt.alloc();
-    let seen = compared(&rt, alloc, all_kinds(alloc, 12, 25)?, course(6))?;
+    let seen = compared(&rt, alloc, Defs::new(windows, 25, 0, 0)?, 6)?;
     assert_seen(&rt, seen, 2_000);
     assert!(rt; seen.slices > 1_000, "{seen:?}");
-    Ok(())
-}
-
-// Fifty times as many entries, of so many keys that each has a tuple about each 2,140 units, and
-// their times stray fifty times as far.
-#[test]
-fn long_runs_of_all_kinds_are_the_same_by_lists_and_by_slices(rt: HostRuntime) -> Result<(), Fail> {
-    let alloc = rt.alloc();
-    let long = Course {
-        entries: 100_000,
-        keys: 500,
-        spread: 50,
-        seed: 7,
-    };
-    let seen = compared(&rt, alloc, all_kinds(alloc, 2_000, 5_000)?, long)?;
-    assert_seen(&rt, seen, 100_000);
-    assert!(rt; seen.slices > 100_000, "{seen:?}");
     Ok(())
 }
