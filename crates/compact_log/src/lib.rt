@@ -1,0 +1,11 @@
+//! The entries of a journal and the changes under them, in few bytes each.
+//!
+//! *From* entries and changes *to* the same lists. *Stands on* `stream_base`. *Promise*: a log is the
+//! list of what was pushed, whatever it was; memory is taken only by the call that makes room.
+#![tactic(auto)]
+
+mod changes;
+mod entries;
+
+pub use changes::Changes;
+pub use entries::Entries;
