@@ -1,7 +1,8 @@
 //! Changes.
-ghost use Rattle.std.specs.Prelude.{◌≡◌, ◌≤◌, ◌<◌, [], length, Some, slice_get};
-ghost use Rattle.compact_log.specs.Logs.{Pushes, Reserves};
+ghost use Rattle.std.specs.Prelude.{◌≡◌, ◌≤◌, ◌<◌, [], length, Some, slice_get, slice_range};
+ghost use Rattle.compact_log.specs.Logs.{IsWithin, Pushes, Reserves};
 
+use crate::change_range::ChangeRange;
 use std::alloc::Global;
 use std::marker::Model;
 use stream_base::{Change, Former, KeyText, NoMemory, Row};
@@ -32,12 +33,18 @@ impl Changes {
         }
     }
 
-    /// Has the key at the next place, from 0 on, held once. A change of it that is pushed with this
-    /// place takes few bytes.
-    pub fn add_key(&mut self, _key: &KeyText) -> Result<(), NoMemory>
+    /// Makes room for one key more.
+    pub fn reserve_key(&mut self) -> Result<(), NoMemory>
         ensures { self.new ≡ self.old }
     {
         Ok(())
+    }
+
+    /// Holds a key at the next place, from 0 on, if there is room for it. A change of it that is pushed
+    /// with this place takes few bytes then.
+    pub fn add_key(&mut self, _key: &KeyText)
+        ensures { self.new ≡ self.old }
+    {
     }
 
     /// Makes room for `count` changes more.
@@ -69,6 +76,18 @@ impl Changes {
         ensures { slice_get self.now.items at ≡ Some result }
     {
         self.whole[at]
+    }
+
+    /// The changes from one place up to another.
+    pub fn between(&self, from: usize, to: usize) -> ChangeRange<'_>
+        requires { IsWithin from to self.now.items }
+        ensures { result ≡ slice_range self.now.items from to }
+    {
+        ChangeRange {
+            log: self,
+            from,
+            to,
+        }
     }
 }
 

@@ -4,8 +4,10 @@
 //! list of what was pushed, whatever it was; memory is taken only by the call that makes room.
 #![tactic(auto)]
 
+mod change_range;
 mod changes;
 mod entries;
 
+pub use change_range::ChangeRange;
 pub use changes::Changes;
 pub use entries::Entries;
