@@ -30,6 +30,7 @@ mod rows;
 mod shard;
 mod slices;
 mod slot;
+mod told;
 mod work;
 
 pub use applied::{Applied, ApplyFault};
