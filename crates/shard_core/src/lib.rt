@@ -34,6 +34,7 @@ mod told;
 mod work;
 
 pub use applied::{Applied, ApplyFault};
+pub use compact_log::ChangeRange;
 pub use shard::KeyedShard;
 pub use work::apply_counted;
 
