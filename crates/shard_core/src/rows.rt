@@ -7,6 +7,7 @@ use std::alloc::Global;
 use stream_base::NoMemory;
 
 // The rows that stand behind these changes, where nothing stood before them.
+#[tactic(auto, using(crate::proofs::StandingFacts::rows_behind_more))]
 pub fn rows_behind(alloc: Global, changes: &Changes) -> Result<StandingRows, NoMemory>
     ensures { IfOk result (λ rows. rows ≡ rows_after [] changes.now.items) }
 {
