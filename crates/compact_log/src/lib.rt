@@ -7,6 +7,9 @@
 mod change_range;
 mod changes;
 mod entries;
+mod entry_cell;
+mod entry_kind;
+mod key_place;
 
 pub use change_range::ChangeRange;
 pub use changes::Changes;
