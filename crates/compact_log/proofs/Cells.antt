@@ -1,5 +1,5 @@
 -- What cells tell while the lists grow of which they tell places.
-use Rattle.std.proofs.Common.{◌≡◌, ◌∙◌, ◌<◌, ◌++◌, ℕ, List, [], ◌∷◌, length, get_or, unwrap_or, map, ap, refl, sym}
+use Rattle.std.proofs.Common.{arith, ◌≡◌, ◌∙◌, ◌<◌, ◌++◌, ℕ, List, [], ◌∷◌, length, get_or, unwrap_or, map, ap, refl, sym}
 use Rattle.std.specs.List.{All}
 use Rattle.std.proofs.lemmas.List.{map-append}
 use Rattle.std.proofs.lemmas.List.Elements.{All-head, All-tail}
@@ -24,3 +24,7 @@ pub told_more : {C E : Type 0} (f g : C → E) (cells : List C) (c : C) (e : E) 
 told_more f g cells c e alike told =
     let rest : map g cells ≡ map f cells = told_alike f g cells alike in
     map-append g cells (c ∷ []) ∙ ap (λ l. l ++ g c ∷ []) rest ∙ ap (λ x. map f cells ++ x ∷ []) told
+
+-- a list keeps what it has
+pub itself : {X : Type 0} (xs : List X) → Keeps xs xs
+itself xs = record { longer = omega arith; same = λ k below. refl }

@@ -13,7 +13,7 @@ use stream_base::{Entry, KeyText, NoMemory, What};
 /// The entries of a journal. Contracts see the list, and for how many more there is room.
 ///
 /// An entry takes 24 bytes, and a key is held once, at its place. Only an entry whose key isn't held
-/// at the place that it is pushed with is stored whole, in 104 bytes more.
+/// at the place that it is pushed with is stored whole, in 96 bytes more.
 #[derive(Drop)]
 pub struct Entries {
     // The key at each place.
