@@ -13,10 +13,10 @@ use stream_base::{Change, Former, KeyText, NoMemory, Row};
 
 /// Changes in their order. Contracts see the list, and for how many more there is room.
 ///
-/// A change takes 48 bytes, and a key is held once, at its place. Stored whole, in 224 bytes more, is
-/// only a change whose key isn't held at the place that it is pushed with, or that doesn't fit: where
-/// a value or the sum of a mean is beyond 64 bits, where the count of a mean isn't the row's number,
-/// or where a number or the length of a row's span is beyond 32 bits.
+/// A change takes 48 bytes, and a key is held once, at its place. Stored whole, in 224 bytes more,
+/// is only a change whose key isn't held at the place that it is pushed with, or that doesn't fit:
+/// a value or the sum of a mean is beyond 64 bits, the count of a mean isn't the row's number, a
+/// row ends before its start, or a number, the length of a span or the place is beyond 32 bits.
 #[derive(Drop)]
 pub struct Changes {
     // The key at each place.
@@ -66,8 +66,8 @@ impl Changes {
         Ok(())
     }
 
-    /// Holds a key at the next place, from 0 on, if there is room for it. A change of it that is pushed
-    /// with this place takes few bytes then.
+    /// Holds a key at the next place, from 0 on, if there is room for it. A change of it that is
+    /// pushed with this place takes few bytes then.
     pub fn add_key(&mut self, key: &KeyText)
         ensures { self.new ≡ self.old }
     {
@@ -78,6 +78,7 @@ impl Changes {
     pub fn reserve(&mut self, count: usize) -> Result<(), NoMemory>
         ensures { Reserves count result self.old self.new }
     {
+        // Whether cells can tell what comes isn't known yet.
         self.cells.reserve(count)?;
         self.whole.reserve(count)?;
         Ok(())

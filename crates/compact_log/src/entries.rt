@@ -12,8 +12,9 @@ use stream_base::{Entry, KeyText, NoMemory, What};
 
 /// The entries of a journal. Contracts see the list, and for how many more there is room.
 ///
-/// An entry takes 24 bytes, and a key is held once, at its place. Only an entry whose key isn't held
-/// at the place that it is pushed with is stored whole, in 96 bytes more.
+/// An entry takes 24 bytes, and a key is held once, at its place. Stored whole, in 96 bytes more,
+/// is only an entry whose key isn't held at the place that it is pushed with, or where that is
+/// beyond 32 bits.
 #[derive(Drop)]
 pub struct Entries {
     // The key at each place.
@@ -59,6 +60,7 @@ impl Entries {
     pub fn reserve(&mut self, count: usize) -> Result<(), NoMemory>
         ensures { Reserves count result self.old self.new }
     {
+        // Whether keys are new and cells can tell what comes isn't known yet.
         self.keys.reserve(count)?;
         self.cells.reserve(count)?;
         self.whole.reserve(count)?;
