@@ -1,5 +1,5 @@
 -- A place in the range is one in the log.
-use Rattle.std.proofs.Common.{◌≡◌, ◌∙◌, ◌<◌, ◌-◌, ◌+◌, ap, arith, length, sym}
+use Rattle.std.proofs.Common.{◌∙◌, ◌<◌, ◌-◌, arith}
 use Rattle.compact_log.proofs.Ranges.{get_in_part, length_of_part}
 use Rattle.compact_log.proofs.change_range.ChangeRange.get.Goals as goal
 
