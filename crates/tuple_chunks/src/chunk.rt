@@ -76,6 +76,10 @@ impl Part for Chunk {
         last_time(&self.tuples)
     }
 
+    fn has_room(&self) -> bool {
+        self.tuples.len() < MOST && self.tuples.len() < self.tuples.capacity()
+    }
+
     fn settle(&mut self, is_last: bool) -> Result<Option<Chunk>, NoMemory> {
         let len = self.tuples.len();
         if len < MOST {
