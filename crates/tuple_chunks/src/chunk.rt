@@ -8,7 +8,7 @@ ghost use Rattle.tuple_chunks.specs.Sums.{IsSum, shown_of};
 
 use crate::part::Part;
 use crate::places::{cut, place_of, tuples_before};
-use crate::sums::{covers, sum_of};
+use crate::sums::{covers, forget, sum_of};
 use agg_laws::Steps;
 use aggregates::Bundle;
 use slice_lists::Slice;
@@ -97,7 +97,7 @@ impl Part for Chunk {
     fn put(&mut self, x: Kept) {
         let place = place_of(&self.tuples, x.time);
         put_tuple(&mut self.tuples, place, x);
-        self.sum = None; // It was that of the tuples without this one.
+        forget(&mut self.sum); // It was that of the tuples without this one.
     }
 
     fn drop_before(&mut self, time: u64) {

@@ -9,7 +9,7 @@ ghost use Rattle.tuple_chunks.specs.Sums.{IsSum, shown_of};
 use crate::chunk::MOST;
 use crate::part::Part;
 use crate::places::cut;
-use crate::sums::{covers, joined, misses, shown_together};
+use crate::sums::{covers, forget, joined, misses, shown_together};
 use agg_laws::Steps;
 use aggregates::Bundle;
 use slice_lists::Slice;
@@ -133,7 +133,7 @@ impl<P: Part> Part for Row<P> {
         self.number += 1;
         self.entered = at;
         self.ready = has_room && self.number < usize::MAX;
-        self.sum = None; // It was that of the tuples without this one.
+        forget(&mut self.sum); // It was that of the tuples without this one.
     }
 
     fn drop_before(&mut self, time: u64) {
