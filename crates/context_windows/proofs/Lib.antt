@@ -6,3 +6,4 @@ pub mod Stretching
 pub mod Owed
 pub mod Marking
 pub mod Aligning
+pub mod Untold

@@ -1,5 +1,5 @@
 //! The sessions of one key.
-ghost use Rattle.std.specs.Prelude.{◌≡◌, ◌≤◌, ◌<◌, ◌+◌, ◌-◌, ◌*◌, ◌++◌, ℕ, List, [], length, vec_len};
+ghost use Rattle.std.specs.Prelude.{◌≡◌, ◌≤◌, ◌<◌, ◌+◌, ◌-◌, ◌*◌, ◌++◌, ℕ, List, [], length, option_to_list, vec_len};
 ghost use Rattle.stream_base.specs.declared.kept.Kept.{Kept};
 ghost use Rattle.stream_base.specs.Laws.{completions};
 ghost use Rattle.stream_base.specs.Model.Changes.{Moment};
@@ -8,7 +8,7 @@ ghost use Rattle.stream_base.specs.Vectors.{Adds, room};
 ghost use Rattle.window_laws.specs.After.{with_tuple};
 ghost use Rattle.window_spans.specs.Ahead.{end_after, end_of_last_begun, start_after};
 ghost use Rattle.window_spans.specs.Held.{AreAlignedWith};
-ghost use Rattle.window_spans.specs.Spans.{asked_of, due_of, put_changes, spans_with, told_at};
+ghost use Rattle.window_spans.specs.Spans.{AreApart, asked_of, due_of, put_changes, spans_with, told_at};
 ghost use Rattle.window_spans.specs.Telling.{Tells};
 ghost use Rattle.context_windows.specs.Calls.{DiffersInStood, MayComeAt, MayTake, Promises, TakesOne};
 ghost use Rattle.context_windows.specs.Spanned.{Follows, HasAsked, HoldsSessions, IsAsBefore, IsSessionAt, Remembers, changes_of, gap_at, open_after, window_at};
@@ -87,6 +87,10 @@ impl Sessions {
     {
         self.spans.reserve(1)?;
         let gap = gap_of(&window_at(defs, window).kind);
+        // The session that such a tuple makes ends behind the watermark, as those do that it joins.
+        if water <= time {
+            return Ok(0);
+        }
         let places = near(&self.spans, gap, time);
         let sessions = between(&self.spans, places);
         let (first, second) = first_standing(sessions, water);
@@ -117,8 +121,7 @@ impl Sessions {
             ≤ steps.old + 64 * ((S.stored store.now).reach + 2) * length self.new.stood }
     {
         let def = window_at(defs, window);
-        let places = near(&self.spans, gap_of(&def.kind), time);
-        let (first, second) = first_standing(between(&self.spans, places), water);
+        let (first, second) = standing_near(&self.spans, gap_of(&def.kind), time, water);
         self.first = ask(store, first, def.func, steps);
         self.second = ask(store, second, def.func, steps);
     }
@@ -263,4 +266,25 @@ impl Sessions {
         self.spans.retain(|s| time < s.high);
         self.forgotten = self.forgotten.max(time);
     }
+}
+
+// Those that stand of the sessions near a time, at most two. Where the watermark isn't behind the time
+// none does: each of them ends behind it.
+fn standing_near(
+    spans: &[Span],
+    gap: u64,
+    time: u64,
+    water: u64,
+) -> (Option<Span>, Option<Span>)
+    requires apart { AreApart spans.now }
+    requires gap { 1 ≤ gap }
+    requires room { time + gap ≤ u64.MAX }
+    ensures { option_to_list result.0 ++ option_to_list result.1
+        ≡ asked_of gap time water spans.now }
+{
+    if water <= time {
+        return (None, None);
+    }
+    let places = near(spans, gap, time);
+    first_standing(between(spans, places), water)
 }

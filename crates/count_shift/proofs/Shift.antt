@@ -272,6 +272,13 @@ one_more count kept time water pos =
     by true = omega arith
     by false = omega arith
 
+-- a tuple behind the watermark changes no instance
+pub none_changed : (count : ℕ) (kept : List Kept) (time water : ℕ) → 1 ≤ count → TimesDoNotFall kept → water < time → 0 ≡ put_changes count kept time water
+none_changed count kept time water pos h lt =
+    let same : upper_after kept time water / count ≡ upper kept water / count = ap (λ u. u / count) (after_beyond kept time water lt) in
+    let fewer : upper kept water / count ≤ upper kept time / count = quotients_rise count (upper kept water) (upper kept time) pos (upper_rises kept water time h (omega arith)) in
+    omega (arith, same, fewer)
+
 -- the instances that are told again and those that are new are all that are changed
 pub put_numbers : (count : ℕ) (kept : List Kept) (time water : ℕ) → 1 ≤ count → TimesDoNotFall kept
     → (upper kept water / count - upper kept time / count) + (upper_after kept time water / count - upper kept water / count) ≡ put_changes count kept time water

@@ -80,6 +80,13 @@ found_upper kept time n h le point =
     (record { within = le; before = λ k d l. leb-true (get_or kept k d).time time (point.0 k d (omega arith) l); behind = λ k d le' l. leb-false (get_or kept k d).time time (point.1 k d le' l) })
     (parts_at_upper kept time h)
 
+-- where the last tuple has a time at or before another all have
+pub all_by : (kept : List Kept) (time : ℕ) → TimesDoNotFall kept → ((d : Kept) → 0 < length kept → (get_or kept (length kept - 1) d).time ≤ time) → length kept ≡ upper kept time
+all_by kept time h last =
+    parts_once kept time (length kept) (upper kept time)
+    (record { within = omega arith; before = λ k d l. let a : (get_or kept k d).time ≤ (get_or kept (length kept - 1) d).time = h k (length kept - 1) d (omega arith) (omega arith) in let b = last d (omega arith) in omega (arith, a, b); behind = λ k d le l. absurd (omega arith) })
+    (parts_at_upper kept time h)
+
 -- times don't fall in a part of the list
 pub times_behind : (kept : List Kept) (far : ℕ) → TimesDoNotFall kept → TimesDoNotFall (drop far kept)
 times_behind kept far h i j d le l =

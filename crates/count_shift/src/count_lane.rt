@@ -63,8 +63,12 @@ impl CountLane {
             (moment (put_in_order self.old.kept x) marks water) (window, events count func))) }
     {
         self.items.reserve(1)?;
+        if water < time {
+            return Ok(0); // No instance that has the tuple stands.
+        }
         let from = upper(&self.items, time) as u64 / count;
-        let stand = upper_after(&self.items, time, water) / count;
+        let reached = upper(&self.items, water);
+        let stand = upper_after(&self.items, reached, time, water) / count;
         Ok(stand.saturating_sub(from))
     }
 
@@ -111,8 +115,9 @@ impl CountLane {
             count: count_of(&def.kind) as usize,
         };
         let rank = upper(&self.items, time);
-        let stood = upper(&self.items, water) / window.count;
-        let stand = upper_after(&self.items, time, water) as usize / window.count;
+        let reached = upper(&self.items, water);
+        let stood = reached / window.count;
+        let stand = upper_after(&self.items, reached, time, water) as usize / window.count;
         let x = Kept {
             position: pos,
             time,

@@ -9,12 +9,16 @@ use stream_base::Kept;
 // So many tuples at the end are searched by themselves: most searches lead there.
 const NEAR: usize = 64;
 
-// How many tuples have a time at or before this one, found by halves.
+// How many tuples have a time at or before this one: one look where all have, as in order, and else
+// found by halves.
 pub fn upper(items: &[Kept], time: u64) -> usize
     requires { TimesDoNotFall items.now }
     ensures value { result ≡ upper items.now time }
     ensures within { result ≤ length items.now }
 {
+    if are_by(items, time) {
+        return items.len();
+    }
     let far = items.len().saturating_sub(NEAR);
     let (before, near) = items.split_at(far);
     if starts_by(near, time) {
@@ -22,6 +26,14 @@ pub fn upper(items: &[Kept], time: u64) -> usize
     } else {
         upper_by_halves(before, time)
     }
+}
+
+// Whether no tuple is of a later time, as the last one tells.
+fn are_by(items: &[Kept], time: u64) -> bool
+    requires { TimesDoNotFall items.now }
+    ensures { result ≡ true → length items.now ≡ upper items.now time }
+{
+    items.is_empty() || items[items.len() - 1].time <= time
 }
 
 // Whether there is a first tuple, and it has a time at or before this one.
@@ -45,11 +57,13 @@ fn upper_by_halves(items: &[Kept], time: u64) -> usize
     items.partition_point(|x| x.time <= time)
 }
 
-// How many have a time at or before the watermark when a tuple at a time has come.
-pub fn upper_after(items: &[Kept], time: u64, water: u64) -> u64
-    requires { TimesDoNotFall items.now }
+// How many have a time at or before the watermark when a tuple at a time has come, where so many have
+// had before.
+pub fn upper_after(items: &[Kept], reached: usize, time: u64, water: u64) -> u64
+    requires reached { reached ≡ upper items.now water }
+    requires within { reached ≤ length items.now }
     ensures { result ≡ upper_after items.now time water }
 {
-    let reached = upper(items, water) as u64;
+    let reached = reached.min(items.len()) as u64;
     if time <= water { reached + 1 } else { reached }
 }

@@ -33,5 +33,6 @@ pub use climbed::Climbed;
 pub use draining::pull;
 pub use edge::{leftmost, right_place, rightmost};
 pub use growing::raise;
+pub use grown::Grown;
 pub use raised::Raised;
 pub use tree::FingerTree;

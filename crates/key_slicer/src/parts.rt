@@ -27,8 +27,7 @@ impl<P: AnyPart> Parts<P> {
         ensures limits { AreWithinLimits defs.now }
     {
         let count = window_count(defs);
-        let mut list = Vec::new(alloc);
-        list.reserve(count as usize)?;
+        let mut list = Vec::with_capacity(alloc, count as usize)?;
         for window in 0..count {
             list.push_reserved(P::fresh(alloc, defs, window));
         }

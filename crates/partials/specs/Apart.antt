@@ -1,5 +1,5 @@
 -- Pairs in a tree, and the newest ones in a row beside it.
-use Rattle.std.specs.Prelude.{◌≡◌, ◌≤◌, ◌<◌, ◌+◌, ◌-◌, ◌/◌, ◌^◌, ℕ, List, Some, length, max, All}
+use Rattle.std.specs.Prelude.{◌≡◌, ◌≤◌, ◌<◌, ◌+◌, ◌-◌, ◌/◌, ◌^◌, ◌||◌, ℕ, Bool, List, Some, length, max, min, nat_le, nat_lt, if◌then◌else◌, All}
 use Rattle.agg_laws.specs.Pairs.{value_at}
 use Rattle.aggregates.specs.Bundled.{Bundled, IsBundle}
 
@@ -46,3 +46,11 @@ pub record IsReachOver (bounded : ℕ → ℕ → Type 0) (slices reach : ℕ) :
   pub of_row : ℕ
   pub row : 2 ^ of_row ≤ slices + 1
   pub is : reach ≡ max of_tree of_row
+
+-- one pair more may go into the tree: another one did before, or there are as many pairs as the row takes
+abbrev pub may_need_tree : ℕ → ℕ → Bool
+may_need_tree edge pairs = nat_lt 0 edge || nat_le 256 pairs
+
+-- for how many pairs more there is room, one at most: in the row, and also in the tree where one may go there
+abbrev pub room_for : Bool → ℕ → ℕ → ℕ
+room_for needs_tree tree row = min 1 (if needs_tree then min tree row else row)

@@ -4,7 +4,7 @@ ghost use Rattle.aggregates.specs.Bundled.{Bundled, IsBundle, bundles_combined, 
 ghost use Rattle.agg_laws.specs.Counters.{Spends};
 ghost use Rattle.agg_laws.specs.Laws.{total};
 ghost use Rattle.agg_laws.specs.Pairs.{has_key, inserted, least_key, replaced, value_at, values_of, within, without};
-ghost use Rattle.partials.specs.Apart.{AreBelow, AreFrom, IsReachOver, KeepsRoom, Reads};
+ghost use Rattle.partials.specs.Apart.{AreBelow, AreFrom, IsReachOver, KeepsRoom, Reads, may_need_tree};
 
 use agg_laws::{AggTree, Monoid, Probes, Steps};
 use aggregates::Bundle;
@@ -18,8 +18,8 @@ const NEAR: u64 = 256;
 
 /// The partials of slices, each under the time of the slice's first tuple. The newest ones stand in a
 /// row, where tuples in order find them at once; the older ones stand in a tree. Where the row is
-/// full, its first one goes into the tree when another one comes behind it. Contracts see the pairs
-/// of both, for how many more there is room, and what the bounds on steps go by: the reach of the
+/// full, its first one goes into the tree when another one comes behind it. The tree takes no memory
+/// before. Contracts see the pairs of both, for how many more there is room, one at most, and what the bounds on steps go by: the reach of the
 /// tree, or that of a tree which folds as fast as the row, whichever is greater.
 #[derive(Drop)]
 pub struct Partials<T: AggTree<Bundle>> {
@@ -30,14 +30,16 @@ pub struct Partials<T: AggTree<Bundle>> {
 }
 
 impl<T: AggTree<Bundle>> Model for Partials<T> {
-    ghost use Rattle.std.specs.Prelude.{◌++◌, length, max, min};
-    ghost use Rattle.partials.specs.Apart.{Sums, AreApart, row_reach};
+    ghost use Rattle.std.specs.Prelude.{◌++◌, length, max};
+    ghost use Rattle.partials.specs.Apart.{Sums, AreApart, may_need_tree, room_for, row_reach};
 
     ghost Value = { Sums };
 
     ghost view = { λ p. record {
       pairs = (T.table p.tree).pairs ++ p.near.pairs;
-      spare = min (T.table p.tree).spare p.near.spare;
+      spare = room_for
+        (may_need_tree p.edge (length ((T.table p.tree).pairs ++ p.near.pairs)))
+        (T.table p.tree).spare p.near.spare;
       reach = max (T.reach p.tree) (row_reach (length p.near.pairs));
     } };
 
@@ -65,7 +67,9 @@ impl<T: AggTree<Bundle>> Partials<T> {
         ensures reach { (self.new).reach ≡ (self.old).reach }
         ensures bounded { IsReachOver T.bounded (length (self.new).pairs) (self.new).reach }
     {
-        self.tree.reserve(1)?;
+        if needs_tree(&self.tree, &self.near, self.edge) {
+            self.tree.reserve(1)?;
+        }
         self.near.reserve(1)
     }
 
@@ -162,6 +166,17 @@ impl<T: AggTree<Bundle>> Partials<T> {
     }
 }
 
+// Whether one pair more may go into the tree.
+fn needs_tree<T: AggTree<Bundle>>(tree: &T, near: &PairRow<Bundle>, edge: u64) -> bool
+    requires few { length near.now.pairs ≤ 256 }
+    ensures needs { result
+        ≡ may_need_tree edge (length ((T.table tree.now).pairs ++ near.now.pairs)) }
+    ensures bounded { result ≡ false
+        → T.bounded (T.reach tree.now) (length (T.table tree.now).pairs) }
+{
+    edge > 0 || NEAR - near.len() <= tree.len()
+}
+
 // Whether a key belongs into the row: it lies behind those in the tree, and where the row is full
 // also behind the first one there, which then leaves.
 fn is_near(near: &PairRow<Bundle>, edge: u64, key: u64) -> bool
@@ -172,6 +187,7 @@ fn is_near(near: &PairRow<Bundle>, edge: u64, key: u64) -> bool
         → (low : ℕ) → least_key near.now.pairs ≡ Some low → low < key }
     ensures before { result ≡ false → AreFrom (key + 1) near.now.pairs }
     ensures within { result ≡ false → key + 1 < 2 ^ 64 }
+    ensures far { result ≡ false → may_need_tree edge (length near.now.pairs) ≡ true }
 {
     if near.len() < NEAR {
         return edge <= key;
@@ -194,7 +210,7 @@ fn make_way<T: AggTree<Bundle>, L>(
     requires few { length near.old.pairs ≤ 256 }
     requires first { 256 ≤ length near.old.pairs
         → (low : ℕ) → least_key near.old.pairs ≡ Some low → low + 1 < 2 ^ 64 }
-    requires room { 1 ≤ (T.table tree.old).spare }
+    requires room { 256 ≤ length near.old.pairs → 1 ≤ (T.table tree.old).spare }
     ensures pairs { (T.table tree.new).pairs ++ near.new.pairs
         ≡ (T.table tree.old).pairs ++ near.old.pairs }
     ensures below { AreBelow result (T.table tree.new).pairs }

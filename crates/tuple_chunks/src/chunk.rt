@@ -8,7 +8,7 @@ ghost use Rattle.tuple_chunks.specs.Sums.{IsSum, shown_of};
 
 use crate::part::Part;
 use crate::places::{cut, place_of, tuples_before};
-use crate::sums::{covers, sum_of};
+use crate::sums::{covers, forget, sum_of};
 use agg_laws::Steps;
 use aggregates::Bundle;
 use slice_lists::Slice;
@@ -76,6 +76,10 @@ impl Part for Chunk {
         last_time(&self.tuples)
     }
 
+    fn has_room(&self) -> bool {
+        self.tuples.len() < MOST && self.tuples.len() < self.tuples.capacity()
+    }
+
     fn settle(&mut self, is_last: bool) -> Result<Option<Chunk>, NoMemory> {
         let len = self.tuples.len();
         if len < MOST {
@@ -93,7 +97,7 @@ impl Part for Chunk {
     fn put(&mut self, x: Kept) {
         let place = place_of(&self.tuples, x.time);
         put_tuple(&mut self.tuples, place, x);
-        self.sum = None; // It was that of the tuples without this one.
+        forget(&mut self.sum); // It was that of the tuples without this one.
     }
 
     fn drop_before(&mut self, time: u64) {

@@ -1,4 +1,4 @@
-ghost use Rattle.std.specs.Prelude.{◌≡◌, ◌≤◌, ◌<◌, ◌+◌, ◌-◌, ℕ, List, length, filter, nat_le};
+ghost use Rattle.std.specs.Prelude.{◌≡◌, ◌≤◌, ◌<◌, ◌+◌, ◌-◌, ℕ, List, length, filter, nat_le, true};
 ghost use Rattle.stream_base.specs.declared.kept.Kept.{Kept};
 ghost use Rattle.stream_base.specs.Model.Journal.{put_in_order};
 ghost use Rattle.stream_base.specs.Model.Windows.{first_time, last_time, within};
@@ -28,6 +28,10 @@ pub trait Part: Drop {
     /// The time of the last tuple.
     fn last_time(&self) -> u64
         ensures { result ≡ last_time (tuples self.now) };
+
+    /// Whether there is room for one tuple more, as far as one look tells.
+    fn has_room(&self) -> bool
+        ensures { result ≡ true → 1 ≤ spare self.now };
 
     /// Makes room for one tuple more. A part that is full keeps its first tuples and gives the others
     /// as a part of their own: half of them, or only the last where it is the last part, behind which

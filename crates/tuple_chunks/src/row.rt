@@ -1,4 +1,4 @@
-ghost use Rattle.std.specs.Prelude.{◌≡◌, ◌≤◌, ◌<◌, ◌+◌, ◌-◌, ◌^◌, ◌++◌, List, ℕ, All, IfOk, OnOk, length, filter, nat_le, vec_len, slice_index_or};
+ghost use Rattle.std.specs.Prelude.{◌≡◌, ◌≤◌, ◌<◌, ◌+◌, ◌-◌, ◌^◌, ◌++◌, List, ℕ, All, IfOk, OnOk, length, filter, nat_le, true, vec_len, slice_index_or};
 ghost use Rattle.std.specs.List.{flat_map};
 ghost use Rattle.stream_base.specs.Laws.{TimesDoNotFall};
 ghost use Rattle.stream_base.specs.Model.Journal.{put_in_order};
@@ -9,7 +9,7 @@ ghost use Rattle.tuple_chunks.specs.Sums.{IsSum, shown_of};
 use crate::chunk::MOST;
 use crate::part::Part;
 use crate::places::cut;
-use crate::sums::{covers, joined, misses, shown_together};
+use crate::sums::{covers, forget, joined, misses, shown_together};
 use agg_laws::Steps;
 use aggregates::Bundle;
 use slice_lists::Slice;
@@ -103,6 +103,10 @@ impl<P: Part> Part for Row<P> {
         self.parts[self.parts.len() - 1].last_time()
     }
 
+    fn has_room(&self) -> bool {
+        self.ready
+    }
+
     fn settle(&mut self, is_last: bool) -> Result<Option<Row<P>>, NoMemory> {
         self.reserve()?;
         if self.parts.len() < MOST {
@@ -125,11 +129,11 @@ impl<P: Part> Part for Row<P> {
 
     fn put(&mut self, x: Kept) {
         let at = entry_of(&self.parts, x.time);
-        put_in_part(&mut self.parts, at, x);
+        let has_room = put_in_part(&mut self.parts, at, x);
         self.number += 1;
         self.entered = at;
-        self.ready = false;
-        self.sum = None; // It was that of the tuples without this one.
+        self.ready = has_room && self.number < usize::MAX;
+        forget(&mut self.sum); // It was that of the tuples without this one.
     }
 
     fn drop_before(&mut self, time: u64) {
@@ -202,8 +206,8 @@ fn entry_of<P: Part>(parts: &[P], time: u64) -> usize
     }
 }
 
-// Puts a tuple into the part that it enters.
-fn put_in_part<P: Part>(parts: &mut Vec<P>, at: usize, x: Kept)
+// Puts a tuple into the part that it enters, and answers whether that has room still.
+fn put_in_part<P: Part>(parts: &mut Vec<P>, at: usize, x: Kept) -> bool
     requires entry { IsEntry P.tuples parts.old.items x.time at }
     requires parts { AreParts P.tuples parts.old.items }
     requires rooms { All (λ p. 1 ≤ P.spare p) parts.old.items }
@@ -211,10 +215,12 @@ fn put_in_part<P: Part>(parts: &mut Vec<P>, at: usize, x: Kept)
         ≡ put_in_order (flat_map P.tuples parts.old.items) x }
     ensures parts { AreParts P.tuples parts.new.items }
     ensures rooms { HaveRoomBut P.spare parts.new.items at }
+    ensures ready { result ≡ true → All (λ p. 1 ≤ P.spare p) parts.new.items }
     ensures len { vec_len parts.new ≡ vec_len parts.old }
 {
     let part = &mut parts[at];
     part.put(x);
+    part.has_room()
 }
 
 // Makes room in the one part that may have none.

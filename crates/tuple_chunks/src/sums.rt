@@ -1,5 +1,5 @@
 //! Sums and ranges of tuples where there may be none.
-ghost use Rattle.std.specs.Prelude.{◌≡◌, ◌≤◌, ◌<◌, ◌+◌, ◌-◌, ◌++◌, ◌∷◌, ◌^◌, ◌&&◌, ◌||◌, [], Some, List, length, nat_le, nat_lt};
+ghost use Rattle.std.specs.Prelude.{◌≡◌, ◌≤◌, ◌<◌, ◌+◌, ◌-◌, ◌++◌, ◌∷◌, ◌^◌, ◌&&◌, ◌||◌, [], None, Some, List, length, nat_le, nat_lt};
 ghost use Rattle.stream_base.specs.declared.kept.Kept.{Kept};
 ghost use Rattle.tuple_chunks.specs.Sums.{IsSum, number_in, shown_joined};
 
@@ -76,4 +76,13 @@ pub fn misses(low: u64, high: u64, first: u64, last: u64) -> bool
     ensures { result ≡ (nat_lt last low || nat_le high first) }
 {
     last < low || high <= first
+}
+
+/// Forgets a sum. Where there is none nothing is written, as in order.
+pub fn forget(sum: &mut Option<Bundle>)
+    ensures { sum.new ≡ None }
+{
+    if sum.is_some() {
+        *sum = None;
+    }
 }

@@ -19,15 +19,15 @@ use std::alloc::Global;
 use std::marker::Model;
 use stream_base::{Kept, NoMemory};
 
-// Chunks in groups, and these in a row.
-type Rows = Row<Row<Chunk>>;
+// Chunks in groups, these in groups again, and those in a row.
+type Rows = Row<Row<Row<Chunk>>>;
 
 /// The tuples of one key in event order. Contracts see the list, and whether there is room for one
 /// tuple more. A few tuples lie in one list, which is empty where there are rows.
 #[derive(Drop)]
 pub struct Tuples {
     few: Vec<Kept>,
-    rows: Option<Row<Row<Chunk>>>,
+    rows: Option<Rows>,
 }
 
 impl Model for Tuples {
@@ -144,7 +144,8 @@ fn rows_of(tuples: &Vec<Kept>) -> Result<Rows, NoMemory>
     let alloc = *tuples.allocator();
     let chunk = Chunk::of(alloc, tuples)?;
     let group = Row::of(alloc, chunk)?;
-    Row::of(alloc, group)
+    let groups = Row::of(alloc, group)?;
+    Row::of(alloc, groups)
 }
 
 // What tuples come to, of which there may be none.

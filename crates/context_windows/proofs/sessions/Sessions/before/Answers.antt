@@ -10,16 +10,17 @@ use Rattle.context_windows.specs.Spanned.{gap_at, window_at}
 use Rattle.context_windows.proofs.Changing.{remembered}
 use Rattle.context_windows.proofs.sessions.Sessions.before.Goals as goal
 
-pub first_standing-first-requires : goal.first_standing-first-requires
-first_standing-first-requires g c =
-    subst AreApart (search rules) (apart_filter (is_near c.gap_of.result c.args.time) c.self.inside.spans.items c.self.invariant)
+pub ask-self-inside-requires : goal.ask-self-inside-requires
+ask-self-inside-requires g c =
+    let is : option_to_list c.standing_near-first.result.0 ++ option_to_list c.standing_near-first.result.1 ≡ asked_of (gap_at c.args.defs.now c.args.window) c.args.time c.args.water c.args.self.now.spans = search rules in
+    (All-split (IsAlignedWith (g.S.AggStore.stored c.args.store.now).slices) (option_to_list c.standing_near-first.result.0) (option_to_list c.standing_near-first.result.1) (subst (All (IsAlignedWith (g.S.AggStore.stored c.args.store.now).slices)) (sym is) c.requires.aligned)).0
 
 pub ask-self-inside-requires-2 : goal.ask-self-inside-requires-2
 ask-self-inside-requires-2 g c =
-    let is : option_to_list c.first_standing-first.result.0 ++ option_to_list c.first_standing-first.result.1 ≡ asked_of (gap_at c.args.defs.now c.args.window) c.args.time c.args.water c.args.self.now.spans = search rules in
-    (All-split (IsAlignedWith (g.S.AggStore.stored c.args.store.now).slices) (option_to_list c.first_standing-first.result.0) (option_to_list c.first_standing-first.result.1) (subst (All (IsAlignedWith (g.S.AggStore.stored c.args.store.now).slices)) (sym is) c.requires.aligned)).1
+    let is : option_to_list c.standing_near-first.result.0 ++ option_to_list c.standing_near-first.result.1 ≡ asked_of (gap_at c.args.defs.now c.args.window) c.args.time c.args.water c.args.self.now.spans = search rules in
+    (All-split (IsAlignedWith (g.S.AggStore.stored c.args.store.now).slices) (option_to_list c.standing_near-first.result.0) (option_to_list c.standing_near-first.result.1) (subst (All (IsAlignedWith (g.S.AggStore.stored c.args.store.now).slices)) (sym is) c.requires.aligned)).1
 
 pub returns-clause-remembers : goal.returns-clause-remembers
 returns-clause-remembers g c = λ kept f le held.
-    let is : option_to_list c.first_standing-first.result.0 ++ option_to_list c.first_standing-first.result.1 ≡ asked_of (gap_at c.args.defs.now c.args.window) c.args.time c.args.water c.args.self.now.spans = search rules in
-    remembered (window_at c.args.defs.now c.args.window) c.args.time c.args.water kept c.args.self.now _ (g.S.AggStore.stored c.args.store.now) c.requires.comes.session.session f le held c.first_standing-first.result.0 c.first_standing-first.result.1 is c.ask-self-inside.result c.ask-self-inside-2.result refl (λ is h. c.ask-self-inside.ensures.value is h ∙ search rules) (λ is h. c.ask-self-inside-2.ensures.value is h ∙ search rules)
+    let is : option_to_list c.standing_near-first.result.0 ++ option_to_list c.standing_near-first.result.1 ≡ asked_of (gap_at c.args.defs.now c.args.window) c.args.time c.args.water c.args.self.now.spans = search rules in
+    remembered (window_at c.args.defs.now c.args.window) c.args.time c.args.water kept c.args.self.now _ (g.S.AggStore.stored c.args.store.now) c.requires.comes.session.session f le held c.standing_near-first.result.0 c.standing_near-first.result.1 is c.ask-self-inside.result c.ask-self-inside-2.result refl (λ is h. c.ask-self-inside.ensures.value is h ∙ search rules) (λ is h. c.ask-self-inside-2.ensures.value is h ∙ search rules)

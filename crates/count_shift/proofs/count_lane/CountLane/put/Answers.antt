@@ -13,7 +13,7 @@ use Rattle.count_shift.proofs.count_lane.CountLane.put.Goals as goal
 pub append_new-requires-clause-spare : goal.append_new-requires-clause-spare
 append_new-requires-clause-spare g c =
     let x = kept_at c.args.pos c.args.time c.args.value in
-    let known : IsPutAt c.args.def.now c.args.self.now.kept c.insert.new.self.items x c.args.water c.count_of.result c.upper-rank.result c.upper.result c.upper_after.result = record {
+    let known : IsPutAt c.args.def.now c.args.self.now.kept c.insert.new.self.items x c.args.water c.count_of.result c.upper-rank.result c.upper-reached.result c.upper_after.result = record {
       events = c.requires.events;
       ordered = subst TimesDoNotFall (ap (λ (l : Laned). l.kept) c.self.view_is) c.self.invariant;
       count_is = c.count_of.ensures.value;
@@ -22,11 +22,11 @@ append_new-requires-clause-spare g c =
       after_is = search rules;
       put = search rules;
     } in
-    let all = number_of_put c.args.window c.args.def.now c.args.key.now c.args.self.now.kept c.insert.new.self.items x c.args.water c.count_of.result c.upper-rank.result c.upper.result c.upper_after.result known in
+    let all = number_of_put c.args.window c.args.def.now c.args.key.now c.args.self.now.kept c.insert.new.self.items x c.args.water c.count_of.result c.upper-rank.result c.upper-reached.result c.upper_after.result known in
     omega (arith, all, c.append_again.ensures.adds.number, c.append_again.ensures.adds.capacity, c.requires.spare)
 
 -- what is known once all is told
-known : (g : given.Over) (c : goal.After-append_new g) → IsPutAt c.args.def.now c.args.self.now.kept c.insert.new.self.items (kept_at c.args.pos c.args.time c.args.value) c.args.water c.count_of.result c.upper-rank.result c.upper.result c.upper_after.result
+known : (g : given.Over) (c : goal.After-append_new g) → IsPutAt c.args.def.now c.args.self.now.kept c.insert.new.self.items (kept_at c.args.pos c.args.time c.args.value) c.args.water c.count_of.result c.upper-rank.result c.upper-reached.result c.upper_after.result
 known g c = record {
   events = c.requires.events;
   ordered = subst TimesDoNotFall (ap (λ (l : Laned). l.kept) c.self.view_is) c.self.invariant;
@@ -39,31 +39,31 @@ known g c = record {
 
 pub invariant_of-self : goal.invariant_of-self
 invariant_of-self g c =
-    items_in_order c.args.window c.args.def.now c.args.key.now c.args.self.now.kept c.insert.new.self.items (kept_at c.args.pos c.args.time c.args.value) c.args.water c.count_of.result c.upper-rank.result c.upper.result c.upper_after.result (known g c)
+    items_in_order c.args.window c.args.def.now c.args.key.now c.args.self.now.kept c.insert.new.self.items (kept_at c.args.pos c.args.time c.args.value) c.args.water c.count_of.result c.upper-rank.result c.upper-reached.result c.upper_after.result (known g c)
 
 pub returns-clause-takes : goal.returns-clause-takes
 returns-clause-takes g c = record {
-  kept = items_are c.args.window c.args.def.now c.args.key.now c.args.self.now.kept c.insert.new.self.items (kept_at c.args.pos c.args.time c.args.value) c.args.water c.count_of.result c.upper-rank.result c.upper.result c.upper_after.result (known g c);
+  kept = items_are c.args.window c.args.def.now c.args.key.now c.args.self.now.kept c.insert.new.self.items (kept_at c.args.pos c.args.time c.args.value) c.args.water c.count_of.result c.upper-rank.result c.upper-reached.result c.upper_after.result (known g c);
   ordered = invariant_of-self g c;
   spare = search rules;
 }
 
 pub returns-clause-next : goal.returns-clause-next
 returns-clause-next g c =
-    next_of_items c.args.window c.args.def.now c.args.key.now c.args.self.now.kept c.insert.new.self.items (kept_at c.args.pos c.args.time c.args.value) c.args.water c.count_of.result c.upper-rank.result c.upper.result c.upper_after.result (known g c)
+    next_of_items c.args.window c.args.def.now c.args.key.now c.args.self.now.kept c.insert.new.self.items (kept_at c.args.pos c.args.time c.args.value) c.args.water c.count_of.result c.upper-rank.result c.upper-reached.result c.upper_after.result (known g c)
 
 pub returns-clause-none_gone : goal.returns-clause-none_gone
 returns-clause-none_gone g c =
-    none_retracted c.args.window c.args.def.now c.args.key.now c.args.self.now.kept c.insert.new.self.items (kept_at c.args.pos c.args.time c.args.value) c.args.water c.count_of.result c.upper-rank.result c.upper.result c.upper_after.result (known g c)
+    none_retracted c.args.window c.args.def.now c.args.key.now c.args.self.now.kept c.insert.new.self.items (kept_at c.args.pos c.args.time c.args.value) c.args.water c.count_of.result c.upper-rank.result c.upper-reached.result c.upper_after.result (known g c)
 
 pub returns-clause-changes : goal.returns-clause-changes
 returns-clause-changes g c = λ marks n.
-    put_told_by c.args.window c.args.def.now c.args.key.now c.args.self.now.kept c.insert.new.self.items (kept_at c.args.pos c.args.time c.args.value) c.args.water c.count_of.result c.upper-rank.result c.upper.result c.upper_after.result (known g c) marks c.args.out.now.items c.append_again.new.out.items c.append_new.new.out.items n
+    put_told_by c.args.window c.args.def.now c.args.key.now c.args.self.now.kept c.insert.new.self.items (kept_at c.args.pos c.args.time c.args.value) c.args.water c.count_of.result c.upper-rank.result c.upper-reached.result c.upper_after.result (known g c) marks c.args.out.now.items c.append_again.new.out.items c.append_new.new.out.items n
     (rw c.deref-4.ensures.value at c.append_again.ensures.told) (rw c.deref-5.ensures.value at c.append_new.ensures.told)
 
 pub returns-clause-adds : goal.returns-clause-adds
 returns-clause-adds g c =
-    let all = number_of_put c.args.window c.args.def.now c.args.key.now c.args.self.now.kept c.insert.new.self.items (kept_at c.args.pos c.args.time c.args.value) c.args.water c.count_of.result c.upper-rank.result c.upper.result c.upper_after.result (known g c) in
+    let all = number_of_put c.args.window c.args.def.now c.args.key.now c.args.self.now.kept c.insert.new.self.items (kept_at c.args.pos c.args.time c.args.value) c.args.water c.count_of.result c.upper-rank.result c.upper-reached.result c.upper_after.result (known g c) in
     record {
       number = omega (arith, all, c.append_again.ensures.adds.number, c.append_new.ensures.adds.number);
       capacity = c.append_new.ensures.adds.capacity ∙ c.append_again.ensures.adds.capacity;
@@ -71,8 +71,8 @@ returns-clause-adds g c =
 
 pub returns-clause-cost : goal.returns-clause-cost
 returns-clause-cost g c =
-    let again = c.upper.result / c.count_of.result - c.upper-rank.result / c.count_of.result in
-    let new = c.upper_after.result / c.count_of.result - c.upper.result / c.count_of.result in
+    let again = c.upper-reached.result / c.count_of.result - c.upper-rank.result / c.count_of.result in
+    let new = c.upper_after.result / c.count_of.result - c.upper-reached.result / c.count_of.result in
     let told : again + new ≡ vec_len c.append_new.new.out - vec_len c.args.out.now = omega (arith, c.append_again.ensures.adds.number, c.append_new.ensures.adds.number) in
     let within : c.append_new.new.steps ≤ c.args.steps.now + 2 * c.count_of.result * (again + new) = steps_told c.count_of.result again new c.args.steps.now c.append_again.new.steps c.append_new.new.steps c.append_again.ensures.cost c.append_new.ensures.cost in
     rw (← c.count_of.ensures.value, ← told) within
