@@ -1,4 +1,4 @@
-ghost use Rattle.std.specs.Prelude.{◌≡◌, ◌≤◌, ◌<◌, ◌+◌, ◌*◌, ◌/◌, ◌++◌, ◌∷◌, [], ℕ, IfNone, IfSome, OnOk, length, slice_index, slice_set};
+ghost use Rattle.std.specs.Prelude.{◌≡◌, ◌≤◌, ◌<◌, ◌+◌, ◌*◌, ◌/◌, ◌++◌, ◌∷◌, [], ℕ, IfNone, IfSome, OnOk, length, nat_le, slice_index, slice_set};
 ghost use Rattle.shard_core.specs.Reached.{AreBlocks, AreGroups, IsNextReached, NoneReached};
 
 use std::alloc::Global;
@@ -101,6 +101,30 @@ impl Dues {
             }
         }
         None
+    }
+
+    // Whether a watermark reaches the number at a place. Where there is none it counts as 0.
+    pub fn is_reached(&self, place: usize, water: u64) -> bool
+        ensures { result ≡ nat_le (slice_index self.now.items place) water }
+    {
+        match self.numbers.get(place) {
+            Some(number) => *number <= water,
+            None => true,
+        }
+    }
+
+    // Whether a watermark reaches more than an eighth of the numbers, which only tells what is faster.
+    pub fn reaches_many(&self, water: u64) -> bool {
+        let mut few = self.numbers.len() / 8;
+        let mut from = 0;
+        while let Some(place) = self.next_reached(from, water) {
+            if few == 0 {
+                return true;
+            }
+            few -= 1;
+            from = place + 1;
+        }
+        false
     }
 
     // Looks for the least numbers of the blocks and groups that a watermark reaches again.

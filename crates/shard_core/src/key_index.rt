@@ -98,8 +98,36 @@ impl KeyIndex {
         Ok(place)
     }
 
-    // The places whose due numbers a watermark reaches, by the bytes of their keys.
+    // The places whose due numbers a watermark reaches, by the bytes of their keys. Where they are many
+    // all keys are walked, and else these alone are put in order.
     pub fn due(&self, alloc: Global, dues: &Dues, water: u64) -> Result<Vec<usize>, NoMemory>
+        requires { length dues.now.items ≡ length self.now }
+        ensures { IfOk result (λ places. places.items
+            ≡ filter (λ p. nat_le (slice_index dues.now.items p) water) (values_of self.now)) }
+    {
+        if dues.reaches_many(water) {
+            self.due_of_all(alloc, dues, water)
+        } else {
+            self.due_of_few(alloc, dues, water)
+        }
+    }
+
+    // The same by a look at each key, in order.
+    fn due_of_all(&self, alloc: Global, dues: &Dues, water: u64) -> Result<Vec<usize>, NoMemory>
+        ensures { IfOk result (λ places. places.items
+            ≡ filter (λ p. nat_le (slice_index dues.now.items p) water) (values_of self.now)) }
+    {
+        let mut places = Vec::new(alloc);
+        for place in self.index.values() {
+            if dues.is_reached(*place, water) {
+                places.push(*place)?;
+            }
+        }
+        Ok(places)
+    }
+
+    // The same by the keys that are due.
+    fn due_of_few(&self, alloc: Global, dues: &Dues, water: u64) -> Result<Vec<usize>, NoMemory>
         requires { length dues.now.items ≡ length self.now }
         ensures { IfOk result (λ places. places.items
             ≡ filter (λ p. nat_le (slice_index dues.now.items p) water) (values_of self.now)) }

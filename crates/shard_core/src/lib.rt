@@ -13,7 +13,7 @@
 //! or mark comes, and its cost is that of the key alone.
 //!
 //! An engine appends to a plain list, which goes to the log of changes with the place of its key as
-//! soon as the key is done: so what a move of the watermark changes of many keys never waits at once.
+//! soon as the key is done: what a move of the watermark changes of many keys never waits at once.
 #![tactic(auto)]
 
 use agg_queue::Daba;

@@ -24,8 +24,8 @@ impl Told {
         }
     }
 
-    // Makes room for `room` changes in what waits, and in the log for all that finds room there, so that
-    // it takes no memory to settle.
+    // Makes room for `room` changes to wait, and in the log for all that could: to settle takes no
+    // memory.
     pub fn reserve(&mut self, room: usize) -> Result<(), NoMemory>
         requires { IsSettled self.old }
         ensures settled { IsSettled self.new }

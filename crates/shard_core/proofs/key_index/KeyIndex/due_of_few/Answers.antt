@@ -6,7 +6,7 @@ use Rattle.std.specs.Map.Iter.{deref}
 use Rattle.std.proofs.lemmas.List.{append-nil}
 use Rattle.std.proofs.lemmas.Map.Iter.{rest_more}
 use Rattle.shard_core.proofs.Advance.{filter_of_map}
-use Rattle.shard_core.proofs.key_index.KeyIndex.due.Goals as goal
+use Rattle.shard_core.proofs.key_index.KeyIndex.due_of_few.Goals as goal
 
 pub loop-place-init : goal.loop-place-init
 loop-place-init c =
