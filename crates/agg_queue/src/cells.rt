@@ -38,11 +38,14 @@ impl<M: Copy> Cells<M> {
         }
     }
 
-    /// Makes room for `room` more.
+    /// Makes room for `room` more, and at first for no more than these.
     pub(crate) fn reserve(&mut self, room: u64) -> Result<(), AllocError>
         ensures reserves { Reserves room result (queue_of self.old) (queue_of self.new) }
         ensures aggregates { self.new.aggregates ≡ self.old.aggregates }
     {
+        if self.deque.capacity() == 0 {
+            return self.deque.reserve_exact(room as usize);
+        }
         self.deque.reserve(room as usize)
     }
 

@@ -47,10 +47,14 @@ impl<T: Copy> FrontVec<T> {
         &self.items[self.gone..]
     }
 
-    /// Makes room for `room` more.
+    /// Makes room for `room` more, and at first for no more than these.
     pub fn reserve(&mut self, room: usize) -> Result<(), NoMemory>
         ensures { MakesRoom room result self.old self.new }
     {
+        if self.items.capacity() == 0 {
+            self.items.reserve_exact(room)?;
+            return Ok(());
+        }
         self.items.reserve(room)?;
         Ok(())
     }
