@@ -24,8 +24,8 @@ use std::marker::Model;
 use stream_base::{Change, Func, KeyText, NoMemory};
 use window_spans::{
     Span, Standing, Teller, add_mark, ask, back_of, between, due, end_after, end_of_last_begun,
-    first_asked, first_before, first_or, front_of, holder, is_filled, leave_marks, near, part, part_if, replace,
-    start_after, tell_all, tell_joined, tell_part, tell_taken,
+    first_asked, first_before, first_or, front_of, holder, is_filled, leave_marks, near, part,
+    part_if, replace, start_after, tell_all, tell_joined, tell_part, tell_taken,
 };
 
 /// The intervals between the marks of one key, for a marks window of it: the span of each that has a
