@@ -23,12 +23,12 @@ use Rattle.slice_lists.specs.Slices.{joined}
 use Rattle.agg_store.specs.Stored.{Stored, tuples_of}
 use Rattle.window_spans.specs.declared.span.Span.{Span}
 use Rattle.window_spans.specs.Held.{AreAlignedWith, IsAlignedWith}
-use Rattle.window_spans.specs.Parted.{back_of, front_of, head_before}
+use Rattle.window_spans.specs.Parted.{back_of, first_or, front_of, head_before, holder_of}
 use Rattle.window_spans.specs.Spans.{due_of, head_standing, is_due, is_near, near_of, stands}
 use Rattle.context_windows.specs.Aligned.{IsOfWindows}
-use Rattle.context_windows.specs.Marked.{AreIntervals, IsEdge, Marked, asked_at, entered_at, holder_in, parted_of, with_parts}
+use Rattle.context_windows.specs.Marked.{IsEdge, Marked, asked_at, entered_at, holder_in, parted_of, with_parts}
 use Rattle.context_windows.proofs.Aligning.{edges_aligned}
-use Rattle.context_windows.proofs.Intervals.{holder_between}
+use Rattle.context_windows.proofs.Enough.{sides_are_edges}
 use Rattle.key_parts.specs.Held.{IsHeld}
 use Rattle.key_parts.specs.Moves.{IsMarkStep, IsPutStep}
 use Rattle.context_parts.proofs.Rest.{is_stored}
@@ -105,11 +105,15 @@ asked_edged marks time water spans a = first (near_of 1 time spans) (All-filter 
         by true = All-cons (λ (s : Span). IsEdge marks s.low × IsEdge marks s.high) s [] (All-head (λ (s : Span). IsEdge marks s.low × IsEdge marks s.high) s ss a) (All-nil (λ (s : Span). IsEdge marks s.low × IsEdge marks s.high))
         by false = All-nil (λ (s : Span). IsEdge marks s.low × IsEdge marks s.high)
 
-pub entered_edged : (time water : ℕ) (s : Marked) → AreIntervals s.spans s.marks → time ≤ TIME_MAX → AreEdged s.marks (entered_at time water s)
-entered_edged time water s h l =
-    let b = holder_between s.spans s.marks time h l in
-    All-filter (stands water) (λ (t : Span). IsEdge s.marks t.low × IsEdge s.marks t.high) (holder_in time s.spans s.marks ∷ [])
-    (All-cons (λ (t : Span). IsEdge s.marks t.low × IsEdge s.marks t.high) (holder_in time s.spans s.marks) [] (b.low, b.high) (All-nil (λ (t : Span). IsEdge s.marks t.low × IsEdge s.marks t.high)))
+-- the interval that a tuple enters, where the marks at the sides of its time are those of the key
+pub entered_edged : (marks : List ℕ) (time water : ℕ) (s : Marked) → AreEdged marks s.spans → holder_of s.marks time ≡ holder_of marks time → AreEdged marks (entered_at time water s)
+entered_edged marks time water s a same =
+    All-filter (stands water) (λ (t : Span). IsEdge marks t.low × IsEdge marks t.high) (holder_in time s.spans s.marks ∷ [])
+    (All-cons (λ (t : Span). IsEdge marks t.low × IsEdge marks t.high) (holder_in time s.spans s.marks) [] (first (near_of 1 time s.spans) (All-filter (is_near 1 time) (λ (t : Span). IsEdge marks t.low × IsEdge marks t.high) s.spans a)) (All-nil (λ (t : Span). IsEdge marks t.low × IsEdge marks t.high)))
+  where
+    first : (near : List Span) → AreEdged marks near → IsEdge marks (first_or (holder_of s.marks time) near).low × IsEdge marks (first_or (holder_of s.marks time) near).high
+    first [] n = subst (λ (t : Span). IsEdge marks t.low × IsEdge marks t.high) (sym same) (sides_are_edges marks time)
+    first (t ∷ ts) n = All-head (λ (t : Span). IsEdge marks t.low × IsEdge marks t.high) t ts n
 
 pub due_edged : (marks : List ℕ) (old new : ℕ) (spans : List Span) → AreEdged marks spans → AreEdged marks (due_of old new spans)
 due_edged marks old new spans a = All-filter (is_due old new) (λ (s : Span). IsEdge marks s.low × IsEdge marks s.high) spans a

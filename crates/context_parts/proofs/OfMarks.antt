@@ -27,7 +27,7 @@ use Rattle.agg_store.specs.Stored.{Stored, tuples_of}
 use Rattle.window_spans.specs.declared.span.Span.{Span}
 use Rattle.window_spans.specs.Ahead.{start_after}
 use Rattle.window_spans.specs.Spans.{AreApart, span_of}
-use Rattle.context_windows.specs.Marked.{AreIntervals, FollowsMarks, HoldsStretches, IsEdge, Marked, marks_window, stretches_after}
+use Rattle.context_windows.specs.Marked.{FollowsMarks, HoldsStretches, IsEdge, Marked, marks_window, stretches_after}
 use Rattle.context_windows.specs.Spanned.{window_at}
 use Rattle.key_parts.specs.Moves.{SettlesUpTo}
 use Rattle.key_parts.specs.Work.{change_work}
@@ -139,14 +139,6 @@ spans_bounded marks kept s f times = All-weaker (λ (t : Span). IsEdge marks t.l
     ends e (inl z) = omega arith
     ends e (inr (inl c)) = let l : e ≤ TIME_MAX = All-contains (λ mark. mark ≤ TIME_MAX) marks e times c in omega arith
     ends e (inr (inr z)) = omega arith
-
-pub are_intervals : (marks : List ℕ) (kept : List Kept) (s : Marked) → FollowsMarks marks kept s → IsStrictlyIncreasing marks → All (λ mark. mark ≤ TIME_MAX) marks → AreIntervals s.spans s.marks
-are_intervals marks kept s f r t = record {
-  apart = spans_apart marks kept s f;
-  rising = subst IsStrictlyIncreasing (sym f.known) r;
-  in_time = subst (All (λ mark. mark ≤ TIME_MAX)) (sym f.known) t;
-  edges = subst (λ ms. AreEdged ms s.spans) (sym f.known) (spans_edged marks kept s f);
-}
 
 -- ---- the intervals of what is left
 -- those that end later than the watermark minus the lateness are those of all that was kept

@@ -1,23 +1,26 @@
 -- Intervals between marks, apart and between edges, with a tuple or a mark more.
-use Rattle.std.proofs.Common.{◌≡◌, ◌∙◌, ℕ, ◌+◌, ◌<◌, ◌≤◌, fold, max, min, Bool, true, false, cond, List, [], ◌∷◌, ◌++◌, None, Some, sym, refl, subst, arith, inl, inr}
+use Rattle.std.proofs.Common.{◌≡◌, ◌∙◌, ℕ, ◌+◌, ◌<◌, ◌≤◌, Bool, true, false, cond, not, List, [], ◌∷◌, ◌++◌, None, Some, ap, sym, refl, subst, arith, inl, inr}
 use Rattle.std.specs.Prelude.{◌⊎◌, ◌&&◌, nat_le, nat_lt, option_to_list}
 use Rattle.std.specs.BTreeSet.{insert_key}
-use Rattle.std.specs.List.{All, Contains, filter}
+use Rattle.std.specs.List.{All, Contains, filter, list_any}
 use Rattle.std.specs.Ordering.{nat_cmp}
-use Rattle.std.proofs.lemmas.Bool.{and_parts, leb-true, ltb-true}
+use Rattle.std.proofs.lemmas.Bool.{and_from, and_parts, cases_lt, leb-true, lt-ltb, ltb-true}
 use Rattle.std.proofs.lemmas.List.Elements.{All-append, All-cons, All-nil, All-contains, All-filter, All-weaker}
+use Rattle.std.proofs.lemmas.List.Kept.{IsStrictlyIncreasing-filter}
 use Rattle.std.proofs.lemmas.Map.Lookups.{exact_unsigned}
 use Rattle.stream_base.specs.declared.limits.TheConstants.{FINAL, TIME_MAX}
-use Rattle.stream_base.proofs.Members.{filter_members}
-use Rattle.stream_base.proofs.Rising.{Contains-head, Contains-insert_key, Contains-insert_key_cases, Contains-insert_key_self, Contains-tail}
+use Rattle.stream_base.proofs.Members.{filter_has, filter_members}
+use Rattle.stream_base.proofs.Rising.{Contains-head, Contains-insert_key, Contains-insert_key_cases, Contains-insert_key_self, none_in_nil}
 use Rattle.stream_base.proofs.Distinct.{All_from_members}
+use Rattle.slice_lists.specs.Touched.{marks_left}
 use Rattle.slice_lists.proofs.MarkFacts.{rising_more}
 use Rattle.window_spans.specs.declared.span.Span.{Span}
 use Rattle.window_spans.specs.Parted.{back_of, first_or, front_of, head_before, holder_of, part_if}
 use Rattle.window_spans.specs.Spans.{AreApart, is_near, near_of}
 use Rattle.window_spans.proofs.Apart.{All_filtered, append_apart, apart_filter, ordered, proper}
 use Rattle.window_spans.proofs.MarkSides.{last_by, last_from, next_behind, next_by, next_final}
-use Rattle.context_windows.specs.Marked.{AreIntervals, IsEdge, holder_in, parted_of}
+use Rattle.context_windows.specs.Marked.{AreIntervals, IsClear, IsEdge, holder_in, parted_of}
+use Rattle.context_windows.proofs.Enough.{left_own, sides_are_edges, stays}
 
 -- ---- a span between those that end by a time and those that start behind it
 pub record IsBetween (spans : List Span) (marks : List ℕ) (time : ℕ) (s : Span) : Type 0 where
@@ -26,34 +29,7 @@ pub record IsBetween (spans : List Span) (marks : List ℕ) (time : ℕ) (s : Sp
   pub backs : (t : Span) → Contains spans t → time + 1 ≤ t.low → s.high ≤ t.low
   pub low : IsEdge marks s.low
   pub high : IsEdge marks s.high
-
-most_is : (start : ℕ) (xs : List ℕ) → (fold max start xs ≡ start) ⊎ Contains xs (fold max start xs)
-most_is start [] = inl refl
-most_is start (x ∷ xs) =
-    elim (most_is (max start x) xs) [
-      | inl e ↦ elim (larger start x) [
-        | inl f ↦ inl (e ∙ f)
-        | inr f ↦ inr (subst (Contains (x ∷ xs)) (sym (e ∙ f)) (Contains-head x xs))
-      ]
-      | inr c ↦ inr (Contains-tail x xs (fold max (max start x) xs) c)
-    ]
-  where
-    larger : (a b : ℕ) → (max a b ≡ a) ⊎ (max a b ≡ b)
-    larger a b = grind arith
-
-least_is : (start : ℕ) (xs : List ℕ) → (fold min start xs ≡ start) ⊎ Contains xs (fold min start xs)
-least_is start [] = inl refl
-least_is start (x ∷ xs) =
-    elim (least_is (min start x) xs) [
-      | inl e ↦ elim (smaller start x) [
-        | inl f ↦ inl (e ∙ f)
-        | inr f ↦ inr (subst (Contains (x ∷ xs)) (sym (e ∙ f)) (Contains-head x xs))
-      ]
-      | inr c ↦ inr (Contains-tail x xs (fold min (min start x) xs) c)
-    ]
-  where
-    smaller : (a b : ℕ) → (min a b ≡ a) ⊎ (min a b ≡ b)
-    smaller a b = grind arith
+  pub clear : IsClear marks s
 
 module _ (spans : List Span) (marks : List ℕ) (time : ℕ) (h : AreIntervals spans marks) (l : time ≤ TIME_MAX) where
   early : time < FINAL
@@ -85,6 +61,7 @@ module _ (spans : List Span) (marks : List ℕ) (time : ℕ) (h : AreIntervals s
         ];
         low = g.0;
         high = g.1;
+        clear = All-contains (IsClear marks) spans s h.clear c;
       }
 
   -- the interval between the marks at its sides
@@ -105,8 +82,9 @@ module _ (spans : List Span) (marks : List ℕ) (time : ℕ) (h : AreIntervals s
         | inr f ↦ (let n = next_final marks time in omega arith)
       ]
     ];
-    low = elim (most_is 0 (filter (λ m. nat_le m time) marks)) [ inl e ↦ inl e | inr c ↦ inr (inl (filter_members (λ m. nat_le m time) marks (fold max 0 (filter (λ m. nat_le m time) marks)) c).0) ];
-    high = elim (least_is FINAL (filter (λ m. nat_lt time m) marks)) [ inl e ↦ inr (inr e) | inr c ↦ inr (inl (filter_members (λ m. nat_lt time m) marks (fold min FINAL (filter (λ m. nat_lt time m) marks)) c).0) ];
+    low = (sides_are_edges marks time).0;
+    high = (sides_are_edges marks time).1;
+    clear = λ m c. elim (cases_lt time m) [ inl l ↦ inr (next_by marks time m c l) | inr l ↦ inl (last_from marks time m c l) ];
   }
 
   near_head : (near : List Span) → near_of 1 time spans ≡ near → IsBetween spans marks time (first_or (holder_of marks time) near)
@@ -145,6 +123,10 @@ module _ (spans : List Span) (marks : List ℕ) (time : ℕ) (h : AreIntervals s
             (All-filter (λ s. nat_le s.high time) (λ (s : Span). IsEdge marks s.low × IsEdge marks s.high) spans h.edges)
             (All-cons (λ (s : Span). IsEdge marks s.low × IsEdge marks s.high) (holder_in time spans marks) (filter (λ s. nat_le (time + 1) s.low) spans) (b.low, b.high)
             (All-filter (λ s. nat_le (time + 1) s.low) (λ (s : Span). IsEdge marks s.low × IsEdge marks s.high) spans h.edges));
+        clear = All-append (IsClear marks) (filter (λ s. nat_le s.high time) spans) (holder_in time spans marks ∷ filter (λ s. nat_le (time + 1) s.low) spans)
+            (All-filter (λ s. nat_le s.high time) (IsClear marks) spans h.clear)
+            (All-cons (IsClear marks) (holder_in time spans marks) (filter (λ s. nat_le (time + 1) s.low) spans) b.clear
+            (All-filter (λ s. nat_le (time + 1) s.low) (IsClear marks) spans h.clear));
       }
 
   -- ---- a mark more
@@ -167,8 +149,60 @@ module _ (spans : List Span) (marks : List ℕ) (time : ℕ) (h : AreIntervals s
         | inr d ↦ All-contains (λ m. m ≤ TIME_MAX) marks m h.in_time d
       ])
 
-  pub intervals_marked : AreIntervals spans (insert_key nat_cmp marks time)
-  intervals_marked = record { apart = h.apart; rising = rising_more marks time h.rising; in_time = in_time_with; edges = edges_stay spans h.edges }
+  -- the time lies beside an interval
+  clear_with : (s : Span) → IsClear marks s → (time ≤ s.low) ⊎ (s.high ≤ time) → IsClear (insert_key nat_cmp marks time) s
+  clear_with s k beside m c =
+      elim (Contains-insert_key_cases nat_cmp time marks m c) [
+        | inl e ↦ subst (λ m. (m ≤ s.low) ⊎ (s.high ≤ m)) e beside
+        | inr d ↦ k m d
+      ]
+
+  fronts_clear : All (IsClear (insert_key nat_cmp marks time)) (filter (λ s. nat_le s.high time) spans)
+  fronts_clear = All_filtered (λ s. nat_le s.high time) (IsClear (insert_key nat_cmp marks time)) spans (λ s c e. clear_with s (All-contains (IsClear marks) spans s h.clear c) (inr (leb-true s.high time e)))
+
+  backs_clear : All (IsClear (insert_key nat_cmp marks time)) (filter (λ s. nat_le (time + 1) s.low) spans)
+  backs_clear = All_filtered (λ s. nat_le (time + 1) s.low) (IsClear (insert_key nat_cmp marks time)) spans (λ s c e. clear_with s (All-contains (IsClear marks) spans s h.clear c) (inl (let l : time + 1 ≤ s.low = leb-true (time + 1) s.low e in omega arith)))
+
+  -- where none is parted, no interval has the time inside
+  beside_all : parted_of time spans ≡ None → (s : Span) → Contains spans s → (time ≤ s.low) ⊎ (s.high ≤ time)
+  beside_all e s c =
+      elim (cases_lt s.low time) [
+        | inl l ↦ elim (cases_lt time s.high) [
+          | inl k ↦ absurd (inside l k)
+          | inr k ↦ inr k
+        ]
+        | inr l ↦ inl l
+      ]
+    where
+      inside : s.low < time → time < s.high → ⊥
+      inside l k = by (near_of 1 time spans) refl (filter_has (is_near 1 time) spans s c (and_from (nat_lt time s.high) (nat_lt s.low (time + 1)) (lt-ltb time s.high k) (lt-ltb s.low (time + 1) (omega arith)))) e
+        where
+          some : (n : Span) → nat_lt n.low time ≡ true → cond (nat_lt n.low time) (Some n) None ≡ None → ⊥
+          some n t f = let g : Some n ≡ None = ap (λ b. cond b (Some n) None) (sym t) ∙ f in cc
+
+          by : (near : List Span) → near_of 1 time spans ≡ near → Contains near s → head_before time near ≡ None → ⊥
+          by [] is d f = none_in_nil s d
+          by (n ∷ ns) is d f =
+              let m = filter_members (is_near 1 time) spans n (subst (λ l. Contains l n) (sym is) (Contains-head n ns)) in
+              let t = and_parts (nat_lt time n.high) (nat_lt n.low (time + 1)) m.1 in
+              let ends : time < n.high = ltb-true time n.high t.0 in
+              let starts : n.low < time + 1 = ltb-true n.low (time + 1) t.1 in
+              elim (ordered spans n s h.apart m.0 c) [
+                | inl same ↦ some n (lt-ltb n.low time (let q : n.low ≡ s.low = (λ i. (same i).low) in omega arith)) f
+                | inr o ↦ elim o [
+                  | inl q ↦ omega arith
+                  | inr q ↦ omega arith
+                ]
+              ]
+
+  pub intervals_marked : parted_of time spans ≡ None → AreIntervals spans (insert_key nat_cmp marks time)
+  intervals_marked e = record {
+    apart = h.apart;
+    rising = rising_more marks time h.rising;
+    in_time = in_time_with;
+    edges = edges_stay spans h.edges;
+    clear = All_from_members (IsClear (insert_key nat_cmp marks time)) spans (λ s c. clear_with s (All-contains (IsClear marks) spans s h.clear c) (beside_all e s c));
+  }
 
   part_cases : (filled : Bool) (forgotten : ℕ) (s : Span) (P : Span → Type 0) → P s → All P (option_to_list (part_if filled forgotten s))
   part_cases filled forgotten s P p = by (filled && nat_lt forgotten s.high)
@@ -224,7 +258,33 @@ module _ (spans : List Span) (marks : List ℕ) (time : ℕ) (h : AreIntervals s
             (part_cases front forgotten (front_of time s) (λ (s : Span). IsEdge (insert_key nat_cmp marks time) s.low × IsEdge (insert_key nat_cmp marks time) s.high) (edge_stays s.low b.low, mark_edge))
             (part_cases back forgotten (back_of time s) (λ (s : Span). IsEdge (insert_key nat_cmp marks time) s.low × IsEdge (insert_key nat_cmp marks time) s.high) (mark_edge, edge_stays s.high b.high)))
             (All-filter (λ s. nat_le (time + 1) s.low) (λ (s : Span). IsEdge (insert_key nat_cmp marks time) s.low × IsEdge (insert_key nat_cmp marks time) s.high) spans (edges_stay spans h.edges)));
+        clear = All-append (IsClear (insert_key nat_cmp marks time)) (filter (λ s. nat_le s.high time) spans) ((f ++ k) ++ filter (λ s. nat_le (time + 1) s.low) spans) fronts_clear
+            (All-append (IsClear (insert_key nat_cmp marks time)) (f ++ k) (filter (λ s. nat_le (time + 1) s.low) spans)
+            (All-append (IsClear (insert_key nat_cmp marks time)) f k
+            (part_cases front forgotten (front_of time s) (IsClear (insert_key nat_cmp marks time)) (clear_with (front_of time s) (λ m c. elim (b.clear m c) [ inl l ↦ inl l | inr l ↦ inr (omega arith) ]) (inr (omega arith))))
+            (part_cases back forgotten (back_of time s) (IsClear (insert_key nat_cmp marks time)) (clear_with (back_of time s) (λ m c. elim (b.clear m c) [ inl l ↦ inl (omega arith) | inr l ↦ inr l ]) (inl (omega arith)))))
+            backs_clear);
       }
 
-pub intervals_left : (spans : List Span) (marks : List ℕ) (p : Span → Bool) → AreIntervals spans marks → AreIntervals (filter p spans) marks
-intervals_left spans marks p h = record { apart = apart_filter p spans h.apart; rising = h.rising; in_time = h.in_time; edges = All-filter p (λ (s : Span). IsEdge marks s.low × IsEdge marks s.high) spans h.edges }
+-- ---- fewer of both
+pub intervals_left : (time : ℕ) (spans : List Span) (marks : List ℕ) → AreIntervals spans marks → AreIntervals (filter (λ s. nat_lt time s.high) spans) (marks_left time marks)
+intervals_left time spans marks h = record {
+  apart = apart_filter (λ s. nat_lt time s.high) spans h.apart;
+  rising = IsStrictlyIncreasing-filter (λ m. not (list_any (λ n. nat_lt m n && nat_le n time) marks)) marks h.rising;
+  in_time = All-filter (λ m. not (list_any (λ n. nat_lt m n && nat_le n time) marks)) (λ m. m ≤ TIME_MAX) marks h.in_time;
+  edges = All_filtered (λ s. nat_lt time s.high) (λ (s : Span). IsEdge (marks_left time marks) s.low × IsEdge (marks_left time marks) s.high) spans
+      (λ s c e.
+      let open_ : time < s.high = ltb-true time s.high e in
+      let clear = All-contains (IsClear marks) spans s h.clear c in
+      let g = All-contains (λ (s : Span). IsEdge marks s.low × IsEdge marks s.high) spans s h.edges c in (
+        edge_left s.low g.0 (λ n d a b. elim (clear n d) [ inl l ↦ omega arith | inr l ↦ omega arith ]),
+        edge_left s.high g.1 (λ n d a b. omega arith),
+      ));
+  clear = All-filter (λ s. nat_lt time s.high) (IsClear (marks_left time marks)) spans
+      (All-weaker (IsClear marks) (IsClear (marks_left time marks)) (λ s k m c. k m (left_own time marks m c)) spans h.clear);
+}
+  where
+    edge_left : (e : ℕ) → IsEdge marks e → ((n : ℕ) → Contains marks n → e < n → n ≤ time → ⊥) → IsEdge (marks_left time marks) e
+    edge_left e (inl z) none = inl z
+    edge_left e (inr (inl c)) none = inr (inl (stays time marks e c none))
+    edge_left e (inr (inr f)) none = inr (inr f)

@@ -1,6 +1,7 @@
 pub mod Following
 pub mod Changing
 pub mod Thirds
+pub mod Enough
 pub mod Intervals
 pub mod Stretching
 pub mod Owed

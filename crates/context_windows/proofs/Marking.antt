@@ -30,8 +30,9 @@ use Rattle.window_spans.specs.Parted.{back_of, come_if, front_of, gone_if, head_
 use Rattle.window_spans.specs.Spans.{is_same_span, near_of, span_of}
 use Rattle.window_spans.specs.Telling.{as_standing, come_of, told_as}
 use Rattle.window_spans.proofs.Parts.{fewer_pass, filter_twice}
-use Rattle.context_windows.specs.Marked.{FollowsMarks, HoldsStretches, Marked, RemembersHolder, holder_in, marks_window, parted_of, stretches_after}
+use Rattle.context_windows.specs.Marked.{AreEnoughFrom, FollowsMarks, HoldsStretches, Marked, RemembersHolder, holder_in, marks_window, parted_of, stretches_after}
 use Rattle.context_windows.specs.Spanned.{changes_of}
+use Rattle.context_windows.proofs.Enough.{enough_with}
 use Rattle.context_windows.proofs.Stretching.{held_each, holder_is, marked_thirds, put_thirds}
 use Rattle.context_windows.proofs.Thirds.{backs_later, mids_are, spans_back, spans_front, spans_mid}
 
@@ -171,6 +172,11 @@ head_none time low high kept e = by (is_selecting (interval low high kept)) refl
         one false l e = inr (ltb-false low time l)
 
 -- ---- a mark
+marked_known : (marks : List ℕ) (time : ℕ) (s new : Marked) → new.forgotten ≡ s.forgotten → new.marks ≡ insert_key nat_cmp s.marks time → AreEnoughFrom s.forgotten s.marks marks → AreEnoughFrom new.forgotten new.marks (insert_key nat_cmp marks time)
+marked_known marks time s new at same k =
+    subst (λ n. AreEnoughFrom n new.marks (insert_key nat_cmp marks time)) (sym at)
+    (subst (λ ms. AreEnoughFrom s.forgotten ms (insert_key nat_cmp marks time)) (sym same) (enough_with s.forgotten s.marks marks time k))
+
 module _ (marks : List ℕ) (kept : List Kept) (time : ℕ) (s : Marked) (f : FollowsMarks marks kept s) (le : s.forgotten ≤ time) (p : IsMarkedInStretches kept time (stretches marks kept) (stretches (insert_key nat_cmp marks time) kept)) where
   near : near_of 1 time s.spans ≡ map span_of (if_selecting p.low p.high kept)
   near = spans_mid 1 time (stretches marks kept) p.front (if_selecting p.low p.high kept) p.back (marked_thirds marks kept time (stretches (insert_key nat_cmp marks time) kept) p) s.forgotten le s.spans f.spans
@@ -244,7 +250,7 @@ module _ (marks : List ℕ) (kept : List Kept) (time : ℕ) (s : Marked) (f : Fo
         ∙ (λ k. filter-append (λ (i : Instance). nat_lt s.forgotten i.high) fs bs k ++ filter_all (λ (i : Instance). nat_lt s.forgotten i.high) p.back (backs_later 1 time (stretches marks kept) p.front mid p.back t s.forgotten le) k)) in
         record {
           in_order = f.in_order;
-          known = same ∙ ap (λ ms. insert_key nat_cmp ms time) f.known;
+          known = marked_known marks time s new at same f.known;
           spans = is
               ∙ (λ k. spans_front 1 time (stretches marks kept) p.front mid p.back t s.forgotten le s.spans f.spans k
               ++ ((option_to_list (part_if ff s.forgotten (fp k)) ++ option_to_list (part_if bf s.forgotten (bp k))) ++ spans_back 1 time (stretches marks kept) p.front mid p.back t s.forgotten le s.spans f.spans k))
@@ -274,7 +280,7 @@ module _ (marks : List ℕ) (kept : List Kept) (time : ℕ) (s : Marked) (f : Fo
   pub mark_leaves : parted_of time s.spans ≡ None → (new : Marked) → new.spans ≡ s.spans → new.marks ≡ insert_key nat_cmp s.marks time → new.forgotten ≡ s.forgotten → FollowsMarks (insert_key nat_cmp marks time) kept new
   mark_leaves e new is same at = record {
     in_order = f.in_order;
-    known = same ∙ ap (λ ms. insert_key nat_cmp ms time) f.known;
+    known = marked_known marks time s new at same f.known;
     spans = is ∙ f.spans
         ∙ ap (λ l. map span_of (filter (λ (i : Instance). nat_lt s.forgotten i.high) l)) (sym (same_stretches e))
         ∙ ap (λ n. map span_of (stretches_after n (insert_key nat_cmp marks time) kept)) (sym at);

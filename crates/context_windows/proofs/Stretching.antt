@@ -25,6 +25,7 @@ use Rattle.stream_base.proofs.Filters.{filter_all}
 use Rattle.run_laws.proofs.Order.{All-split}
 use Rattle.window_laws.proofs.SessionFacts.{put_times}
 use Rattle.window_laws.proofs.StretchFacts.{edges_of, span_of_holder, stretches_after_mark, stretches_after_put}
+use Rattle.slice_lists.specs.Touched.{marks_left}
 use Rattle.agg_store.specs.Stored.{Stored, tuples_of}
 use Rattle.window_spans.specs.declared.span.Span.{Span}
 use Rattle.window_spans.specs.declared.standing.Standing.{Standing}
@@ -33,7 +34,8 @@ use Rattle.window_spans.specs.Parted.{first_or, holder_of}
 use Rattle.window_spans.specs.Spans.{due_of, head_standing, is_due, is_near, span_of}
 use Rattle.window_spans.specs.Telling.{as_standing}
 use Rattle.window_spans.proofs.Parts.{filter_alike, filter_twice}
-use Rattle.context_windows.specs.Marked.{FollowsMarks, HoldsStretches, Marked, RemembersHolder, asked_at, holder_in, holder_standing, marks_window, stretches_after}
+use Rattle.context_windows.specs.Marked.{AreEnoughFrom, FollowsMarks, HoldsStretches, Marked, RemembersHolder, asked_at, holder_in, holder_standing, marks_window, stretches_after}
+use Rattle.context_windows.proofs.Enough.{enough_later, holder_alike}
 use Rattle.context_windows.proofs.Following.{later_forgotten, only_later}
 use Rattle.context_windows.proofs.Thirds.{InThirds, IsMid, backs_later, mids_are, spans_back, spans_front, spans_mid}
 
@@ -75,11 +77,15 @@ marked_thirds marks kept time new p = thirds_of marks kept time p.low p.high p.f
 pub put_thirds : (marks : List ℕ) (kept : List Kept) (x : Kept) (new : List Instance) (p : IsPutInStretches kept x (stretches marks kept) new) → InThirds 1 x.time (stretches marks kept) p.front (if_selecting p.low p.high kept) p.back
 put_thirds marks kept x new p = thirds_of marks kept x.time p.low p.high p.front p.back p.starts p.ends p.was p.end_before p.start_behind
 
+-- ---- the marks of others that differ in their spans alone
+pub enough_as : (s new : Marked) (marks : List ℕ) → new.forgotten ≡ s.forgotten → new.marks ≡ s.marks → AreEnoughFrom s.forgotten s.marks marks → AreEnoughFrom new.forgotten new.marks marks
+enough_as s new marks at same k = subst (λ n. AreEnoughFrom n new.marks marks) (sym at) (subst (λ ms. AreEnoughFrom s.forgotten ms marks) (sym same) k)
+
 -- ---- forgetting, and what becomes complete
-pub marks_later : (time : ℕ) (marks : List ℕ) (kept : List Kept) (old new : Marked) → FollowsMarks marks kept old → new.spans ≡ filter (λ s. nat_lt time s.high) old.spans → new.marks ≡ old.marks → new.forgotten ≡ max old.forgotten time → FollowsMarks marks kept new
+pub marks_later : (time : ℕ) (marks : List ℕ) (kept : List Kept) (old new : Marked) → FollowsMarks marks kept old → new.spans ≡ filter (λ s. nat_lt time s.high) old.spans → new.marks ≡ marks_left time old.marks → new.forgotten ≡ max old.forgotten time → FollowsMarks marks kept new
 marks_later time marks kept old new f is same at = record {
   in_order = f.in_order;
-  known = same ∙ f.known;
+  known = subst (λ n. AreEnoughFrom n new.marks marks) (sym at) (subst (λ ms. AreEnoughFrom (max old.forgotten time) ms marks) (sym same) (enough_later old.forgotten time old.marks marks f.known));
   spans = is
       ∙ ap (filter (λ s. nat_lt time s.high)) f.spans
       ∙ filter_map_of (λ s. nat_lt time s.high) span_of (stretches_after old.forgotten marks kept)
@@ -212,7 +218,7 @@ module _ (marks : List ℕ) (kept : List Kept) (x : Kept) (s : Marked) (early : 
       let same = one_holder kept x (stretches marks kept) (stretches marks (put_in_order kept x)) p q in
       let sides = span_of_holder marks kept x early in
       let other : holder_of s.marks x.time ≡ record { low = q.low; high = q.high } =
-      ap (λ ms. holder_of ms x.time) f.known
+      holder_alike s.forgotten s.marks marks x.time f.known le
       ∙ (λ i. record { low = sym sides.0 i; high = sym sides.1 i })
       ∙ (λ i. record { low = sym same.0 i; high = sym same.1 i }) in
       ap (first_or (holder_of s.marks x.time)) (spans_mid 1 x.time (stretches marks kept) q.front (if_selecting q.low q.high kept) q.back (put_thirds marks kept x (stretches marks (put_in_order kept x)) q) s.forgotten le s.spans f.spans)
@@ -233,7 +239,7 @@ module _ (marks : List ℕ) (kept : List Kept) (x : Kept) (s : Marked) (early : 
       ∙ ap (λ l. one ∷ l) (filter_all (λ (i : Instance). nat_lt s.forgotten i.high) p.back (backs_later 1 x.time (stretches marks kept) p.front mid p.back t s.forgotten le))) in
       record {
         in_order = put_times kept x f.in_order;
-        known = same ∙ f.known;
+        known = enough_as s new marks at same f.known;
         spans = is
             ∙ (λ k. spans_front 1 x.time (stretches marks kept) p.front mid p.back t s.forgotten le s.spans f.spans k ++ holder_is p k ∷ spans_back 1 x.time (stretches marks kept) p.front mid p.back t s.forgotten le s.spans f.spans k)
             ∙ sym (map-append span_of (filter (λ (i : Instance). nat_lt s.forgotten i.high) p.front) (one ∷ p.back))

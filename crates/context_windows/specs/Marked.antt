@@ -10,6 +10,7 @@ use Rattle.stream_base.specs.declared.limits.TheConstants.{FINAL, TIME_MAX}
 use Rattle.stream_base.specs.Laws.{TimesDoNotFall}
 use Rattle.stream_base.specs.Model.Windows.{Instance, stretches, within}
 use Rattle.window_laws.specs.After.{complete_at}
+use Rattle.slice_lists.specs.Touched.{marks_left}
 use Rattle.agg_store.specs.Stored.{Stored, tuples_of}
 use Rattle.window_spans.specs.declared.span.Span.{Span}
 use Rattle.window_spans.specs.declared.standing.Standing.{Standing}
@@ -33,11 +34,11 @@ pub record IsMarkedAsBefore (old new : Marked) : Type 0 where
   pub forgotten : new.forgotten ≡ old.forgotten
   pub spare : old.spare ≤ new.spare
 
--- those that end by a time are forgotten
+-- those that end by a time are forgotten, and the marks up to it but the greatest of them
 abbrev pub marked_open_after : ℕ → Marked → Marked
 marked_open_after time s = record {
   spans = filter (λ i. nat_lt time i.high) s.spans;
-  marks = s.marks;
+  marks = marks_left time s.marks;
   stood = s.stood;
   forgotten = max s.forgotten time;
   spare = s.spare;
@@ -47,12 +48,17 @@ marked_open_after time s = record {
 abbrev pub IsEdge : List ℕ → ℕ → Type 0
 IsEdge marks e = (e ≡ 0) ⊎ (Contains marks e ⊎ (e ≡ FINAL))
 
--- what the intervals of a key keep: they are apart and lie between edges, and the marks rise and lie within the limit
+-- no mark lies inside an interval
+abbrev pub IsClear : List ℕ → Span → Type 0
+IsClear marks s = (mark : ℕ) → Contains marks mark → (mark ≤ s.low) ⊎ (s.high ≤ mark)
+
+-- what the intervals of a key keep: they are apart and lie between edges that are next to one another, and the marks rise and lie within the limit
 pub record AreIntervals (spans : List Span) (marks : List ℕ) : Type 0 where
   pub apart : AreApart spans
   pub rising : IsStrictlyIncreasing marks
   pub in_time : All (λ m. m ≤ TIME_MAX) marks
   pub edges : All (λ s. IsEdge marks s.low × IsEdge marks s.high) spans
+  pub clear : All (IsClear marks) spans
 
 -- the interval that holds a time: one that has a tuple, or else that between the marks at its sides
 abbrev pub holder_in : ℕ → List Span → List ℕ → Span
@@ -83,10 +89,17 @@ with_parts time (Some s) = s ∷ front_of time s ∷ back_of time s ∷ []
 abbrev pub stretches_after : ℕ → List ℕ → List Kept → List Instance
 stretches_after time marks kept = filter (λ i. nat_lt time i.high) (stretches marks kept)
 
--- these are the spans of the intervals with a tuple that are not forgotten, and the marks
+-- some of the marks are enough from a time on: no others, all that lie behind it, and the greatest of those up to it
+pub record AreEnoughFrom (time : ℕ) (some all : List ℕ) : Type 0 where
+  pub own : (mark : ℕ) → Contains some mark → Contains all mark
+  pub behind : (mark : ℕ) → time < mark → Contains all mark → Contains some mark
+  pub last : (mark : ℕ) → mark ≤ time → Contains all mark
+      → (later : ℕ) × Contains some later × (mark ≤ later) × (later ≤ time)
+
+-- these are the spans of the intervals with a tuple that are not forgotten, and enough of the marks from then on
 pub record FollowsMarks (marks : List ℕ) (kept : List Kept) (s : Marked) : Type 0 where
   pub in_order : TimesDoNotFall kept
-  pub known : s.marks ≡ marks
+  pub known : AreEnoughFrom s.forgotten s.marks marks
   pub spans : s.spans ≡ map span_of (stretches_after s.forgotten marks kept)
 
 -- in each interval that ends after a time the store holds exactly the tuples that it selects, and can count them

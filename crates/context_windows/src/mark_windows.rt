@@ -24,8 +24,8 @@ use std::marker::Model;
 use stream_base::{Change, Func, KeyText, NoMemory};
 use window_spans::{
     Span, Standing, Teller, add_mark, ask, back_of, between, due, end_after, end_of_last_begun,
-    first_asked, first_before, first_or, front_of, holder, is_filled, near, part, part_if, replace,
-    start_after, tell_all, tell_joined, tell_part, tell_taken,
+    first_asked, first_before, first_or, front_of, holder, is_filled, leave_marks, near, part,
+    part_if, replace, start_after, tell_all, tell_joined, tell_part, tell_taken,
 };
 
 /// The intervals between the marks of one key, for a marks window of it: the span of each that has a
@@ -293,14 +293,15 @@ impl MarkWindows {
         end_of_last_begun(&self.spans, time)
     }
 
-    /// Forgets the intervals that end at or before a time. No tuple and no mark comes at an earlier
-    /// time.
+    /// Forgets the intervals that end at or before a time, and the marks up to it but the greatest
+    /// of them. No tuple and no mark comes at an earlier time.
     pub fn drop_settled(&mut self, time: u64)
         ensures kept { IsMarkedAsBefore (marked_open_after time self.old) self.new }
         ensures follows { (marks : List ℕ) (kept : List Kept) → FollowsMarks marks kept self.old
             → FollowsMarks marks kept self.new }
     {
         self.spans.retain(|s| time < s.high);
+        leave_marks(&mut self.marks, time);
         self.forgotten = self.forgotten.max(time);
     }
 }

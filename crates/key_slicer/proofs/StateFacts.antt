@@ -1,11 +1,12 @@
 -- What the state of a key stands for.
-use Rattle.std.proofs.Common.{false, Bool, ◌≡◌, ◌∙◌, ◌≤◌, ◌<◌, ◌+◌, ◌-◌, ℕ, List, [], ◌∷◌, get_or, length, map, ap, sym, refl, subst, arith, rules, inl, inr, w64, ⊎_elim}
-use Rattle.std.specs.Prelude.{◌≢◌, All, FitsSigned, filter}
+use Rattle.std.proofs.Common.{true, false, Bool, drop, ◌≡◌, ◌∙◌, ◌≤◌, ◌<◌, ◌+◌, ◌-◌, ℕ, List, [], ◌∷◌, get_or, length, map, ap, sym, refl, subst, arith, rules, inl, inr, w64, ⊎_elim}
+use Rattle.std.specs.Prelude.{◌≢◌, ◌⊎◌, All, FitsSigned, filter}
 use Rattle.std.specs.BTreeSet.{insert_key}
 use Rattle.std.specs.List.{Contains, enumerate_from, flat_map, list_all}
 use Rattle.std.specs.Ordering.{nat_cmp}
 use Rattle.std.specs.List.Sorted.{IsStrictlyIncreasing}
 use Rattle.std.proofs.Math.Seq.{drop-nil}
+use Rattle.std.proofs.lemmas.Bool.{cases_Bool}
 use Rattle.std.proofs.lemmas.List.Elements.{All-contains, All-nil, All-weaker}
 use Rattle.stream_base.specs.Limits.{AreWithinLimits, Definitions, IsKindWithin}
 use Rattle.stream_base.specs.declared.change.Change.{Change}
@@ -18,13 +19,13 @@ use Rattle.stream_base.specs.declared.def.Def.{Def}
 use Rattle.stream_base.specs.declared.func.Func.TheVariants.{Count}
 use Rattle.stream_base.specs.declared.kind.Kind.TheVariants.{Marks}
 use Rattle.stream_base.specs.Model.Slices.{is_events, is_settled, runs_of, unsettled}
-use Rattle.stream_base.specs.Model.Windows.{instances_of}
+use Rattle.stream_base.specs.Model.Windows.{first_time, instances_of, last_time}
 use Rattle.model_laws.proofs.Absent.{no_instances}
 use Rattle.stream_base.proofs.ChangeFacts.{changes_at_water, flat_map_none}
 use Rattle.stream_base.specs.Model.Journal.{put_in_order}
 use Rattle.stream_base.proofs.Distinct.{All_from_members}
 use Rattle.stream_base.proofs.Members.{Contains-insert_cases}
-use Rattle.stream_base.proofs.Rising.{Contains-insert_key_cases}
+use Rattle.stream_base.proofs.Rising.{Contains-insert_key_cases, none_in_nil}
 use Rattle.window_laws.specs.After.{at_water, with_mark, with_tuple}
 use Rattle.run_laws.specs.Runs.{IsAligned, parted_at}
 use Rattle.window_laws.specs.Settled.{without_first}
@@ -46,7 +47,7 @@ use Rattle.held_laws.proofs.CountFacts.{unsettled_slices}
 use Rattle.held_laws.proofs.PurgeFacts.{parts_where_settled, purged}
 use Rattle.held_laws.proofs.SettleFacts.{settled_up_to_least}
 use Rattle.held_laws.proofs.HoldFacts.{fresh_held, held_after_mark, held_after_move, held_after_tuple}
-use Rattle.held_laws.proofs.OpenFacts.{open_after_mark, open_after_tuple, open_from}
+use Rattle.held_laws.proofs.OpenFacts.{open_after_tuple, open_from}
 use Rattle.key_slicer.specs.Parts.{AllStandAt, AllTakeTuple, AreStanding, EachPart, IsLeastOf, rooms}
 use Rattle.key_slicer.specs.States.{Fits, IsBlank, IsReadyToPut, IsReadyToTake, StandsFor}
 use Rattle.key_slicer.proofs.Loops.{none_of, one_of_all}
@@ -263,16 +264,6 @@ module _ {P : Type 0} (stands : Standing P) (d : Definitions) where
         bare = λ all. p.slices ∙ ap (flat_map (parted_at time)) (bare all);
       }
 
-  -- no tuple is settled by it where it lies behind the watermark minus the lateness
-  pub fits_marked : (kept : List Kept) (marks : List ℕ) (water next n : ℕ) (s : Stored) (time : ℕ) (after : Stored) (later : List P) → IsWater water → water < time + d.lateness → NoneSettled d (moment kept marks water) s
-      → IsMarkStep d (moment kept marks water) n s time after → StandsFor stands d (moment kept (insert_key nat_cmp marks time) water) next after later
-      → Fits stands d kept (insert_key nat_cmp marks time) water next after later
-  fits_marked kept marks water next n s time after later is behind open_ p stood = record {
-    known = stood;
-    none_settled = open_after_mark d (moment kept marks water) n s time after p behind open_;
-    clock = inl is;
-  }
-
   -- the watermark moves
   pub stands_moved : (kept : List Kept) (marks : List ℕ) (old new next : ℕ) (s : Stored) (parts later : List P) → old ≤ new → (f : StandsFor stands d (moment kept marks old) next s parts)
       → AreStanding stands d (moment kept marks new) f.without s later → StandsFor stands d (moment kept marks new) next s later
@@ -359,20 +350,44 @@ module _ {P : Type 0} (stands : Standing P) (d : Definitions) (settles_at : ℕ 
   slices_counted kept marks w water next s parts time le f least each =
       ap length (sym (unsettled_slices d (moment kept marks w) f.without water time s f.held f.store le (up_to_time (moment kept marks w) water next s parts time f least each)))
 
-  -- where the slices before it have left, and the parts have forgotten what ended, the state goes on to stand for the key
-  pub purge_step : (m : Moment) (next : ℕ) (s after : Stored) (parts : List P) (time : ℕ) → (f : StandsFor stands d m next s parts) → IsLeastOf settles_at (m.water - d.lateness) parts time
-      → EachPart (λ i part. SettlesUpTo d.lateness (without_first f.without m) (window_at d i) (settles_at i part)) parts
-      → IsDropped time s after → (IsSliced d.windows s → IsSliced d.windows after)
-      → (more : ℕ) × IsPurge d m f.without s time more after
-  purge_step m next s after parts time f least each dropped sliced =
-      let up = up_to_time m m.water next s parts time f least each in
-      purged d m f.without next time s after f.held f.lists f.store least.by_most (λ x c l. up.before x c l) dropped (sliced (f.held).sliced)
+-- ---- the slices before the least time leave, where each window counts events too
+module _ {P : Type 0} (stands : Standing P) (d : Definitions) (settles_at : ℕ → P → ℕ) (m : Moment) (next : ℕ) (s : Stored) (parts : List P) (time : ℕ) (f : StandsFor stands d m next s parts) (least : IsLeastOf settles_at (m.water - d.lateness) parts time)
+    (each : EachPart (λ i part. SettlesUpTo d.lateness (without_first f.without m) (window_at d i) (settles_at i part)) parts) where
+  -- either no slice is there, or all windows have settled up to the time
+  bare_or_settled : (s.slices ≡ []) ⊎ IsSettledUpTo d (without_first f.without m) time
+  bare_or_settled =
+      ⊎_elim
+      (λ all. inl (f.bare all))
+      (λ some. inr (up_to_time stands d settles_at some m m.water next s parts time f least each))
+      (cases_Bool (list_all (λ w. is_events w.kind) d.windows))
 
-  pub aligned : (m : Moment) (next : ℕ) (s : Stored) (parts : List P) (time : ℕ) → (f : StandsFor stands d m next s parts) → IsLeastOf settles_at (m.water - d.lateness) parts time
-      → EachPart (λ i part. SettlesUpTo d.lateness (without_first f.without m) (window_at d i) (settles_at i part)) parts
-      → IsAligned s.slices time
-  aligned m next s parts time f least each = parts_where_settled d m f.without time s f.held f.store (up_to_time m m.water next s parts time f least each)
+  -- the state goes on to stand for the key
+  pub purge_step : (after : Stored) → IsDropped time s after → (IsSliced d.windows s → IsSliced d.windows after) → (more : ℕ) × IsPurge d m f.without s time more after
+  purge_step after dropped sliced = purged d m f.without next time s after f.held f.lists f.store least.by_most early dropped (sliced (f.held).sliced)
+    where
+      early : (x : Kept) → Contains (drop f.without m.kept) x → x.time < time → is_settled d (without_first f.without m) x ≡ true
+      early x c l =
+          ⊎_elim
+          (λ bare. absurd (none_in_nil x (subst (λ ks. Contains ks x) (sym (f.held).tuples ∙ ap joined bare) c)))
+          (λ up. up.before x c l)
+          bare_or_settled
 
+  pub aligned : IsAligned s.slices time
+  aligned =
+      ⊎_elim
+      (λ bare. subst (λ ss. IsAligned ss time) (sym bare) (All-nil (λ run. (last_time run < time) ⊎ (time ≤ first_time run))))
+      (λ up. parts_where_settled d m f.without time s f.held f.store up)
+      bare_or_settled
+
+  -- no tuple is settled in what is left from the time on
+  pub open_left : (after : Stored) → after.slices ≡ slices_from time s.slices → NoneSettled d m after
+  open_left after left =
+      ⊎_elim
+      (λ bare. none_in_bare d m after (left ∙ ap (slices_from time) bare))
+      (λ up. open_from d m f.without time s after f.held f.store up left)
+      bare_or_settled
+
+module _ {P : Type 0} (stands : Standing P) (d : Definitions) where
   pub fits_purged : (kept : List Kept) (marks : List ℕ) (water next n time more : ℕ) (s after : Stored) (later : List P) → IsWater water → AreLists (moment kept marks water) next → IsPurge d (moment kept marks water) n s time more after → after.marks ≡ marks_left time s.marks
       → AreStanding stands d (moment kept marks water) more after later → (all_count_events d → s.slices ≡ []) → NoneSettled d (moment kept marks water) after → Fits stands d kept marks water next after later
   fits_purged kept marks water next n time more s after later is lists p left stood bare open_ = record {
@@ -380,12 +395,6 @@ module _ {P : Type 0} (stands : Standing P) (d : Definitions) (settles_at : ℕ 
     none_settled = open_;
     clock = inl is;
   }
-
-  -- no tuple is settled in what is left from the time on
-  pub open_left : (m : Moment) (next : ℕ) (s after : Stored) (parts : List P) (time : ℕ) → (f : StandsFor stands d m next s parts) → IsLeastOf settles_at (m.water - d.lateness) parts time
-      → EachPart (λ i part. SettlesUpTo d.lateness (without_first f.without m) (window_at d i) (settles_at i part)) parts
-      → after.slices ≡ slices_from time s.slices → NoneSettled d m after
-  open_left m next s after parts time f least each left = open_from d m f.without time s after f.held f.store (up_to_time m m.water next s parts time f least each) left
 
 -- ---- what a move changes
 pub move_is : (d : Definitions) (key : List ℕ) (kept : List Kept) (marks : List ℕ) (old new next : ℕ) → All (λ w. IsKindWithin w.kind) d.windows → AreLists (moment kept marks old) next → old ≤ new

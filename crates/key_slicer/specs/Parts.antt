@@ -1,11 +1,12 @@
 -- The parts of a key's windows, each at the place of its window.
-use Rattle.std.specs.Prelude.{◌≡◌, ◌≤◌, ◌<◌, ◌⊎◌, ◌++◌, ℕ, List, length, slice_index_or, sum_by}
+use Rattle.std.specs.Prelude.{◌≡◌, ◌≤◌, ◌<◌, ◌⊎◌, ◌*◌, ◌++◌, ℕ, List, length, slice_index_or, sum_by}
 use Rattle.std.specs.List.{enumerate_from}
 use Rattle.stream_base.specs.Limits.{Definitions}
 use Rattle.stream_base.specs.declared.change.Change.{Change}
 use Rattle.stream_base.specs.declared.def.Def.{Def}
 use Rattle.stream_base.specs.declared.kept.Kept.{Kept}
 use Rattle.stream_base.specs.Model.Changes.{Moment, emissions, retractions}
+use Rattle.slice_lists.specs.Touched.{marks_left}
 use Rattle.agg_store.specs.Stored.{IsStore, Stored}
 use Rattle.key_windows.specs.Calls.{IsWater}
 use Rattle.key_parts.specs.Calls.{Standing}
@@ -29,6 +30,12 @@ pub record IsLeastOf {P : Type 0} (time_of : ℕ → P → ℕ) (most : ℕ) (pa
   pub by_most : time ≤ most
   pub by_each : EachPart (λ i part. time ≤ time_of i part) parts
   pub is_one : (time ≡ most) ⊎ ((i : ℕ) × (i < length parts) × ((x : P) → time ≡ time_of i (slice_index_or parts i x)))
+
+-- at most half of the marks of a store lie before another one that lies up to the least time
+pub record HasFewMarks {P : Type 0} (time_of : ℕ → P → ℕ) (most : ℕ) (parts : List P) (s : Stored) : Type 0 where
+  pub time : ℕ
+  pub least : IsLeastOf time_of most parts time
+  pub few : length s.marks ≤ 2 * length (marks_left time s.marks)
 
 -- the changes of one window, retractions first
 abbrev pub turns : List ℕ → Moment → Moment → ℕ × Def → List Change

@@ -129,9 +129,8 @@ impl<T: AggTree<Bundle> + Drop, P: AnyPart> KeyWindows for KeyState<T, P> {
             steps,
         );
         append_sorted(self.scratch.as_slice(), out);
-        if time + defs.lateness() == water {
-            self.purge(defs, water, steps);
-        }
+        // A mark can settle what lies before it, and it can be the one that makes others needless.
+        self.purge(defs, water, steps);
     }
 
     fn reserve_water(&mut self, defs: &Defs, old: u64, new: u64) -> Result<u64, NoMemory> {

@@ -1,12 +1,12 @@
 //! Settled slices that leave the state of a key.
 ghost use Rattle.std.specs.Prelude.{◌≡◌, ◌≤◌, ◌+◌, ◌-◌, ◌*◌, ℕ, List, length, false};
 ghost use Rattle.stream_base.specs.declared.kept.Kept.{Kept};
-ghost use Rattle.slice_lists.specs.Touched.{slices_from};
+ghost use Rattle.slice_lists.specs.Touched.{marks_left, slices_from};
 ghost use Rattle.key_windows.specs.Calls.{moment};
-ghost use Rattle.key_slicer.specs.Parts.{AllAhead, all_credit};
+ghost use Rattle.key_slicer.specs.Parts.{AllAhead, HasFewMarks, all_credit};
 ghost use Rattle.key_slicer.specs.States.{Fits, MayPurge, StandsFor};
 
-use crate::key_state::{KeyState, all_count_events, first_time};
+use crate::key_state::{KeyState, first_time};
 use agg_laws::{AggTree, Steps};
 use aggregates::Bundle;
 use key_parts::KeyPart;
@@ -15,6 +15,8 @@ use stream_base::Defs;
 
 impl<T: AggTree<Bundle>, P: KeyPart> KeyState<T, P> {
     // Lets the slices leave that are settled under the watermark, and what the parts need no more.
+    // Marks that nothing needs leave with them, or else once they are more than the others: then
+    // what it takes to move the others up is paid for by those that leave.
     pub fn purge<L>(&mut self, defs: &Defs, water: u64, steps: &mut Steps<L>)
         requires { MayPurge P.stands defs.now water self.old.next self.old.store
             self.old.parts.list.items }
@@ -31,16 +33,25 @@ impl<T: AggTree<Bundle>, P: KeyPart> KeyState<T, P> {
             ≤ all_credit P.credit self.old.parts.list.items }
         ensures ahead { AllAhead P.is_ahead defs.now water self.old.store self.old.parts.list.items
             → AllAhead P.is_ahead defs.now water self.new.store self.new.parts.list.items }
+        ensures marks { HasFewMarks (λ i part. P.settles_at defs.now i water part)
+            (water - (defs.now).lateness) self.old.parts.list.items self.new.store }
     {
-        if all_count_events(defs) {
-            return;
-        }
         let time = self.parts.first_unsettled(defs, water);
-        if begins_before(&self.store, time) {
+        if has_needless(&self.store, time) {
             self.store.drop_settled(time, steps);
             self.parts.drop_settled(defs, water);
         }
     }
+}
+
+// Whether the first slice of a store begins before a time, or more of its marks could leave then than
+// would stay.
+fn has_needless<T: AggTree<Bundle>>(store: &SliceStore<T>, time: u64) -> bool
+    ensures slices { result ≡ false → slices_from time store.now.slices ≡ store.now.slices }
+    ensures marks { result ≡ false
+        → length store.now.marks ≤ 2 * length (marks_left time store.now.marks) }
+{
+    begins_before(store, time) || store.are_marks_mostly_needless(time)
 }
 
 // Whether the first slice of a store begins before a time.

@@ -4,7 +4,7 @@ use Rattle.std.specs.Prelude.{◌⊎◌, ◌||◌, ◌&&◌, nat_le, nat_lt, Fit
 use Rattle.std.specs.Int.{w64}
 use Rattle.std.specs.List.{All, filter, list_any}
 use Rattle.std.specs.List.Sorted.{IsStrictlyIncreasing}
-use Rattle.std.proofs.lemmas.Bool.{and_from, and_left, and_right, cases_lt, le-leb, le-ltb, leb-false, lt-leb, lt-ltb}
+use Rattle.std.proofs.lemmas.Bool.{and_from, and_left, and_right, cases_lt, false≢true, le-leb, le-ltb, leb-false, lt-leb, lt-ltb, or_parts}
 use Rattle.std.proofs.lemmas.List.{get_or_default, get_or-drop, get_or-take, length-drop, length-take, take-append-drop}
 use Rattle.std.proofs.lemmas.List.Concat.{flat_map-append}
 use Rattle.std.proofs.lemmas.List.Elements.{All-head, All-tail, All-weaker, filter-append}
@@ -15,7 +15,8 @@ use Rattle.stream_base.specs.declared.limits.TheConstants.{TIME_MAX}
 use Rattle.stream_base.specs.Model.Cuts.{cuts_between, has_cut}
 use Rattle.stream_base.specs.Model.Slices.{runs_of}
 use Rattle.stream_base.specs.Model.Windows.{first_time, last_time}
-use Rattle.stream_base.proofs.Members.{filter_map_of}
+use Rattle.stream_base.proofs.Distinct.{All_from_members}
+use Rattle.stream_base.proofs.Members.{filter_map_of, filter_members}
 use Rattle.run_laws.specs.Runs.{AreInOrder, AreRuns, IsAligned, IsPartFrom, IsRun}
 use Rattle.stream_base.proofs.Filters.{filter_all, filter_none}
 use Rattle.run_laws.proofs.Order.{All-split}
@@ -146,6 +147,57 @@ module _ (marks : List ℕ) (time count : ℕ) (h : IsPlaceOf (λ m. m) marks (t
 
     pub cuts_left : (a b : ℕ) → time ≤ a → list_any (λ m. nat_lt a m && nat_le m b) (filter (λ m. nat_le last m) marks) ≡ list_any (λ m. nat_lt a m && nat_le m b) marks
     cuts_left a b l = any_of_kept (λ m. nat_lt a m && nat_le m b) (λ m. nat_le last m) marks (λ m e. and_left (nat_lt a m) (nat_le m b) (le-ltb a m (let g : m < last = leb-false last m e in omega (arith, up_to))))
+
+-- ---- how many marks are left
+pub many_left : (marks : List ℕ) (time count : ℕ) → IsPlaceOf (λ m. m) marks (time + 1) count → IsStrictlyIncreasing marks → length (marks_left time marks) ≡ length marks - (count - 1)
+many_left marks time count h rising =
+    elim (cases_lt 0 count) [
+      | inl some ↦ some_left some
+      | inr none ↦ (let e : count ≡ 0 = omega arith in omega (arith, ap length (none_to_leave marks time count h rising e)))
+    ]
+  where
+    some_left : 0 < count → length (marks_left time marks) ≡ length marks - (count - 1)
+    some_left some =
+        let last = get_or marks (count - 1) 0 in
+        let from = count - 1 in
+        let within : from < length marks = omega (arith, h.within) in
+        sym (ap length (last_left marks time count h rising some last refl))
+        ∙ ap length (stretch (λ m. nat_le last m) marks from (length marks) 0 (omega arith) (omega arith)
+        (λ k l. lt-leb last (get_or marks k 0) (rise k l within))
+        (λ k l m. le-leb last (get_or marks k 0) (marks_do_not_fall marks rising from k 0 l m))
+        (λ k l m. absurd (omega arith)))
+        ∙ ap length (part_to_end marks from)
+        ∙ length-drop from marks
+      where
+        rise : (k : ℕ) → k < count - 1 → count - 1 < length marks → get_or marks k 0 < get_or marks (count - 1) 0
+        rise k l within =
+            let step : get_or marks k 0 < get_or marks (k + 1) 0 = rising k (omega arith) in
+            let rest : get_or marks (k + 1) 0 ≤ get_or marks (count - 1) 0 = marks_do_not_fall marks rising (k + 1) (count - 1) 0 (omega arith) within in
+            omega arith
+
+-- those that are left stay where marks leave again
+pub left_twice : (time : ℕ) (marks : List ℕ) → marks_left time (marks_left time marks) ≡ marks_left time marks
+left_twice time marks =
+    filter_all (λ m. not (list_any (λ n. nat_lt m n && nat_le n time) (marks_left time marks))) (marks_left time marks)
+    (All_from_members (λ m. not (list_any (λ n. nat_lt m n && nat_le n time) (marks_left time marks)) ≡ true) (marks_left time marks)
+    (λ m c. again (list_any (λ n. nat_lt m n && nat_le n time) marks) (list_any (λ n. nat_lt m n && nat_le n time) (marks_left time marks))
+    (fewer (λ n. nat_lt m n && nat_le n time) (λ m. not (list_any (λ n. nat_lt m n && nat_le n time) marks)) marks)
+    (filter_members (λ m. not (list_any (λ n. nat_lt m n && nat_le n time) marks)) marks m c).1))
+  where
+    -- what fails of all fails of those that pass a test
+    fewer : (p q : ℕ → Bool) (marks : List ℕ) → list_any p marks ≡ false → list_any p (filter q marks) ≡ false
+    fewer p q [] e = refl
+    fewer p q (m ∷ marks) e =
+        let h = or_parts (p m) (list_any p marks) e in
+        by (q m) h.0 (fewer p q marks h.1)
+      where
+        by : (b : Bool) → p m ≡ false → list_any p (filter q marks) ≡ false → list_any p (cond b (m ∷ filter q marks) (filter q marks)) ≡ false
+        by true f later = ap (λ c. c || list_any p (filter q marks)) f ∙ later
+        by false f later = later
+
+    again : (a b : Bool) → (a ≡ false → b ≡ false) → not a ≡ true → not b ≡ true
+    again true b f e = absurd (false≢true e)
+    again false b f e = ap not (f refl)
 
 -- ---- the slices that are left are those of their tuples under the marks that are left
 module _ (cut other : ℕ → ℕ → Bool) (time : ℕ) (same : (a b : ℕ) → time ≤ a → cut a b ≡ other a b) where

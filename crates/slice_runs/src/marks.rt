@@ -1,5 +1,5 @@
 //! The marks of a key, rising.
-ghost use Rattle.std.specs.Prelude.{◌≡◌, ◌≤◌, ◌+◌, ℕ, [], ◌==◌, ◌&&◌, nat_lt, nat_le, length, slice_index};
+ghost use Rattle.std.specs.Prelude.{◌≡◌, ◌≤◌, ◌<◌, ◌+◌, ◌*◌, ℕ, true, false, [], ◌==◌, ◌&&◌, nat_lt, nat_le, length, slice_index};
 ghost use Rattle.std.specs.BTreeSet.{insert_key};
 ghost use Rattle.std.specs.List.{list_any};
 ghost use Rattle.std.specs.List.Sorted.{IsStrictlyIncreasing};
@@ -86,6 +86,18 @@ impl Marks {
             let last = self.times[count - 1];
             self.times.retain(|mark| last <= *mark);
         }
+    }
+
+    /// Whether `keep_last` takes away more marks than it leaves. To ask this first bounds the marks
+    /// by twice those that are needed, and what it takes to move them up by the marks that came.
+    pub fn are_mostly_needless(&self, time: u64) -> bool
+        ensures few { result ≡ false
+            → length self.now.times ≤ 2 * length (marks_left time self.now.times) }
+        ensures many { result ≡ true
+            → 2 * length (marks_left time self.now.times) < length self.now.times }
+    {
+        let needless = self.up_to(time).saturating_sub(1);
+        self.times.len() - needless < needless
     }
 
     // How many marks lie before a time.

@@ -1,5 +1,5 @@
 //! The store of a key's slices.
-ghost use Rattle.std.specs.Prelude.{◌≡◌, ◌≤◌, ◌<◌, ◌+◌, ◌*◌, List, [], length, filter, max, nat_lt, All, FitsSigned, true};
+ghost use Rattle.std.specs.Prelude.{◌≡◌, ◌≤◌, ◌<◌, ◌+◌, ◌*◌, List, [], length, filter, max, nat_lt, All, FitsSigned, true, false};
 ghost use Rattle.std.specs.Int.{w64};
 ghost use Rattle.std.specs.BTreeSet.{insert_key};
 ghost use Rattle.std.specs.List.{flat_map, list_any};
@@ -161,6 +161,16 @@ impl<T: AggTree<Bundle>> SliceStore<T> {
     {
         let begun = self.runs.before(time);
         (self.runs.len() - begun) as u64
+    }
+
+    /// Whether `drop_settled` takes away more marks than it leaves.
+    pub fn are_marks_mostly_needless(&self, time: u64) -> bool
+        ensures few { result ≡ false
+            → length self.now.marks ≤ 2 * length (marks_left time self.now.marks) }
+        ensures many { result ≡ true
+            → 2 * length (marks_left time self.now.marks) < length self.now.marks }
+    {
+        self.marks.are_mostly_needless(time)
     }
 
     /// Drops the slices before a time, and the marks at or before it other than the greatest of

@@ -63,11 +63,11 @@ sessions_after_before gap kept s t f e k = record { in_order = f.in_order; spans
 pub marks_stay : (d : Definitions) (store new : Stored) (s t : Marked) → AreOfMarks d store s → IsStoreAsBefore store new → IsMarkedAsBefore s t → AreOfMarks d new t
 marks_stay d store new s t h b k = record {
   sliced = rw (b.slices, b.marks) h.sliced;
-  follows = record { in_order = rw b.slices h.follows.in_order; known = rw (k.marks, b.marks) h.follows.known; spans = rw (k.spans, k.forgotten, b.slices, b.marks) h.follows.spans };
+  follows = record { in_order = rw b.slices h.follows.in_order; known = rw (k.marks, k.forgotten, b.marks) h.follows.known; spans = rw (k.spans, k.forgotten, b.slices, b.marks) h.follows.spans };
 }
 
 pub marks_after_before : (marks : List ℕ) (kept : List Kept) (s t : Marked) → FollowsMarks marks kept s → t.spans ≡ s.spans → t.marks ≡ s.marks → t.forgotten ≡ s.forgotten → FollowsMarks marks kept t
-marks_after_before marks kept s t f e m k = record { in_order = f.in_order; known = m ∙ f.known; spans = rw (e, k) f.spans }
+marks_after_before marks kept s t f e m k = record { in_order = f.in_order; known = rw (m, k) f.known; spans = rw (e, k) f.spans }
 
 put_length : (kept : List Kept) (x : Kept) → length (put_in_order kept x) ≡ length kept + 1
 put_length [] x = refl
@@ -174,8 +174,8 @@ first_lies : (P : Span → Type 0) (other : Span) (ss : List Span) → P other �
 first_lies P other [] p a = p
 first_lies P other (s ∷ ss) p a = All-head P s ss a
 
-pub within_lies : (time : ℕ) (marks : List ℕ) (spans : List Span) → All (LiesBetween marks) spans → LiesBetween marks (holder_in time spans marks)
-within_lies time marks spans a = first_lies (LiesBetween marks) (holder_of marks time) (near_of 1 time spans) (holder_lies marks time) (All-filter (is_near 1 time) (LiesBetween marks) spans a)
+pub within_lies : (time : ℕ) (marks some : List ℕ) (spans : List Span) → holder_of some time ≡ holder_of marks time → All (LiesBetween marks) spans → LiesBetween marks (holder_in time spans some)
+within_lies time marks some spans same a = first_lies (LiesBetween marks) (holder_of some time) (near_of 1 time spans) (subst (LiesBetween marks) (sym same) (holder_lies marks time)) (All-filter (is_near 1 time) (LiesBetween marks) spans a)
 
 pub standing_lies : (water : ℕ) (P : Span → Type 0) (ss : List Span) → All P ss → All P (option_to_list (head_standing water ss))
 standing_lies water P [] a = All-nil P

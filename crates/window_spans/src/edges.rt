@@ -1,10 +1,11 @@
 //! Where intervals between marks start and end.
 ghost use Rattle.std.specs.Prelude.{◌≡◌, ◌≤◌, ◌<◌, ◌+◌, ◌==◌, ◌&&◌, length, slice_index, vec_len, vec_capacity, nat_lt};
 ghost use Rattle.std.specs.BTreeSet.{insert_key};
-ghost use Rattle.std.specs.List.Sorted.{IsNonDecreasing};
+ghost use Rattle.std.specs.List.Sorted.{IsNonDecreasing, IsStrictlyIncreasing};
 ghost use Rattle.std.specs.Ordering.{nat_cmp};
 ghost use Rattle.window_laws.specs.Stretches.{last_mark, next_mark};
 ghost use Rattle.slice_lists.specs.Places.{IsPlaceOf};
+ghost use Rattle.slice_lists.specs.Touched.{marks_left};
 ghost use Rattle.window_spans.specs.Parted.{AreMarks, holder_of};
 
 use crate::span::Span;
@@ -59,6 +60,20 @@ pub fn add_mark(marks: &mut Vec<u64>, time: u64)
     }
 }
 
+/// Leaves the marks behind a time, and of those up to it the greatest.
+pub fn leave_marks(marks: &mut Vec<u64>, time: u64)
+    requires rising { IsStrictlyIncreasing marks.old.items }
+    ensures left { marks.new.items ≡ marks_left time marks.old.items }
+    ensures capacity { vec_capacity marks.new ≡ vec_capacity marks.old }
+    ensures number { vec_len marks.new ≤ vec_len marks.old }
+{
+    let count = marks_up_to(marks, time);
+    if count > 0 {
+        let last = marks[count - 1];
+        marks.retain(|mark| last <= *mark);
+    }
+}
+
 fn is_marked(marks: &[u64], place: usize, time: u64) -> bool
     ensures { result ≡ (nat_lt place (length marks.now) && (slice_index marks.now place == time)) }
 {
@@ -71,4 +86,12 @@ fn marks_before(marks: &[u64], time: u64) -> usize
     ensures { IsPlaceOf (λ m. m) marks.now time result }
 {
     marks.partition_point(|mark| *mark < time)
+}
+
+// How many marks lie at or before a time.
+fn marks_up_to(marks: &[u64], time: u64) -> usize
+    requires { IsNonDecreasing marks.now }
+    ensures { IsPlaceOf (λ m. m) marks.now (time + 1) result }
+{
+    marks.partition_point(|mark| *mark <= time)
 }

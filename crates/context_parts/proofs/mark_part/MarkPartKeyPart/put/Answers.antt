@@ -4,8 +4,9 @@ use Rattle.window_laws.specs.After.{with_tuple}
 use Rattle.context_windows.specs.Marked.{FollowsMarks, RemembersHolder, entered_at, marks_window}
 use Rattle.context_windows.specs.Spanned.{changes_of, window_at}
 use Rattle.key_windows.specs.Calls.{kept_at}
-use Rattle.context_parts.proofs.Edges.{HasMarks, edged_aligned, entered_edged, marks_with, parts_at_edges}
-use Rattle.context_parts.proofs.OfMarks.{are_intervals, marks_window_is, marks_work, no_events, stretches_held}
+use Rattle.context_windows.proofs.Enough.{holder_alike}
+use Rattle.context_parts.proofs.Edges.{edged_aligned, entered_edged, marks_with, parts_at_edges}
+use Rattle.context_parts.proofs.OfMarks.{marks_window_is, marks_work, no_events, spans_edged, stretches_held}
 use Rattle.context_parts.proofs.Rest.{few_with, is_window, left_with, rest_windows, rest_with}
 use Rattle.context_parts.proofs.mark_part.MarkPartKeyPart.put.Goals as goal
 
@@ -20,9 +21,11 @@ put-requires-clause-aligned g c =
     let at = (t.4).stood.marks in
     let rest = rest_with d t.0 t.1 t.2 x t.3 store w (is_window d c.args.window at.within) (no_events w.kind at.kind) (t.4).step in
     let has = marks_with d t.0 t.1 t.2 x t.3 store w (is_window d c.args.window at.within) (no_events w.kind at.kind) (t.4).step in
-    edged_aligned p.marks store.slices (entered_at c.args.time c.args.water p)
-    (parts_at_edges d.windows p.marks store (rest_windows d (with_tuple t.0 x) t.1 store rest) (subst (λ ms. HasMarks ms store) (sym (t.4).stood.follows.known) has))
-    (entered_edged c.args.time c.args.water p (are_intervals (t.0).marks (t.0).kept p (t.4).stood.follows (t.4).step.lists.rising (t.4).step.lists.mark_times) (t.4).step.time)
+    let open_ : p.forgotten ≤ c.args.time = omega (arith, (t.4).stood.bounded, (t.4).step.in_time) in
+    let marks = (t.0).marks in
+    edged_aligned marks store.slices (entered_at c.args.time c.args.water p)
+    (parts_at_edges d.windows marks store (rest_windows d (with_tuple t.0 x) t.1 store rest) has)
+    (entered_edged marks c.args.time c.args.water p (spans_edged marks (t.0).kept p (t.4).stood.follows) (holder_alike p.forgotten p.marks marks c.args.time (t.4).stood.follows.known open_))
 
 pub returns-clause-stands : goal.returns-clause-stands
 returns-clause-stands g c = λ m n before more t.

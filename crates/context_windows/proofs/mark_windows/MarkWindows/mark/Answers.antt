@@ -59,7 +59,7 @@ invariant_of-self g c =
 
 pub invariant_of-self-in_default : goal.invariant_of-self-in_default
 invariant_of-self-in_default g c =
-    subst (λ ms. AreIntervals c.self.inside.spans.items ms) (sym c.add_mark.ensures.added) (intervals_marked c.self.inside.spans.items c.self.inside.marks.items c.args.time c.self.invariant c.requires.takes.time)
+    subst (λ ms. AreIntervals c.self.inside.spans.items ms) (sym c.add_mark.ensures.added) (intervals_marked c.self.inside.spans.items c.self.inside.marks.items c.args.time c.self.invariant c.requires.takes.time (search rules))
 
 pub returns-in-Some-clause-follows : goal.returns-in-Some-clause-follows
 returns-in-Some-clause-follows g c = λ marks kept f le held.

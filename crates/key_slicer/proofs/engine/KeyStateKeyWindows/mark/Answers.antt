@@ -8,7 +8,7 @@ use Rattle.key_windows.specs.Calls.{moment}
 use Rattle.key_slicer.specs.Parts.{turns}
 use Rattle.key_slicer.specs.States.{StandsFor}
 use Rattle.key_slicer.specs.Work.{mark_work}
-use Rattle.key_slicer.proofs.StateFacts.{fits_marked, mark_step, stands_marked}
+use Rattle.key_slicer.proofs.StateFacts.{mark_step, stands_marked}
 use Rattle.key_slicer.proofs.SortFacts.{appended_sorted, as_many_turns}
 use Rattle.key_slicer.proofs.Loops.{grown}
 use Rattle.key_slicer.proofs.WorkFacts.{mark_cost, mark_is_bounded}
@@ -28,8 +28,8 @@ purge-requires g c =
     (c.mark-2.ensures.stands m f.without s.store (record { water_is = refl; is_water = c.requires.ready.water_is; step = step; stood = f.stood })) f.bare in
     record { is_water = c.requires.ready.water_is; key = (r.0, insert_key nat_cmp r.1 c.args.time, marked) }
 
-pub returns-then-time-lateness-clause-taken : goal.returns-then-time-lateness-clause-taken
-returns-then-time-lateness-clause-taken g c = record {
+pub returns-clause-taken : goal.returns-clause-taken
+returns-clause-taken g c = record {
   key = search rules;
   next = search rules;
   changes = λ kept marks fits.
@@ -55,35 +55,8 @@ returns-then-time-lateness-clause-taken g c = record {
       c.purge.ensures.fits kept (insert_key nat_cmp marks c.args.time) marked;
 }
 
-pub returns-else-time-lateness-clause-taken : goal.returns-else-time-lateness-clause-taken
-returns-else-time-lateness-clause-taken g c = record {
-  key = search rules;
-  next = search rules;
-  changes = λ kept marks fits.
-      let s = c.args.self.now in
-      let d = c.args.defs.now in
-      let m = moment kept marks c.args.water in
-      let f = fits.known in
-      let step = mark_step g.P.KeyPart.stands d m s.next s.store s.parts.list.items c.args.time c.mark.new.self f c.requires.in_time.within c.requires.in_time.accepted
-      c.mark.ensures.tuples c.mark.ensures.slices c.mark.ensures.sliced c.mark.ensures.marks c.mark.ensures.dropped in
-      appended_sorted s.key m (with_mark m c.args.time) d.windows s.scratch.items c.mark-2.new.out.items c.as_slice.result.now c.args.out.now.items c.append_sorted.new.out.items c.requires.ready.empty
-      (c.mark-2.ensures.changes m f.without s.store (record { water_is = refl; is_water = c.requires.ready.water_is; step = step; stood = f.stood })) c.as_slice.ensures.value c.append_sorted.ensures.items;
-  capacity = c.append_sorted.ensures.capacity;
-  fits = λ kept marks fits.
-      let s = c.args.self.now in
-      let d = c.args.defs.now in
-      let m = moment kept marks c.args.water in
-      let f = fits.known in
-      let step = mark_step g.P.KeyPart.stands d m s.next s.store s.parts.list.items c.args.time c.mark.new.self f c.requires.in_time.within c.requires.in_time.accepted
-      c.mark.ensures.tuples c.mark.ensures.slices c.mark.ensures.sliced c.mark.ensures.marks c.mark.ensures.dropped in
-      let marked : StandsFor g.P.KeyPart.stands d (with_mark m c.args.time) s.next c.mark.new.self c.mark-2.new.self.list.items =
-      stands_marked g.P.KeyPart.stands d m s.next f.without s.store c.args.time c.mark.new.self c.mark-2.new.self.list.items f.lists step
-      (c.mark-2.ensures.stands m f.without s.store (record { water_is = refl; is_water = c.requires.ready.water_is; step = step; stood = f.stood })) f.bare in
-      fits_marked g.P.KeyPart.stands d kept marks c.args.water s.next f.without s.store c.args.time c.mark.new.self c.mark-2.new.self.list.items c.requires.ready.water_is (omega (arith, c.requires.in_time.accepted, c.if-time-lateness.false)) fits.none_settled step marked;
-}
-
-pub returns-then-time-lateness-clause-work : goal.returns-then-time-lateness-clause-work
-returns-then-time-lateness-clause-work g c = λ kept marks fits.
+pub returns-clause-work : goal.returns-clause-work
+returns-clause-work g c = λ kept marks fits.
     let s = c.args.self.now in
     let d = c.args.defs.now in
     let m = moment kept marks c.args.water in
@@ -95,43 +68,19 @@ returns-then-time-lateness-clause-work g c = λ kept marks fits.
     mark_cost d s.key m (with_mark m c.args.time) c.args.time s.store c.mark.new.self c.purge.new.self.store changed c.args.steps.now c.mark.new.steps c.mark-2.new.steps c.purge.new.steps
     c.mark.ensures.cost c.mark-2.ensures.cost.work c.purge.ensures.work c.mark.ensures.reach many c.mark.ensures.slices
 
-pub returns-else-time-lateness-clause-work : goal.returns-else-time-lateness-clause-work
-returns-else-time-lateness-clause-work g c = λ kept marks fits.
+pub returns-clause-bound : goal.returns-clause-bound
+returns-clause-bound g c = λ kept marks fits.
     let s = c.args.self.now in
     let d = c.args.defs.now in
     let m = moment kept marks c.args.water in
-    let f = fits.known in
-    let step = mark_step g.P.KeyPart.stands d m s.next s.store s.parts.list.items c.args.time c.mark.new.self f c.requires.in_time.within c.requires.in_time.accepted
-    c.mark.ensures.tuples c.mark.ensures.slices c.mark.ensures.sliced c.mark.ensures.marks c.mark.ensures.dropped in
-    let changed = vec_len c.mark-2.new.out - vec_len s.scratch in
-    let many : changed ≡ length (changes_between d.windows s.key m (with_mark m c.args.time)) = omega (arith, as_many_turns s.key m (with_mark m c.args.time) d.windows, grown s.scratch.items c.mark-2.new.out.items (flat_map (turns s.key m (with_mark m c.args.time)) (enumerate_from 0 d.windows)) (c.mark-2.ensures.changes m f.without s.store (record { water_is = refl; is_water = c.requires.ready.water_is; step = step; stood = f.stood }))) in
-    mark_cost d s.key m (with_mark m c.args.time) c.args.time s.store c.mark.new.self c.mark.new.self changed c.args.steps.now c.mark.new.steps c.mark-2.new.steps c.mark-2.new.steps
-    c.mark.ensures.cost c.mark-2.ensures.cost.work (omega arith) c.mark.ensures.reach many c.mark.ensures.slices
-
-pub returns-then-time-lateness-clause-bound : goal.returns-then-time-lateness-clause-bound
-returns-then-time-lateness-clause-bound g c = λ kept marks fits.
-    let s = c.args.self.now in
-    let d = c.args.defs.now in
-    let m = moment kept marks c.args.water in
-    let then_ = (returns-then-time-lateness-clause-taken g c).fits kept marks fits in (
+    let then_ = (returns-clause-taken g c).fits kept marks fits in (
       mark_work d s.key m (with_mark m c.args.time) c.args.time s.store c.purge.new.self.store,
       mark_is_bounded g.T.AggTree.bounded d s.key m fits.known.without c.args.time s.store fits.known.held fits.known.store fits.none_settled c.requires.ready.reach (with_mark m c.args.time) then_.known.without c.purge.new.self.store then_.known.held then_.known.store then_.none_settled,
-      returns-then-time-lateness-clause-work g c kept marks fits,
+      returns-clause-work g c kept marks fits,
     )
 
-pub returns-else-time-lateness-clause-bound : goal.returns-else-time-lateness-clause-bound
-returns-else-time-lateness-clause-bound g c = λ kept marks fits.
-    let s = c.args.self.now in
-    let d = c.args.defs.now in
-    let m = moment kept marks c.args.water in
-    let then_ = (returns-else-time-lateness-clause-taken g c).fits kept marks fits in (
-      mark_work d s.key m (with_mark m c.args.time) c.args.time s.store c.mark.new.self,
-      mark_is_bounded g.T.AggTree.bounded d s.key m fits.known.without c.args.time s.store fits.known.held fits.known.store fits.none_settled c.requires.ready.reach (with_mark m c.args.time) then_.known.without c.mark.new.self then_.known.held then_.known.store then_.none_settled,
-      returns-else-time-lateness-clause-work g c kept marks fits,
-    )
-
-pub returns-then-time-lateness-clause-pace : goal.returns-then-time-lateness-clause-pace
-returns-then-time-lateness-clause-pace g c = record {
+pub returns-clause-pace : goal.returns-clause-pace
+returns-clause-pace g c = record {
   credit = search rules;
   ahead = λ le each.
       let r = c.requires.stands in
@@ -142,18 +91,4 @@ returns-then-time-lateness-clause-pace g c = record {
       let step = mark_step g.P.KeyPart.stands d m s.next s.store s.parts.list.items c.args.time c.mark.new.self f c.requires.in_time.within c.requires.in_time.accepted
       c.mark.ensures.tuples c.mark.ensures.slices c.mark.ensures.sliced c.mark.ensures.marks c.mark.ensures.dropped in
       c.purge.ensures.ahead (c.mark-2.ensures.ahead m f.without s.store (record { water_is = refl; is_water = c.requires.ready.water_is; step = step; stood = f.stood }) le each);
-}
-
-pub returns-else-time-lateness-clause-pace : goal.returns-else-time-lateness-clause-pace
-returns-else-time-lateness-clause-pace g c = record {
-  credit = search rules;
-  ahead = λ le each.
-      let r = c.requires.stands in
-      let s = c.args.self.now in
-      let d = c.args.defs.now in
-      let m = moment r.0 r.1 c.args.water in
-      let f = r.2.known in
-      let step = mark_step g.P.KeyPart.stands d m s.next s.store s.parts.list.items c.args.time c.mark.new.self f c.requires.in_time.within c.requires.in_time.accepted
-      c.mark.ensures.tuples c.mark.ensures.slices c.mark.ensures.sliced c.mark.ensures.marks c.mark.ensures.dropped in
-      c.mark-2.ensures.ahead m f.without s.store (record { water_is = refl; is_water = c.requires.ready.water_is; step = step; stood = f.stood }) le each;
 }

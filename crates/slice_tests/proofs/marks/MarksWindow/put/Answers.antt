@@ -11,6 +11,7 @@ use Rattle.agg_store.specs.Stored.{tuples_of}
 use Rattle.window_spans.specs.Spans.{is_near, near_of, stands}
 use Rattle.context_windows.specs.Marked.{FollowsMarks, holder_in}
 use Rattle.slice_tests.specs.Together.{AreOfMarks}
+use Rattle.context_windows.proofs.Enough.{holder_alike}
 use Rattle.slice_tests.proofs.ContextFacts.{LiesBetween, edges_align, longer, marks_after_before, marks_stay, spans_lie, standing_lies, within_lies}
 use Rattle.slice_tests.proofs.marks.MarksWindow.put.Goals as goal
 
@@ -31,10 +32,10 @@ put-requires-2-clause-aligned g c =
     let s = c.before-2.new.self in
     let h : AreOfMarks d store c.reserve-2.new.self = marks_stay d c.args.self.now.store store c.args.self.now.between c.reserve-2.new.self c.requires.together c.reserve.ensures.kept c.reserve-2.ensures.kept in
     let f : FollowsMarks store.marks (tuples_of store) s = marks_after_before store.marks (tuples_of store) c.reserve-2.new.self s h.follows c.before-2.ensures.kept.spans c.before-2.ensures.marks c.before-2.ensures.kept.forgotten in
-    let marks : c.put.new.self.marks ≡ s.marks = c.put.ensures.marks ∙ sym f.known in
-    let lie : All (LiesBetween s.marks) s.spans = subst (λ m. All (LiesBetween m) s.spans) (sym f.known) (spans_lie store.marks (tuples_of store) s f) in
-    edges_align c.put.new.self.slices s.marks (λ e k. c.slices_part_at_edges.ensures d.windows c.put.new.self e c.is_cut-2.ensures (rw marks k)) _
-    (All-filter (stands c.args.water) (LiesBetween s.marks) (holder_in c.args.time s.spans s.marks ∷ []) (All-cons (LiesBetween s.marks) (holder_in c.args.time s.spans s.marks) [] (within_lies c.args.time s.marks s.spans lie) (All-nil (LiesBetween s.marks))))
+    let lie : All (LiesBetween store.marks) s.spans = spans_lie store.marks (tuples_of store) s f in
+    let le : s.forgotten ≤ c.args.time = omega (arith, c.before-2.ensures.kept.forgotten ∙ c.reserve-2.ensures.kept.forgotten, c.requires.unsettled) in
+    edges_align c.put.new.self.slices store.marks (λ e k. c.slices_part_at_edges.ensures d.windows c.put.new.self e c.is_cut-2.ensures (rw c.put.ensures.marks k)) _
+    (All-filter (stands c.args.water) (LiesBetween store.marks) (holder_in c.args.time s.spans s.marks ∷ []) (All-cons (LiesBetween store.marks) (holder_in c.args.time s.spans s.marks) [] (within_lies c.args.time store.marks s.marks s.spans (holder_alike s.forgotten s.marks store.marks c.args.time f.known le) lie) (All-nil (LiesBetween store.marks))))
 
 pub returns-clause-together : goal.returns-clause-together
 returns-clause-together g c =
