@@ -1,6 +1,7 @@
 pub mod Shard
 pub mod Work
 pub mod Recorded
+pub mod Told
 pub mod Past
 pub mod Placed
 pub mod Reached

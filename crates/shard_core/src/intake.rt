@@ -3,29 +3,36 @@ ghost use Rattle.stream_base.specs.declared.limits.TheConstants.{JOURNAL_MAX};
 ghost use Rattle.stream_base.specs.Model.What.{is_progress};
 ghost use Rattle.shard_core.specs.Engines.{MayCome, TakesIn};
 ghost use Rattle.shard_core.specs.Flat.{sharded};
+ghost use Rattle.shard_core.specs.Told.{IsSettled};
 ghost use Rattle.shard_core.specs.Work.{IsMarkWithin, IsTupleWithin, comes_late};
 
 use crate::keys::KeyTable;
 use crate::past::Past;
+use crate::told::Told;
 use agg_laws::Steps;
 use key_windows::KeyWindows;
 use std::alloc::Global;
 use stream_base::{Change, Entry, NoMemory, What};
 
+// In place of the place of a key, for an entry that goes to none.
+const NO_PLACE: usize = usize::MAX;
+
 impl<K: KeyWindows> KeyTable<K> {
-    // Takes in an entry and appends its changes, or does nothing.
+    // Takes in an entry and tells its changes, or does nothing. Answers the place of its key.
     pub fn take_in<L>(
         &mut self,
         alloc: Global,
         past: &Past,
         entry: &Entry,
-        out: &mut Vec<Change>,
+        told: &mut Told,
         steps: &mut Steps<L>,
-    ) -> Result<(), NoMemory>
+    ) -> Result<usize, NoMemory>
+        requires settled { IsSettled told.old }
         requires comes { MayCome K.key_of K.fits K.next_position past.now self.old entry.now }
         requires few { length past.now.journal < JOURNAL_MAX }
+        ensures settled { IsSettled told.new }
         ensures taken { TakesIn K.key_of K.fits K.next_position past.now entry.now result
-            self.new out.old.items out.new.items steps.old steps.new }
+            self.new told.old.log.items told.new.log.items steps.old steps.new }
         ensures tuple_work { OnOk result (IsTupleWithin K.bounds_put (sharded past.now) entry.now
             steps.old steps.new) }
         ensures mark_work { OnOk result (IsMarkWithin K.bounds_mark (sharded past.now) entry.now
@@ -33,16 +40,17 @@ impl<K: KeyWindows> KeyTable<K> {
         ensures late_work { comes_late (sharded past.now) entry.now ≡ true → steps.new ≡ steps.old }
     {
         if past.is_late(entry) {
-            out.push(Change::Dropped)?;
-            return Ok(());
+            told.reserve(1)?;
+            told.log.push(&Change::Dropped, NO_PLACE);
+            return Ok(NO_PLACE);
         }
-        match entry.what {
+        match &entry.what {
             What::Tuple { key, time, value } => {
-                self.put(alloc, past, &key, time, value, out, steps)
+                self.put(alloc, past, key, *time, *value, told, steps)
             }
-            What::Mark { key, time } => self.mark(alloc, past, &key, time, out, steps),
+            What::Mark { key, time } => self.mark(alloc, past, key, *time, told, steps),
             What::Water { .. } | What::Idle | What::End => {
-                self.progress(alloc, past, entry, out, steps)
+                self.progress(alloc, past, entry, told, steps)
             }
         }
     }
@@ -54,18 +62,21 @@ impl<K: KeyWindows> KeyTable<K> {
         alloc: Global,
         past: &Past,
         entry: &Entry,
-        out: &mut Vec<Change>,
+        told: &mut Told,
         steps: &mut Steps<L>,
-    ) -> Result<(), NoMemory>
+    ) -> Result<usize, NoMemory>
+        requires settled { IsSettled told.old }
         requires comes { MayCome K.key_of K.fits K.next_position past.now self.old entry.now }
         requires progress { is_progress entry.now.what ≡ true }
-        ensures { TakesIn K.key_of K.fits K.next_position past.now entry.now result
-            self.new out.old.items out.new.items steps.old steps.new }
+        ensures settled { IsSettled told.new }
+        ensures taken { TakesIn K.key_of K.fits K.next_position past.now entry.now result
+            self.new told.old.log.items told.new.log.items steps.old steps.new }
     {
         let new = past.water_after(entry);
         if new == past.water() {
-            return Ok(());
+            return Ok(NO_PLACE);
         }
-        self.advance(alloc, past, entry, new, out, steps)
+        self.advance(alloc, past, entry, new, told, steps)?;
+        Ok(NO_PLACE)
     }
 }

@@ -6,16 +6,18 @@ ghost use Rattle.stream_base.specs.declared.what.What.TheVariants.{Tuple, Mark};
 ghost use Rattle.stream_base.specs.Model.Watermark.{water_of};
 ghost use Rattle.shard_core.specs.Engines.{IsTableOf, MayTake, TakesIn, place_of};
 ghost use Rattle.shard_core.specs.Flat.{sharded};
+ghost use Rattle.shard_core.specs.Told.{IsSettled};
 ghost use Rattle.shard_core.specs.Work.{IsTakenWithin};
 
 use crate::dues::Dues;
 use crate::key_index::KeyIndex;
 use crate::past::Past;
 use crate::slot::Slot;
+use crate::told::Told;
 use agg_laws::Steps;
 use key_windows::KeyWindows;
 use std::alloc::Global;
-use stream_base::{Change, Defs, KeyText, NoMemory};
+use stream_base::{Defs, KeyText, NoMemory};
 
 // The states of the keys. A key has its place in the order in which keys came; each state stands
 // under a watermark of its own, and beside it is up to which watermark nothing is due: up to there
@@ -41,32 +43,49 @@ impl<K: KeyWindows> KeyTable<K> {
     }
 
     // The place of a key, with a fresh state where it has none yet.
-    fn place_or_add(&mut self, alloc: Global, past: &Past, key: &KeyText) -> Result<usize, NoMemory>
+    fn place_or_add(
+        &mut self,
+        alloc: Global,
+        past: &Past,
+        key: &KeyText,
+        told: &mut Told,
+    ) -> Result<usize, NoMemory>
+        ensures told { told.new ≡ told.old }
         ensures place { IfOk result (λ p. place_of self.new key.now ≡ Some p) }
         ensures current { IsTableOf K.key_of K.fits K.next_position past.now self.old
             → IsTableOf K.key_of K.fits K.next_position past.now self.new }
     {
         match self.index.get(key) {
             Some(place) => Ok(place),
-            None => self.add(alloc, past, key),
+            None => self.add(alloc, past, key, told),
         }
     }
 
-    // A fresh state under the watermark of the past for a key that has none, all or nothing.
-    fn add(&mut self, alloc: Global, past: &Past, key: &KeyText) -> Result<usize, NoMemory>
+    // A fresh state under the watermark of the past for a key that has none, all or nothing. Its
+    // place is that of the key in the log of changes.
+    fn add(
+        &mut self,
+        alloc: Global,
+        past: &Past,
+        key: &KeyText,
+        told: &mut Told,
+    ) -> Result<usize, NoMemory>
         requires { place_of self.old key.now ≡ None }
+        ensures told { told.new ≡ told.old }
         ensures place { IfOk result (λ p. place_of self.new key.now ≡ Some p) }
         ensures current { IsTableOf K.key_of K.fits K.next_position past.now self.old
             → IsTableOf K.key_of K.fits K.next_position past.now self.new }
     {
         self.slots.reserve(1)?;
         self.dues.reserve()?;
+        told.log.reserve_key()?;
         let defs = past.defs();
         let slot = Slot::fresh(alloc, defs, *key, past.water())?;
         let due = slot.due(defs);
         let place = self.index.add(key)?;
         self.slots.push_reserved(slot);
         self.dues.push_reserved(due);
+        told.log.add_key(key);
         Ok(place)
     }
 
@@ -85,19 +104,26 @@ impl<K: KeyWindows> KeyTable<K> {
 
     // The place of a key whose state stands under the watermark of the past. It takes memory only
     // where the key has no place yet.
-    fn prepare(&mut self, alloc: Global, past: &Past, key: &KeyText) -> Result<usize, NoMemory>
+    fn prepare(
+        &mut self,
+        alloc: Global,
+        past: &Past,
+        key: &KeyText,
+        told: &mut Told,
+    ) -> Result<usize, NoMemory>
         requires { IsTableOf K.key_of K.fits K.next_position past.now self.old }
+        ensures told { told.new ≡ told.old }
         ensures current { IsTableOf K.key_of K.fits K.next_position past.now self.new }
         ensures place { IfOk result (λ p. place_of self.new key.now ≡ Some p) }
         ensures water { IfOk result (λ p. HoldsAt (λ slot. slot.water
             ≡ water_of past.now.sources past.now.journal) self.new.slots.items p) }
     {
-        let place = self.place_or_add(alloc, past, key)?;
+        let place = self.place_or_add(alloc, past, key, told)?;
         self.catch_up(past, place);
         Ok(place)
     }
 
-    // Takes in a tuple that isn't late, or nothing.
+    // Takes in a tuple that isn't late, or nothing. Answers the place of its key.
     pub fn put<L>(
         &mut self,
         alloc: Global,
@@ -105,49 +131,53 @@ impl<K: KeyWindows> KeyTable<K> {
         key: &KeyText,
         time: u64,
         value: i64,
-        out: &mut Vec<Change>,
+        told: &mut Told,
         steps: &mut Steps<L>,
-    ) -> Result<(), NoMemory>
+    ) -> Result<usize, NoMemory>
+        requires settled { IsSettled told.old }
         requires accepted { MayTake K.key_of K.fits K.next_position past.now self.old time }
         requires few { length past.now.journal < JOURNAL_MAX }
+        ensures settled { IsSettled told.new }
         ensures taken { (e : Entry) → e.what ≡ Tuple key.now time value
             → TakesIn K.key_of K.fits K.next_position past.now e result self.new
-            out.old.items out.new.items steps.old steps.new }
+            told.old.log.items told.new.log.items steps.old steps.new }
         ensures work { (e : Entry) → e.what ≡ Tuple key.now time value → OnOk result
             (IsTakenWithin K.bounds_put (sharded past.now) e key.now time steps.old steps.new) }
     {
-        let place = self.prepare(alloc, past, key)?;
+        let place = self.prepare(alloc, past, key, told)?;
         let defs = past.defs();
-        let position = past.journal().len() as u64;
-        let stays = self.slots[place].put(defs, position, time, value, out, steps)?;
+        let position = past.len();
+        let stays = self.slots[place].put(defs, position, time, value, place, told, steps)?;
         if stays {
-            return Ok(());
+            return Ok(place);
         }
         self.dues.set(place, self.slots[place].due(defs));
-        Ok(())
+        Ok(place)
     }
 
-    // Takes in a mark that isn't late, or nothing.
+    // Takes in a mark that isn't late, or nothing. Answers the place of its key.
     pub fn mark<L>(
         &mut self,
         alloc: Global,
         past: &Past,
         key: &KeyText,
         time: u64,
-        out: &mut Vec<Change>,
+        told: &mut Told,
         steps: &mut Steps<L>,
-    ) -> Result<(), NoMemory>
-        requires { MayTake K.key_of K.fits K.next_position past.now self.old time }
+    ) -> Result<usize, NoMemory>
+        requires settled { IsSettled told.old }
+        requires accepted { MayTake K.key_of K.fits K.next_position past.now self.old time }
+        ensures settled { IsSettled told.new }
         ensures taken { (e : Entry) → e.what ≡ Mark key.now time
             → TakesIn K.key_of K.fits K.next_position past.now e result self.new
-            out.old.items out.new.items steps.old steps.new }
+            told.old.log.items told.new.log.items steps.old steps.new }
         ensures work { (e : Entry) → e.what ≡ Mark key.now time → OnOk result
             (IsTakenWithin K.bounds_mark (sharded past.now) e key.now time steps.old steps.new) }
     {
-        let place = self.prepare(alloc, past, key)?;
+        let place = self.prepare(alloc, past, key, told)?;
         let defs = past.defs();
-        self.slots[place].mark(defs, time, out, steps)?;
+        self.slots[place].mark(defs, time, place, told, steps)?;
         self.dues.set(place, self.slots[place].due(defs));
-        Ok(())
+        Ok(place)
     }
 }

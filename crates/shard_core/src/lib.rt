@@ -30,9 +30,11 @@ mod rows;
 mod shard;
 mod slices;
 mod slot;
+mod told;
 mod work;
 
 pub use applied::{Applied, ApplyFault};
+pub use compact_log::ChangeRange;
 pub use shard::KeyedShard;
 pub use work::apply_counted;
 

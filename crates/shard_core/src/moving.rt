@@ -1,19 +1,20 @@
-ghost use Rattle.std.specs.Prelude.{◌≡◌, ◌≤◌, ◌<◌, ◌+◌, ◌-◌, ◌++◌, ◌∷◌, [], ℕ, List, true, IfOk, OnOk, length, EachIndex, sum_by, vec_len, vec_capacity, slice_index, slice_index_or};
+ghost use Rattle.std.specs.Prelude.{◌≡◌, ◌≤◌, ◌<◌, ◌+◌, ◌++◌, ◌∷◌, [], ℕ, List, true, IfOk, OnOk, length, EachIndex, sum_by, slice_index, slice_index_or};
 ghost use Rattle.std.specs.List.{HoldsAt, flat_map};
-ghost use Rattle.key_parts.specs.Work.{AddsAtMost};
 ghost use Rattle.key_windows.specs.Calls.{IsWater, changes_by_move};
 ghost use Rattle.stream_base.specs.declared.kept.Kept.{Kept};
 ghost use Rattle.stream_base.specs.Model.What.{is_progress};
 ghost use Rattle.stream_base.specs.Model.Watermark.{water_of};
 ghost use Rattle.shard_core.specs.Engines.{AreMovable, AreSameSlots, CanMove, HasSameDues, HasSamePlaces, IsMovedSlot, IsSameElsewhere, IsSameOutside, IsSameSlot, IsTableOf, MayMoveAt, SlotFits, StandsIn, TakesIn, due_places, moves_of};
+ghost use Rattle.shard_core.specs.Told.{IsSettled, spare_of};
 
 use crate::keys::KeyTable;
 use crate::past::Past;
 use crate::slot::Slot;
+use crate::told::Told;
 use agg_laws::Steps;
 use key_windows::KeyWindows;
 use std::alloc::Global;
-use stream_base::{Change, Defs, Entry, NoMemory};
+use stream_base::{Defs, Entry, NoMemory};
 
 impl<K: KeyWindows> KeyTable<K> {
     // Moves the states that are due on to a watermark, the one behind an entry that says a word on
@@ -24,22 +25,24 @@ impl<K: KeyWindows> KeyTable<K> {
         past: &Past,
         entry: &Entry,
         new: u64,
-        out: &mut Vec<Change>,
+        told: &mut Told,
         steps: &mut Steps<L>,
     ) -> Result<(), NoMemory>
+        requires settled { IsSettled told.old }
         requires current { IsTableOf K.key_of K.fits K.next_position past.now self.old }
         requires progress { is_progress entry.now.what ≡ true }
         requires new { new ≡ water_of past.now.sources (past.now.journal ++ entry.now ∷ []) }
         requires water { IsWater new }
-        ensures { TakesIn K.key_of K.fits K.next_position past.now entry.now result
-            self.new out.old.items out.new.items steps.old steps.new }
+        ensures settled { IsSettled told.new }
+        ensures taken { TakesIn K.key_of K.fits K.next_position past.now entry.now result
+            self.new told.old.log.items told.new.log.items steps.old steps.new }
     {
         let defs = past.defs();
         let due = self.due_places(alloc, new)?;
         let places = due.as_slice();
         let room = self.reserve_moves(defs, places, new)?;
-        out.reserve(room as usize)?;
-        self.move_all(defs, places, new, out, steps);
+        told.reserve(room as usize)?;
+        self.move_all(defs, places, new, told, steps);
         self.dues.look_again(new);
         Ok(())
     }
@@ -75,14 +78,16 @@ impl<K: KeyWindows> KeyTable<K> {
         defs: &Defs,
         place: usize,
         new: u64,
-        out: &mut Vec<Change>,
+        told: &mut Told,
         steps: &mut Steps<L>,
     )
+        requires settled { IsSettled told.old }
         requires movable { MayMoveAt K.fits defs.now self.old.slots.items place new }
         requires due { place < length self.old.dues.items }
         requires ready { HoldsAt (CanMove (K.is_ready defs.now) new) self.old.slots.items place }
-        requires spare { HoldsAt (λ slot. K.promised slot.state
-            ≤ vec_capacity out.old - vec_len out.old) self.old.slots.items place }
+        requires spare { HoldsAt (λ slot. K.promised slot.state ≤ spare_of told.old)
+            self.old.slots.items place }
+        ensures settled { IsSettled told.new }
         ensures table { HasSamePlaces self.old self.new }
         ensures others { IsSameElsewhere self.old.slots.items self.new.slots.items place }
         ensures other_dues { IsSameElsewhere self.old.dues.items self.new.dues.items place }
@@ -91,14 +96,14 @@ impl<K: KeyWindows> KeyTable<K> {
             (slice_index_or self.new.slots.items place x) (slice_index self.new.dues.items place) }
         ensures changes { (x : Slot K) (kept : List Kept) (marks : List ℕ)
             → SlotFits K.fits defs.now kept marks (slice_index_or self.old.slots.items place x)
-            → out.new.items ≡ out.old.items
+            → told.new.log.items ≡ told.old.log.items
             ++ changes_by_move defs.now (K.key_of
             (slice_index_or self.old.slots.items place x).state)
             kept marks (slice_index_or self.old.slots.items place x).water new }
-        ensures added { HoldsAt (λ slot. AddsAtMost
-            (K.promised slot.state) out.old out.new) self.old.slots.items place }
+        ensures added { HoldsAt (λ slot. spare_of told.old
+            ≤ spare_of told.new + K.promised slot.state) self.old.slots.items place }
     {
-        self.slots[place].move_to(defs, new, out, steps);
+        self.slots[place].move_to(defs, new, place, told, steps);
         self.dues.set(place, self.slots[place].due(defs));
     }
 
@@ -129,9 +134,10 @@ impl<K: KeyWindows> KeyTable<K> {
         defs: &Defs,
         places: &[usize],
         new: u64,
-        out: &mut Vec<Change>,
+        told: &mut Told,
         steps: &mut Steps<L>,
     )
+        requires settled { IsSettled told.old }
         requires movable { AreMovable K.fits defs.now self.old.slots.items places.now new }
         requires aligned { length self.old.dues.items ≡ length self.old.slots.items }
         requires ready { EachIndex places.now
@@ -139,7 +145,8 @@ impl<K: KeyWindows> KeyTable<K> {
             (slice_index places.now i)) }
         requires spare { (x : Slot K)
             → sum_by (λ p. K.promised (slice_index_or self.old.slots.items p x).state) places.now
-            ≤ vec_capacity out.old - vec_len out.old }
+            ≤ spare_of told.old }
+        ensures settled { IsSettled told.new }
         ensures table { HasSamePlaces self.old self.new }
         ensures others { IsSameOutside self.old.slots.items self.new.slots.items places.now }
         ensures other_dues { IsSameOutside self.old.dues.items self.new.dues.items places.now }
@@ -148,16 +155,16 @@ impl<K: KeyWindows> KeyTable<K> {
             (slice_index_or self.old.slots.items (slice_index places.now i) x)
             (slice_index_or self.new.slots.items (slice_index places.now i) x)
             (slice_index self.new.dues.items (slice_index places.now i))) }
-        ensures nowhere { places.now ≡ [] → out.new.items ≡ out.old.items }
+        ensures nowhere { places.now ≡ [] → told.new.log.items ≡ told.old.log.items }
         ensures changes { (x : Slot K) (kept : List ℕ → List Kept) (marks : List ℕ → List ℕ)
             → EachIndex places.now (λ i. StandsIn K.key_of K.fits defs.now kept marks
             (slice_index_or self.old.slots.items (slice_index places.now i) x))
-            → out.new.items ≡ out.old.items
+            → told.new.log.items ≡ told.old.log.items
             ++ flat_map (λ p. moves_of K.key_of defs.now kept marks new
             (slice_index_or self.old.slots.items p x)) places.now }
     {
         for place in places {
-            self.move_at(defs, *place, new, out, steps);
+            self.move_at(defs, *place, new, told, steps);
         }
     }
 }

@@ -1,4 +1,4 @@
-ghost use Rattle.std.specs.Prelude.{◌≡◌, ◌≤◌, ◌<◌, ◌++◌, ◌∷◌, [], List, true, IfOk, OnOk};
+ghost use Rattle.std.specs.Prelude.{◌≡◌, ◌≤◌, ◌<◌, ◌++◌, ◌∷◌, [], List, true, IfOk, OnOk, Some, length, slice_get};
 ghost use Rattle.key_windows.specs.Calls.{IsWater};
 ghost use Rattle.stream_base.specs.Limits.{AreWithinLimits};
 ghost use Rattle.stream_base.specs.declared.entry.Entry.{Entry};
@@ -9,6 +9,7 @@ ghost use Rattle.watermark_table.specs.Watched.{CanTake, IsSameTable, StandsFor}
 ghost use Rattle.shard_core.specs.Recorded.{IsSameShard};
 ghost use Rattle.shard_core.specs.Shard.{AreSources, IsJournal, IsKnown, IsNext};
 
+use compact_log::Entries;
 use std::alloc::Global;
 use std::marker::Model;
 use stream_base::{Defs, Entry, FINAL, NoMemory, What};
@@ -20,7 +21,7 @@ pub struct Past {
     defs: Defs,
     sources: u16,
     waters: Waters,
-    journal: Vec<Entry>,
+    journal: Entries,
 }
 
 impl Model for Past {
@@ -49,7 +50,7 @@ impl Past {
             defs,
             sources,
             waters,
-            journal: Vec::new(alloc),
+            journal: Entries::new(alloc),
         })
     }
 
@@ -60,11 +61,19 @@ impl Past {
         &self.defs
     }
 
-    pub fn journal(&self) -> &[Entry]
-        ensures value { result.now ≡ self.now.journal }
+    // How many entries there are.
+    pub fn len(&self) -> u64
+        ensures value { result ≡ length self.now.journal }
         ensures journal { IsJournal self.now.sources self.now.journal }
     {
-        &self.journal
+        self.journal.len() as u64
+    }
+
+    pub fn entry(&self, position: u64) -> Entry
+        requires { position < length self.now.journal }
+        ensures { slice_get self.now.journal position ≡ Some result }
+    {
+        self.journal.get(position as usize)
     }
 
     pub fn has_ended(&self, source: u16) -> bool
@@ -122,26 +131,26 @@ impl Past {
         Ok(())
     }
 
-    // Takes in an entry, for which there is room.
-    pub fn push(&mut self, entry: &Entry)
+    // Takes in an entry, for which there is room, and whose key lies at a place, if it has one there.
+    pub fn push(&mut self, entry: &Entry, place: usize)
         requires next { IsNext self.old.sources self.old.journal entry.now }
         requires room { 1 ≤ self.old.spare }
         ensures same { IsSameShard self.old self.new }
         ensures journal { self.new.journal ≡ self.old.journal ++ entry.now ∷ [] }
     {
-        note(&mut self.waters, entry.source, entry.what);
-        self.journal.push_reserved(*entry);
+        note(&mut self.waters, entry.source, &entry.what);
+        self.journal.push(entry, place);
     }
 }
 
 // Takes in what a source says of its progress.
-fn note(waters: &mut Waters, source: u16, what: What)
-    requires { CanTake waters.old record { source = source; what = what } }
+fn note(waters: &mut Waters, source: u16, what: &What)
+    requires { CanTake waters.old record { source = source; what = what.now } }
     ensures same { IsSameTable waters.old waters.new }
     ensures stands { (journal : List Entry) → StandsFor waters.old journal
-        → StandsFor waters.new (journal ++ record { source = source; what = what } ∷ []) }
+        → StandsFor waters.new (journal ++ record { source = source; what = what.now } ∷ []) }
 {
-    match what {
+    match *what {
         What::Tuple { .. } | What::Mark { .. } => {}
         What::Water { time } => {
             let _water = waters.raise(source, time);

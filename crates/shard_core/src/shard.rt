@@ -12,11 +12,13 @@ use crate::applied::{Applied, ApplyFault};
 use crate::keys::KeyTable;
 use crate::past::Past;
 use crate::rows::rows_behind;
+use crate::told::Told;
 use agg_laws::Steps;
+use compact_log::{ChangeRange, Changes};
 use key_windows::KeyWindows;
 use std::alloc::Global;
 use std::marker::Model;
-use stream_base::{Change, Defs, Entry, JOURNAL_MAX, KeyText, NoMemory, Row};
+use stream_base::{Defs, Entry, JOURNAL_MAX, KeyText, NoMemory, Row};
 
 /// A shard over an engine for the windows of one key: a journal, and under each of its entries the
 /// changes of the results. Contracts see the definitions, the number of sources and the journal.
@@ -29,7 +31,7 @@ pub struct KeyedShard<K: KeyWindows> {
     past: Past,
     keys: KeyTable<K>,
     // The changes under all entries, one entry's behind the other's, and where each entry's end.
-    changes: Vec<Change>,
+    told: Told,
     ends: Vec<usize>,
 }
 
@@ -39,11 +41,12 @@ impl<K: KeyWindows> Model for KeyedShard<K> {
     ghost Value = { Sharded };
 
     ghost use Rattle.shard_core.specs.Flat.{IsShard, sharded};
+    ghost use Rattle.shard_core.specs.Told.{IsSettled};
 
     ghost view = { λ a. sharded a.past };
 
     ghost invariant = { λ a. IsShard K.key_of K.fits K.next_position
-        a.past a.keys a.changes.items a.ends.items };
+        a.past a.keys a.told.log.items a.ends.items × IsSettled a.told };
 }
 
 impl<K: KeyWindows> KeyedShard<K> {
@@ -58,7 +61,7 @@ impl<K: KeyWindows> KeyedShard<K> {
             alloc,
             past,
             keys: KeyTable::new(alloc),
-            changes: Vec::new(alloc),
+            told: Told::new(alloc),
             ends: Vec::new(alloc),
         })
     }
@@ -81,7 +84,7 @@ impl<K: KeyWindows> KeyedShard<K> {
         if self.past.has_ended(entry.source) {
             return Err(ApplyFault::Ended);
         }
-        if self.past.journal().len() as u64 == JOURNAL_MAX {
+        if self.past.len() == JOURNAL_MAX {
             return Err(ApplyFault::Full);
         }
         Ok(self.append(entry, steps)?)
@@ -94,15 +97,16 @@ impl<K: KeyWindows> KeyedShard<K> {
     {
         self.past.reserve()?;
         self.ends.reserve(1)?;
-        let before = self.changes.len();
-        self.keys
-            .take_in(self.alloc, &self.past, entry, &mut self.changes, steps)?;
-        let end = self.changes.len();
+        let before = self.told.log.len();
+        let place = self
+            .keys
+            .take_in(self.alloc, &self.past, entry, &mut self.told, steps)?;
+        let end = self.told.log.len();
         let applied = Applied {
-            position: self.past.journal().len() as u64,
+            position: self.past.len(),
             changes: (end - before) as u64,
         };
-        self.past.push(entry);
+        self.past.push(entry, place);
         self.ends.push_reserved(end);
         Ok(applied)
     }
@@ -120,23 +124,23 @@ impl<K: KeyWindows> KeyedShard<K> {
         ensures value { result ≡ length self.now.journal }
         ensures journal { IsJournal self.now.sources self.now.journal }
     {
-        self.past.journal().len() as u64
+        self.past.len()
     }
 
     /// The entry at a position.
-    pub fn entry_at(&self, position: u64) -> &Entry
+    pub fn entry_at(&self, position: u64) -> Entry
         requires { position < length self.now.journal }
-        ensures { slice_get self.now.journal position ≡ Some result.now }
+        ensures { slice_get self.now.journal position ≡ Some result }
     {
-        &self.past.journal()[position as usize]
+        self.past.entry(position)
     }
 
     /// The changes under the entry at a position.
-    pub fn changes_at(&self, position: u64) -> &[Change]
+    pub fn changes_at(&self, position: u64) -> ChangeRange<'_>
         requires { position < length self.now.journal }
-        ensures { result.now ≡ changes_at self.now.defs self.now.sources self.now.journal position }
+        ensures { result ≡ changes_at self.now.defs self.now.sources self.now.journal position }
     {
-        part_of(&self.changes, &self.ends, position as usize)
+        part_of(&self.told.log, &self.ends, position as usize)
     }
 
     /// How many changes stand under all entries.
@@ -144,7 +148,7 @@ impl<K: KeyWindows> KeyedShard<K> {
         ensures { result ≡ length (joined
             (changes_behind self.now.defs self.now.sources [] self.now.journal)) }
     {
-        self.changes.len() as u64
+        self.told.log.len() as u64
     }
 
     /// The rows of all that stands, by key, window, start and end.
@@ -155,7 +159,7 @@ impl<K: KeyWindows> KeyedShard<K> {
         ensures { IfOk result (λ rows. rows.items
             ≡ standing_rows self.now.defs self.now.sources self.now.journal) }
     {
-        let rows = rows_behind(self.alloc, &self.changes)?;
+        let rows = rows_behind(self.alloc, &self.told.log)?;
         rows.rows(self.alloc)
     }
 
@@ -170,14 +174,14 @@ impl<K: KeyWindows> KeyedShard<K> {
 }
 
 // The changes up to the end at a position, from the end before it.
-fn part_of<'a>(changes: &'a [Change], ends: &[usize], position: usize) -> &'a [Change]
+fn part_of<'a>(changes: &'a Changes, ends: &[usize], position: usize) -> ChangeRange<'a>
     requires known { position < length ends.now }
     requires rises { start_at ends.now position ≤ slice_index ends.now position }
-    requires within { slice_index ends.now position ≤ length changes.now }
-    ensures { result.now ≡ slice_range changes.now (start_at ends.now position)
+    requires within { slice_index ends.now position ≤ length changes.now.items }
+    ensures { result ≡ slice_range changes.now.items (start_at ends.now position)
         (slice_index ends.now position) }
 {
     let start = if position == 0 { 0 } else { ends[position - 1] };
     let end = ends[position];
-    &changes[start..end]
+    changes.between(start, end)
 }

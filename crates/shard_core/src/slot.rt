@@ -1,18 +1,19 @@
-ghost use Rattle.std.specs.Prelude.{◌≡◌, ◌≤◌, ◌<◌, ◌+◌, ◌++◌, [], ◌-◌, ℕ, List, true, IfOk, OnOk, OnErr, vec_len, vec_capacity};
+ghost use Rattle.std.specs.Prelude.{◌≡◌, ◌≤◌, ◌<◌, ◌+◌, ◌++◌, [], ℕ, List, true, IfOk, OnOk, OnErr};
 ghost use Rattle.std.specs.BTreeSet.{insert_key};
 ghost use Rattle.std.specs.Ordering.{nat_cmp};
-ghost use Rattle.key_parts.specs.Work.{AddsAtMost};
 ghost use Rattle.key_windows.specs.Calls.{IsWater, changes_by_mark, changes_by_move, changes_by_put, kept_at, moment};
 ghost use Rattle.key_windows.specs.Dues.{IsQuiet, LeavesDue};
 ghost use Rattle.stream_base.specs.declared.kept.Kept.{Kept};
 ghost use Rattle.stream_base.specs.declared.limits.TheConstants.{JOURNAL_MAX};
 ghost use Rattle.stream_base.specs.Model.Journal.{put_in_order};
 ghost use Rattle.shard_core.specs.Engines.{Accepts, CanMove, HasLists, HasRefused, IsSameSlot, MayMove, SlotFits};
+ghost use Rattle.shard_core.specs.Told.{IsSettled, spare_of};
 
+use crate::told::Told;
 use agg_laws::Steps;
 use key_windows::KeyWindows;
 use std::alloc::Global;
-use stream_base::{Change, Defs, KeyText, NoMemory};
+use stream_base::{Defs, KeyText, NoMemory};
 
 // The state of a key, and the watermark under which it stands.
 #[derive(Drop)]
@@ -33,22 +34,26 @@ impl<K: KeyWindows> Slot<K> {
         Ok(Slot { state, water })
     }
 
-    // Takes in an accepted tuple, or nothing. Answers whether what is due is sure to have stayed.
+    // Takes in an accepted tuple, or nothing, and tells its changes as those of the key at a place.
+    // Answers whether what is due is sure to have stayed.
     pub fn put<L>(
         &mut self,
         defs: &Defs,
         position: u64,
         time: u64,
         value: i64,
-        out: &mut Vec<Change>,
+        place: usize,
+        told: &mut Told,
         steps: &mut Steps<L>,
     ) -> Result<bool, NoMemory>
+        requires settled { IsSettled told.old }
         requires accepted { Accepts K.fits defs.now self.old time }
         requires position { K.next_position (self.old).state ≤ position }
         requires few { position < JOURNAL_MAX }
+        ensures settled { IsSettled told.new }
         ensures refused { OnErr result
             (HasRefused K.key_of K.fits K.next_position defs.now self.old self.new
-            out.old.items out.new.items steps.old steps.new) }
+            told.old.log.items told.new.log.items steps.old steps.new) }
         ensures key { OnOk result (K.key_of (self.new).state ≡ K.key_of (self.old).state) }
         ensures water { OnOk result ((self.new).water ≡ (self.old).water) }
         ensures next { OnOk result (K.next_position (self.new).state ≡ position + 1) }
@@ -58,7 +63,7 @@ impl<K: KeyWindows> Slot<K> {
             (self.new).water (self.new).state) }
         ensures changes { (kept : List Kept) (marks : List ℕ)
             → SlotFits K.fits defs.now kept marks self.old
-            → OnOk result (out.new.items ≡ out.old.items
+            → OnOk result (told.new.log.items ≡ told.old.log.items
             ++ changes_by_put defs.now (K.key_of (self.old).state) kept marks (self.old).water
             (kept_at position time value)) }
         ensures bound { (kept : List Kept) (marks : List ℕ)
@@ -72,25 +77,30 @@ impl<K: KeyWindows> Slot<K> {
             (kept_at position time value) (self.old).state (self.new).state) }
     {
         let room = self.state.reserve_put(defs, time, self.water)?;
-        out.reserve(room as usize)?;
+        told.reserve(room as usize)?;
+        let out = &mut told.waiting;
         let stays = self
             .state
             .put(defs, position, time, value, self.water, out, steps);
+        told.settle(place);
         Ok(stays)
     }
 
-    // Takes in an accepted mark, or nothing.
+    // Takes in an accepted mark in the same way.
     pub fn mark<L>(
         &mut self,
         defs: &Defs,
         time: u64,
-        out: &mut Vec<Change>,
+        place: usize,
+        told: &mut Told,
         steps: &mut Steps<L>,
     ) -> Result<(), NoMemory>
-        requires { Accepts K.fits defs.now self.old time }
+        requires settled { IsSettled told.old }
+        requires accepted { Accepts K.fits defs.now self.old time }
+        ensures settled { IsSettled told.new }
         ensures refused { OnErr result
             (HasRefused K.key_of K.fits K.next_position defs.now self.old self.new
-            out.old.items out.new.items steps.old steps.new) }
+            told.old.log.items told.new.log.items steps.old steps.new) }
         ensures key { OnOk result (K.key_of (self.new).state ≡ K.key_of (self.old).state) }
         ensures water { OnOk result ((self.new).water ≡ (self.old).water) }
         ensures next { OnOk result (K.next_position (self.new).state
@@ -101,7 +111,7 @@ impl<K: KeyWindows> Slot<K> {
             (self.new).state) }
         ensures changes { (kept : List Kept) (marks : List ℕ)
             → SlotFits K.fits defs.now kept marks self.old
-            → OnOk result (out.new.items ≡ out.old.items
+            → OnOk result (told.new.log.items ≡ told.old.log.items
             ++ changes_by_mark defs.now (K.key_of (self.old).state) kept marks
             (self.old).water time) }
         ensures bound { (kept : List Kept) (marks : List ℕ)
@@ -112,8 +122,10 @@ impl<K: KeyWindows> Slot<K> {
             time bound × (steps.new ≤ steps.old + bound)) }
     {
         let room = self.state.reserve_mark(defs, time, self.water)?;
-        out.reserve(room as usize)?;
-        self.state.mark(defs, time, self.water, out, steps);
+        told.reserve(room as usize)?;
+        self.state
+            .mark(defs, time, self.water, &mut told.waiting, steps);
+        told.settle(place);
         Ok(())
     }
 
@@ -127,11 +139,20 @@ impl<K: KeyWindows> Slot<K> {
         self.state.reserve_water(defs, self.water, new)
     }
 
-    // Moves on to a watermark.
-    pub fn move_to<L>(&mut self, defs: &Defs, new: u64, out: &mut Vec<Change>, steps: &mut Steps<L>)
+    // Moves on to a watermark, and tells what that changes.
+    pub fn move_to<L>(
+        &mut self,
+        defs: &Defs,
+        new: u64,
+        place: usize,
+        told: &mut Told,
+        steps: &mut Steps<L>,
+    )
+        requires settled { IsSettled told.old }
         requires movable { MayMove K.fits defs.now self.old new }
         requires ready { CanMove (K.is_ready defs.now) new self.old }
-        requires spare { K.promised (self.old).state ≤ vec_capacity out.old - vec_len out.old }
+        requires spare { K.promised (self.old).state ≤ spare_of told.old }
+        ensures settled { IsSettled told.new }
         ensures key { K.key_of (self.new).state ≡ K.key_of (self.old).state }
         ensures next { K.next_position (self.new).state ≡ K.next_position (self.old).state }
         ensures water { (self.new).water ≡ new }
@@ -140,12 +161,14 @@ impl<K: KeyWindows> Slot<K> {
             → K.fits defs.now kept marks new (self.new).state }
         ensures changes { (kept : List Kept) (marks : List ℕ)
             → SlotFits K.fits defs.now kept marks self.old
-            → out.new.items ≡ out.old.items
+            → told.new.log.items ≡ told.old.log.items
             ++ changes_by_move defs.now (K.key_of (self.old).state) kept marks
             (self.old).water new }
-        ensures added { AddsAtMost (K.promised (self.old).state) out.old out.new }
+        ensures added { spare_of told.old ≤ spare_of told.new + K.promised (self.old).state }
     {
+        let out = &mut told.waiting;
         self.state.water(defs, self.water, new, out, steps);
+        told.settle(place);
         self.water = new;
     }
 

@@ -20,6 +20,11 @@ returns-in_err-reserve-2-clause-current g c h =
     let past = c.args.past.now in
     unchanged g.K.KeyWindows.key_of g.K.KeyWindows.fits g.K.KeyWindows.next_position past.defs past.sources past.journal c.args.self.now _ refl c.reserve.ensures.items c.reserve-2.ensures.items h
 
+pub returns-in_err-reserve_key-clause-current : goal.returns-in_err-reserve_key-clause-current
+returns-in_err-reserve_key-clause-current g c h =
+    let past = c.args.past.now in
+    unchanged g.K.KeyWindows.key_of g.K.KeyWindows.fits g.K.KeyWindows.next_position past.defs past.sources past.journal c.args.self.now _ refl c.reserve.ensures.items c.reserve-2.ensures.items h
+
 pub returns-in_err-slot-clause-current : goal.returns-in_err-slot-clause-current
 returns-in_err-slot-clause-current g c h =
     let past = c.args.past.now in

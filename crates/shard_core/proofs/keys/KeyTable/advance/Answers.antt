@@ -19,8 +19,8 @@ reserve_moves-requires g c =
     let further : water_of past.sources past.journal ≤ c.args.new = rw c.requires.new (water_rises past.sources past.journal c.args.entry.now) in
     rw (c.as_slice-places.ensures.value, c.in_ok-due.ensures, c.defs-defs.ensures.value) (due_movable g.K.KeyWindows.key_of g.K.KeyWindows.fits g.K.KeyWindows.next_position past.defs past.sources past.journal c.args.self.now c.requires.current c.args.new further c.requires.water)
 
-pub returns-in_err-room : goal.returns-in_err-room
-returns-in_err-room g c =
+pub returns-in_err-room-clause-taken : goal.returns-in_err-room-clause-taken
+returns-in_err-room-clause-taken g c =
     let past = c.args.past.now in
     record {
       taken = search rules;
@@ -31,8 +31,8 @@ returns-in_err-room g c =
       no_step = search rules;
     }
 
-pub returns-in_err-reserve : goal.returns-in_err-reserve
-returns-in_err-reserve g c =
+pub returns-in_err-reserve-clause-taken : goal.returns-in_err-reserve-clause-taken
+returns-in_err-reserve-clause-taken g c =
     let past = c.args.past.now in
     record {
       taken = search rules;
@@ -64,10 +64,10 @@ move_all-requires-clause-movable g c =
     rw places (due_movable key_of fits next d past.sources past.journal ready current new further c.requires.water)
 
 pub move_all-requires-clause-spare : goal.move_all-requires-clause-spare
-move_all-requires-clause-spare g c x = omega (arith, c.in_ok-room.ensures.room x, c.in_ok-reserve.ensures.ok)
+move_all-requires-clause-spare g c x = omega (arith, c.in_ok-room.ensures.room x, c.in_ok-reserve.ensures.room)
 
-pub returns : goal.returns
-returns g c =
+pub returns-clause-taken : goal.returns-clause-taken
+returns-clause-taken g c =
     let key_of = g.K.KeyWindows.key_of in
     let fits = g.K.KeyWindows.fits in
     let next = g.K.KeyWindows.next_position in
@@ -88,7 +88,7 @@ returns g c =
           (moved_table key_of fits next d past.sources past.journal ready _ c.args.entry.now new (rw c.defs-defs.ensures.value c.defs-defs.ensures.limits) c.requires.progress c.requires.new c.requires.water current
           moved.table.index moved.table.as_many (ap length same ∙ moved.table.as_many_dues) (rw (← places) moved.others) (rw (← places, same) moved.other_dues) (λ x. rw (← places, same) (moved.moved x)));
       changes = rw (← c.defs-defs.ensures.value)
-          (appended key_of fits next d past.sources past.journal ready current new c.args.entry.now limits c.requires.progress c.requires.new c.args.out.now.items c.move_all.new.out.items
+          (appended key_of fits next d past.sources past.journal ready current new c.args.entry.now limits c.requires.progress c.requires.new c.args.told.now.log.items c.move_all.new.told.log.items
           (λ x each. rw (← c.reserve.ensures.items, ← places) (c.move_all.ensures.changes x (λ key. kept_of d.lateness past.sources key past.journal) (λ key. marks_of d.lateness past.sources key past.journal) (rw places each)))
           (λ none. c.move_all.ensures.nowhere (places ∙ none) ∙ c.reserve.ensures.items));
       refused = tt;

@@ -16,17 +16,17 @@ use Rattle.shard_core.proofs.Entries.{changes_of_mark, kept_with_mark, keyed_tab
 use Rattle.shard_core.proofs.Places.{alike, current_at, has_lists, on_err, replaced, same_for}
 use Rattle.shard_core.proofs.keys.KeyTable.mark.Goals as goal
 
-pub mark-requires : goal.mark-requires
-mark-requires g c =
+pub mark-requires-clause-accepted : goal.mark-requires-clause-accepted
+mark-requires-clause-accepted g c =
     let past = c.args.past.now in
     let slot = c.index_mut.result.now in
     let was = current_at g.K.KeyWindows.key_of g.K.KeyWindows.fits g.K.KeyWindows.next_position past.defs past.sources past.journal c.prepare.new.self c.args.key.now c.in_ok-place.place slot c.prepare.ensures.current c.in_ok-place.ensures.place c.index_mut.ensures.value in
     let water : slot.water ≡ water_of past.sources past.journal = ap (λ s. s.water) c.index_mut.ensures.value ∙ c.in_ok-place.ensures.water slot in
     rw c.defs-defs.ensures.value (record {
       stands = has_lists g.K.KeyWindows.key_of g.K.KeyWindows.fits g.K.KeyWindows.next_position past.defs past.sources past.journal c.prepare.new.self c.args.key.now c.in_ok-place.place slot c.prepare.ensures.current c.in_ok-place.ensures.place c.index_mut.ensures.value;
-      within = c.requires.within;
+      within = c.requires.accepted.within;
       is_water = was.is_water;
-      accepted = omega (arith, water, c.requires.accepted);
+      accepted = omega (arith, water, c.requires.accepted.accepted);
     })
 
 pub due-requires-clause-stands : goal.due-requires-clause-stands
@@ -82,7 +82,7 @@ returns-clause-taken g c e is =
     let key = c.args.key.now in
     let place = c.in_ok-place.place in
     let slot = c.index_mut.result.now in
-    let accepted : water_of past.sources past.journal ≤ c.args.time + d.lateness = rw c.defs-defs.ensures.value c.requires.accepted in
+    let accepted : water_of past.sources past.journal ≤ c.args.time + d.lateness = rw c.defs-defs.ensures.value c.requires.accepted.accepted in
     let current : AreCurrent key_of fits next d past.sources past.journal table = rw c.defs-defs.ensures.value c.prepare.ensures.current in
     let water : slot.water ≡ water_of past.sources past.journal = ap (λ s. s.water) c.index_mut.ensures.value ∙ c.in_ok-place.ensures.water slot in
     let new = c.mark.new.self in
@@ -97,9 +97,9 @@ returns-clause-taken g c e is =
           (λ f. rw (kept_with_mark d past.sources past.journal e key c.args.time is accepted, marks_with_mark d past.sources past.journal e key c.args.time is accepted) (c.in_ok-mark.ensures.fits kept marks f))
           (λ kept marks f. subst (λ (s : Slot g.row.K.Denot). IsQuiet fits d (key_of s.state) kept marks s.water s.state c.due.result) there (c.due.ensures kept marks (subst (λ (s : Slot g.row.K.Denot). fits d kept marks s.water s.state) (sym there) f))));
       changes = c.in_ok-mark.ensures.changes kept marks was.stands
-          ∙ (λ i. c.args.out.now.items ++ changes_by_mark d (was.of_key i) kept marks (water i) c.args.time)
-          ∙ ap (λ l. c.args.out.now.items ++ l) (sym (changes_of_mark d past.sources past.journal e key c.args.time is accepted (rw c.defs-defs.ensures.value c.defs-defs.ensures.limits)))
-          ∙ ap (λ x. c.args.out.now.items ++ changes_after x past.sources past.journal e) c.defs-defs.ensures.value;
+          ∙ (λ i. (c.prepare.ensures.told i).log.items ++ changes_by_mark d (was.of_key i) kept marks (water i) c.args.time)
+          ∙ ap (λ l. c.args.told.now.log.items ++ l) (sym (changes_of_mark d past.sources past.journal e key c.args.time is accepted (rw c.defs-defs.ensures.value c.defs-defs.ensures.limits)))
+          ∙ ap (λ x. c.args.told.now.log.items ++ changes_after x past.sources past.journal e) c.defs-defs.ensures.value;
       refused = tt;
       nothing = tt;
       no_step = tt;
@@ -116,7 +116,7 @@ returns-clause-work g c e is =
     let key = c.args.key.now in
     let place = c.in_ok-place.place in
     let slot = c.index_mut.result.now in
-    let accepted : water_of past.sources past.journal ≤ c.args.time + d.lateness = rw c.defs-defs.ensures.value c.requires.accepted in
+    let accepted : water_of past.sources past.journal ≤ c.args.time + d.lateness = rw c.defs-defs.ensures.value c.requires.accepted.accepted in
     let current : AreCurrent key_of fits next d past.sources past.journal table = rw c.defs-defs.ensures.value c.prepare.ensures.current in
     let water : slot.water ≡ water_of past.sources past.journal = ap (λ s. s.water) c.index_mut.ensures.value ∙ c.in_ok-place.ensures.water slot in
     let was : IsCurrent key_of fits next d past.sources past.journal key slot (get_or table.dues.items place 0) = current_at key_of fits next d past.sources past.journal table key place slot current c.in_ok-place.ensures.place c.index_mut.ensures.value in

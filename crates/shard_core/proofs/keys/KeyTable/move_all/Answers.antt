@@ -1,11 +1,11 @@
 -- One state more is moved.
-use Rattle.std.proofs.Common.{◌≡◌, ◌≤◌, ◌∙◌, ◌<◌, ◌-◌, ◌++◌, ap, arith, get_or, length, subst, sym, take}
-use Rattle.std.specs.Prelude.{vec_capacity, vec_len}
+use Rattle.std.proofs.Common.{◌≡◌, ◌≤◌, ◌∙◌, ◌<◌, ◌++◌, ap, arith, get_or, length, subst, sym, take}
 use Rattle.std.specs.List.{flat_map}
 use Rattle.std.proofs.lemmas.List.{take_all}
 use Rattle.std.proofs.lemmas.List.Sums.{sum_by-drop_more}
 use Rattle.shard_core.specs.declared.slot.Slot.{Slot}
 use Rattle.shard_core.specs.Engines.{HasLists, moves_of}
+use Rattle.shard_core.specs.Told.{spare_of}
 use Rattle.shard_core.proofs.Loops.{one_moved}
 use Rattle.shard_core.proofs.keys.KeyTable.move_all.Goals as goal
 
@@ -41,11 +41,12 @@ loop-place-preserved g c =
     let within : i < length places = omega arith in (
       c.move_at.ensures.table.index ∙ c.loop-place.invariant.0,
       one_moved g.K.KeyWindows.key_of g.K.KeyWindows.fits g.K.KeyWindows.next_position c.args.defs.now (g.K.KeyWindows.is_ready c.args.defs.now) g.K.KeyWindows.promised c.args.new places i
-          c.args.self.now.slots.items c.loop-place.self.slots.items c.move_at.new.self.slots.items c.args.self.now.dues.items c.loop-place.self.dues.items c.move_at.new.self.dues.items c.args.out.now.items c.loop-place.out.items c.move_at.new.out.items
-          (vec_capacity c.loop-place.out - vec_len c.loop-place.out) (vec_capacity c.move_at.new.out - vec_len c.move_at.new.out)
+          c.args.self.now.slots.items c.loop-place.self.slots.items c.move_at.new.self.slots.items c.args.self.now.dues.items c.loop-place.self.dues.items c.move_at.new.self.dues.items c.args.told.now.log.items c.loop-place.told.log.items c.move_at.new.told.log.items
+          (spare_of c.loop-place.told) (spare_of c.move_at.new.told)
           within c.requires.movable.apart c.loop-place.invariant.1 c.move_at.ensures.table.as_many c.move_at.ensures.table.as_many_dues c.move_at.ensures.others c.move_at.ensures.other_dues c.move_at.ensures.moved c.move_at.ensures.changes
-          (λ x. let a = c.move_at.ensures.added x in omega (arith, a.number, a.capacity)),
-      λ z. absurd (omega arith),
+          c.move_at.ensures.added,
+      (λ z. absurd (omega arith)),
+      c.move_at.ensures.settled,
     )
 
 pub returns-clause-changes : goal.returns-clause-changes
@@ -53,4 +54,4 @@ returns-clause-changes g c x kept marks each =
     let places = c.args.places.now in
     let all : take c.loop-place.place-index places ≡ places = take_all c.loop-place.place-index places (omega arith) in
     c.loop-place.invariant.1.changes x kept marks each
-    ∙ ap (λ ps. c.args.out.now.items ++ flat_map (λ p. moves_of g.K.KeyWindows.key_of c.args.defs.now kept marks c.args.new (get_or c.args.self.now.slots.items p x)) ps) all
+    ∙ ap (λ ps. c.args.told.now.log.items ++ flat_map (λ p. moves_of g.K.KeyWindows.key_of c.args.defs.now kept marks c.args.new (get_or c.args.self.now.slots.items p x)) ps) all

@@ -6,14 +6,14 @@ use Rattle.model_laws.proofs.ChangesAfter.{no_news_no_changes}
 use Rattle.shard_core.proofs.Advance.{progress_stays, still_table}
 use Rattle.shard_core.proofs.keys.KeyTable.progress.Goals as goal
 
-pub returns-then-new-water : goal.returns-then-new-water
-returns-then-new-water g c =
+pub returns-then-new-water-clause-taken : goal.returns-then-new-water-clause-taken
+returns-then-new-water-clause-taken g c =
     let past = c.args.past.now in
     let e = c.args.entry.now in
     let stays : water_of past.sources (past.journal ++ e ∷ []) ≡ water_of past.sources past.journal = sym c.water_after-new.ensures.value ∙ c.if-new-water.true ∙ c.water.ensures.value in
     record {
       taken = still_table g.K.KeyWindows.key_of g.K.KeyWindows.fits g.K.KeyWindows.next_position past.defs past.sources past.journal c.args.self.now e (progress_stays past.defs past.sources past.journal e c.requires.progress) stays c.requires.comes.current;
-      changes = sym (append-nil c.args.out.now.items) ∙ ap (λ ys. c.args.out.now.items ++ ys) (sym (no_news_no_changes past.defs past.sources past.journal e c.water.ensures.limits c.requires.progress stays));
+      changes = sym (append-nil c.args.told.now.log.items) ∙ ap (λ ys. c.args.told.now.log.items ++ ys) (sym (no_news_no_changes past.defs past.sources past.journal e c.water.ensures.limits c.requires.progress stays));
       refused = tt;
       nothing = tt;
       no_step = tt;
@@ -22,5 +22,11 @@ returns-then-new-water g c =
 pub advance-requires-clause-water : goal.advance-requires-clause-water
 advance-requires-clause-water g c = c.water_after-new.ensures.is_water
 
-pub returns : goal.returns
-returns g c = c.advance.ensures
+pub returns-clause-taken : goal.returns-clause-taken
+returns-clause-taken g c = let t = c.in_ok-advance.ensures.taken in record {
+  taken = t.taken;
+  changes = t.changes;
+  refused = tt;
+  nothing = tt;
+  no_step = tt;
+}

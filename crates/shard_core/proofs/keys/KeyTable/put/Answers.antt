@@ -18,7 +18,7 @@ use Rattle.shard_core.proofs.keys.KeyTable.put.Goals as goal
 pub put-requires-clause-position : goal.put-requires-clause-position
 put-requires-clause-position g c =
     let was = current_at g.K.KeyWindows.key_of g.K.KeyWindows.fits g.K.KeyWindows.next_position c.args.past.now.defs c.args.past.now.sources c.args.past.now.journal c.prepare.new.self c.args.key.now c.in_ok-place.place c.index_mut.result.now c.prepare.ensures.current c.in_ok-place.ensures.place c.index_mut.ensures.value in
-    subst (λ l. g.K.KeyWindows.next_position c.index_mut.result.now.state ≤ length l) (sym c.journal.ensures.value) was.position
+    subst (λ n. g.K.KeyWindows.next_position c.index_mut.result.now.state ≤ n) (sym c.len-position.ensures.value) was.position
 
 pub put-requires-clause-accepted : goal.put-requires-clause-accepted
 put-requires-clause-accepted g c =
@@ -90,7 +90,7 @@ returns-then-stays-clause-taken g c e is =
     let current : AreCurrent key_of fits next d past.sources past.journal table = rw c.defs-defs.ensures.value c.prepare.ensures.current in
     let water : slot.water ≡ water_of past.sources past.journal = ap (λ s. s.water) c.index_mut.ensures.value ∙ c.in_ok-place.ensures.water slot in
     let same = to_z-of_z w64 c.args.value c.ranges.value in
-    let at : length c.journal.result.now ≡ length past.journal = ap length c.journal.ensures.value in
+    let at : c.len-position.result ≡ length past.journal = c.len-position.ensures.value in
     let new = c.put.new.self in
     let kept = kept_of d.lateness past.sources key past.journal in
     let marks = marks_of d.lateness past.sources key past.journal in
@@ -101,18 +101,18 @@ returns-then-stays-clause-taken g c e is =
           c.in_ok-stays.ensures.key c.in_ok-stays.ensures.water (omega (arith, c.in_ok-stays.ensures.next, at))
           (λ f. rw (kept_with_tuple d past.sources past.journal e key c.args.time c.args.value is accepted, marks_with_tuple d past.sources past.journal e key c.args.time c.args.value is accepted)
           (subst (λ n. fits d (put_in_order kept (kept_at n c.args.time c.args.value)) marks new.water new.state) at
-          (subst (λ (v : ℤ). fits d (put_in_order kept (kept_at (length c.journal.result.now) c.args.time v)) marks new.water new.state) same (c.in_ok-stays.ensures.fits kept marks f))))
+          (subst (λ (v : ℤ). fits d (put_in_order kept (kept_at c.len-position.result c.args.time v)) marks new.water new.state) same (c.in_ok-stays.ensures.fits kept marks f))))
           (λ now. rw (kept_with_tuple d past.sources past.journal e key c.args.time c.args.value is accepted, marks_with_tuple d past.sources past.journal e key c.args.time c.args.value is accepted)
           (subst (λ n. IsQuiet fits d key (put_in_order kept (kept_at n c.args.time c.args.value)) marks new.water new.state (get_or table.dues.items place 0)) at
-          (subst (λ (v : ℤ). IsQuiet fits d key (put_in_order kept (kept_at (length c.journal.result.now) c.args.time v)) marks new.water new.state (get_or table.dues.items place 0)) same
-          (subst (λ w. IsQuiet fits d key (put_in_order kept (kept_at (length c.journal.result.now) c.args.time (to_z w64 (of_z w64 c.args.value)))) marks w new.state (get_or table.dues.items place 0)) (sym c.in_ok-stays.ensures.water)
-          (subst (λ l. IsQuiet fits d l (put_in_order kept (kept_at (length c.journal.result.now) c.args.time (to_z w64 (of_z w64 c.args.value)))) marks slot.water new.state (get_or table.dues.items place 0)) was.of_key
+          (subst (λ (v : ℤ). IsQuiet fits d key (put_in_order kept (kept_at c.len-position.result c.args.time v)) marks new.water new.state (get_or table.dues.items place 0)) same
+          (subst (λ w. IsQuiet fits d key (put_in_order kept (kept_at c.len-position.result c.args.time (to_z w64 (of_z w64 c.args.value)))) marks w new.state (get_or table.dues.items place 0)) (sym c.in_ok-stays.ensures.water)
+          (subst (λ l. IsQuiet fits d l (put_in_order kept (kept_at c.len-position.result c.args.time (to_z w64 (of_z w64 c.args.value)))) marks slot.water new.state (get_or table.dues.items place 0)) was.of_key
           (c.in_ok-stays.ensures.due c.if-stays.true kept marks (get_or table.dues.items place 0) was.stands
           (subst (λ l. IsQuiet fits d l kept marks slot.water slot.state (get_or table.dues.items place 0)) (sym was.of_key) was.quiet))))))));
       changes = c.in_ok-stays.ensures.changes kept marks was.stands
-          ∙ (λ i. c.args.out.now.items ++ changes_by_put d (was.of_key i) kept marks (water i) (kept_at (at i) c.args.time (same i)))
-          ∙ ap (λ l. c.args.out.now.items ++ l) (sym (changes_of_tuple d past.sources past.journal e key c.args.time c.args.value is accepted (rw c.defs-defs.ensures.value c.defs-defs.ensures.limits)))
-          ∙ ap (λ x. c.args.out.now.items ++ changes_after x past.sources past.journal e) c.defs-defs.ensures.value;
+          ∙ (λ i. (c.prepare.ensures.told i).log.items ++ changes_by_put d (was.of_key i) kept marks (water i) (kept_at (at i) c.args.time (same i)))
+          ∙ ap (λ l. c.args.told.now.log.items ++ l) (sym (changes_of_tuple d past.sources past.journal e key c.args.time c.args.value is accepted (rw c.defs-defs.ensures.value c.defs-defs.ensures.limits)))
+          ∙ ap (λ x. c.args.told.now.log.items ++ changes_after x past.sources past.journal e) c.defs-defs.ensures.value;
       refused = tt;
       nothing = tt;
       no_step = tt;
@@ -133,7 +133,7 @@ returns-clause-taken g c e is =
     let current : AreCurrent key_of fits next d past.sources past.journal table = rw c.defs-defs.ensures.value c.prepare.ensures.current in
     let water : slot.water ≡ water_of past.sources past.journal = ap (λ s. s.water) c.index_mut.ensures.value ∙ c.in_ok-place.ensures.water slot in
     let same = to_z-of_z w64 c.args.value c.ranges.value in
-    let at : length c.journal.result.now ≡ length past.journal = ap length c.journal.ensures.value in
+    let at : c.len-position.result ≡ length past.journal = c.len-position.ensures.value in
     let new = c.put.new.self in
     let there : c.index.result.now ≡ new = c.index.ensures ∙ get_or-set_same table.slots.items place new c.index.result.now (current.placed key place c.in_ok-place.ensures.place) in
     let kept = kept_of d.lateness past.sources key past.journal in
@@ -145,12 +145,12 @@ returns-clause-taken g c e is =
           c.in_ok-stays.ensures.key c.in_ok-stays.ensures.water (omega (arith, c.in_ok-stays.ensures.next, at))
           (λ f. rw (kept_with_tuple d past.sources past.journal e key c.args.time c.args.value is accepted, marks_with_tuple d past.sources past.journal e key c.args.time c.args.value is accepted)
           (subst (λ n. fits d (put_in_order kept (kept_at n c.args.time c.args.value)) marks new.water new.state) at
-          (subst (λ (v : ℤ). fits d (put_in_order kept (kept_at (length c.journal.result.now) c.args.time v)) marks new.water new.state) same (c.in_ok-stays.ensures.fits kept marks f))))
+          (subst (λ (v : ℤ). fits d (put_in_order kept (kept_at c.len-position.result c.args.time v)) marks new.water new.state) same (c.in_ok-stays.ensures.fits kept marks f))))
           (λ kept marks f. subst (λ (s : Slot g.row.K.Denot). IsQuiet fits d (key_of s.state) kept marks s.water s.state c.due.result) there (c.due.ensures kept marks (subst (λ (s : Slot g.row.K.Denot). fits d kept marks s.water s.state) (sym there) f))));
       changes = c.in_ok-stays.ensures.changes kept marks was.stands
-          ∙ (λ i. c.args.out.now.items ++ changes_by_put d (was.of_key i) kept marks (water i) (kept_at (at i) c.args.time (same i)))
-          ∙ ap (λ l. c.args.out.now.items ++ l) (sym (changes_of_tuple d past.sources past.journal e key c.args.time c.args.value is accepted (rw c.defs-defs.ensures.value c.defs-defs.ensures.limits)))
-          ∙ ap (λ x. c.args.out.now.items ++ changes_after x past.sources past.journal e) c.defs-defs.ensures.value;
+          ∙ (λ i. (c.prepare.ensures.told i).log.items ++ changes_by_put d (was.of_key i) kept marks (water i) (kept_at (at i) c.args.time (same i)))
+          ∙ ap (λ l. c.args.told.now.log.items ++ l) (sym (changes_of_tuple d past.sources past.journal e key c.args.time c.args.value is accepted (rw c.defs-defs.ensures.value c.defs-defs.ensures.limits)))
+          ∙ ap (λ x. c.args.told.now.log.items ++ changes_after x past.sources past.journal e) c.defs-defs.ensures.value;
       refused = tt;
       nothing = tt;
       no_step = tt;
@@ -171,7 +171,7 @@ returns-then-stays-clause-work g c e is =
     let current : AreCurrent key_of fits next d past.sources past.journal table = rw c.defs-defs.ensures.value c.prepare.ensures.current in
     let water : slot.water ≡ water_of past.sources past.journal = ap (λ s. s.water) c.index_mut.ensures.value ∙ c.in_ok-place.ensures.water slot in
     let same = to_z-of_z w64 c.args.value c.ranges.value in
-    let at : length c.journal.result.now ≡ length past.journal = ap length c.journal.ensures.value in
+    let at : c.len-position.result ≡ length past.journal = c.len-position.ensures.value in
     let was : IsCurrent key_of fits next d past.sources past.journal key slot (get_or table.dues.items place 0) = current_at key_of fits next d past.sources past.journal table key place slot current c.in_ok-place.ensures.place c.index_mut.ensures.value in
     let kept = kept_of d.lateness past.sources key past.journal in
     let marks = marks_of d.lateness past.sources key past.journal in
@@ -197,7 +197,7 @@ returns-clause-work g c e is =
     let current : AreCurrent key_of fits next d past.sources past.journal table = rw c.defs-defs.ensures.value c.prepare.ensures.current in
     let water : slot.water ≡ water_of past.sources past.journal = ap (λ s. s.water) c.index_mut.ensures.value ∙ c.in_ok-place.ensures.water slot in
     let same = to_z-of_z w64 c.args.value c.ranges.value in
-    let at : length c.journal.result.now ≡ length past.journal = ap length c.journal.ensures.value in
+    let at : c.len-position.result ≡ length past.journal = c.len-position.ensures.value in
     let was : IsCurrent key_of fits next d past.sources past.journal key slot (get_or table.dues.items place 0) = current_at key_of fits next d past.sources past.journal table key place slot current c.in_ok-place.ensures.place c.index_mut.ensures.value in
     let kept = kept_of d.lateness past.sources key past.journal in
     let marks = marks_of d.lateness past.sources key past.journal in

@@ -1,6 +1,7 @@
 -- A late entry is dropped, and no key changes.
-use Rattle.std.proofs.Common.{◌≡◌, ◌∙◌, ◌++◌, ℤ, ap, of_z, rules, sym, to_z, true, w64}
+use Rattle.std.proofs.Common.{◌≡◌, ◌∙◌, ◌++◌, ◌∷◌, [], ℤ, ap, of_z, rules, sym, to_z, true, w64}
 use Rattle.std.proofs.lemmas.Result.{on_ok_weaker}
+use Rattle.stream_base.specs.declared.change.Change.TheVariants.{Dropped}
 use Rattle.stream_base.specs.declared.what.What.TheVariants.{Tuple, Mark}
 use Rattle.stream_base.specs.Model.Watermark.{water_of}
 use Rattle.stream_base.specs.Model.What.{is_late}
@@ -18,7 +19,7 @@ returns-then-is_late-clause-taken g c =
     let late : is_late past.defs.lateness (water_of past.sources past.journal) e.what ≡ true = sym c.is_late.ensures ∙ c.if-is_late.true in
     record {
       taken = still_table g.K.KeyWindows.key_of g.K.KeyWindows.fits g.K.KeyWindows.next_position past.defs past.sources past.journal c.args.self.now e (late_stays past.defs past.sources past.journal e late) (late_leaves_water past.defs.lateness past.sources past.journal e late) c.requires.comes.current;
-      changes = c.in_ok-push.ensures.items ∙ ap (λ ys. c.args.out.now.items ++ ys) (sym (late_is_dropped past.defs past.sources past.journal e late));
+      changes = c.push.ensures.items ∙ (λ i. c.reserve.ensures.items i ++ Dropped ∷ []) ∙ ap (λ ys. c.args.told.now.log.items ++ ys) (sym (late_is_dropped past.defs past.sources past.journal e late));
       refused = tt;
       nothing = tt;
       no_step = tt;

@@ -10,5 +10,5 @@ note-requires c = let known = (rw (← c.self.view_is) at c.requires.next).known
 pub invariant_of-self : goal.invariant_of-self
 invariant_of-self c =
     past_push c.self.inside _ c.args.entry.now c.self.invariant refl refl c.note.ensures.same.sources c.note.ensures.same.lateness
-    (c.note.ensures.stands c.self.inside.journal.items c.self.invariant.waters) c.push_reserved.ensures.items
+    (c.note.ensures.stands c.self.inside.journal.items c.self.invariant.waters) c.push.ensures.items
     (rw (← c.self.view_is) at c.requires.next)

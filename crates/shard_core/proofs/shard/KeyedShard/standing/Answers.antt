@@ -10,5 +10,5 @@ pub returns : goal.returns
 returns g c =
     let past = c.self.inside.past in
     let behind : c.in_ok-rows.rows ≡ standing_rows past.defs past.sources past.journal =
-    c.in_ok-rows.ensures ∙ ap (rows_after []) (c.deref.ensures.value ∙ c.self.invariant.changes_are) ∙ changes_lead_there past.defs past.sources c.self.invariant.limits past.journal in
+    c.in_ok-rows.ensures ∙ ap (rows_after []) c.self.invariant.0.changes_are ∙ changes_lead_there past.defs past.sources c.self.invariant.0.limits past.journal in
     rw (← c.self.view_is) (IfOk-weaker c.rows-2.result (λ rows. rows.items ≡ c.in_ok-rows.rows) (λ rows. rows.items ≡ standing_rows past.defs past.sources past.journal) (λ rows are. are ∙ behind) c.rows-2.ensures)
