@@ -131,7 +131,7 @@ impl Past {
         Ok(())
     }
 
-    // Takes in an entry, for which there is room, and whose key lies at a place, if it has one there.
+    // Takes in an entry, for which there is room. The place is that of its key, if it has one.
     pub fn push(&mut self, entry: &Entry, place: usize)
         requires next { IsNext self.old.sources self.old.journal entry.now }
         requires room { 1 ≤ self.old.spare }

@@ -31,6 +31,7 @@ pub struct KeyedShard<K: KeyWindows> {
     past: Past,
     keys: KeyTable<K>,
     // The changes under all entries, one entry's behind the other's, and where each entry's end.
+    // None waits between two entries.
     told: Told,
     ends: Vec<usize>,
 }
@@ -69,7 +70,8 @@ impl<K: KeyWindows> KeyedShard<K> {
     /// Appends an entry, and under it the changes that it causes. It takes all its memory first.
     ///
     /// The steps of a tuple or mark that isn't late stay within a bound of the engine's, by what is
-    /// kept of the key before and behind the entry. A late or refused entry takes none.
+    /// kept of the key before and behind the entry. A late or refused entry takes none, nor does a
+    /// word on progress that leaves the watermark as it is.
     pub fn apply<L>(&mut self, entry: &Entry, steps: &mut Steps<L>) -> Result<Applied, ApplyFault>
         requires { IsKnown self.old.sources entry.now }
         ensures applies { Applies (IsTupleWithin K.bounds_put) (IsMarkWithin K.bounds_mark)

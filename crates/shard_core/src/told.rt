@@ -24,7 +24,8 @@ impl Told {
         }
     }
 
-    // Makes room for `room` changes, and for all that could wait.
+    // Makes room for `room` changes to wait, and in the log for all that could wait: to settle takes
+    // no memory.
     pub fn reserve(&mut self, room: usize) -> Result<(), NoMemory>
         requires { IsSettled self.old }
         ensures settled { IsSettled self.new }

@@ -18,7 +18,7 @@ use stream_base::Entry;
 /// 64 (r + 3) (4 + 2 k) steps for an r with 2^r at most n + 1, one for each tuple of the slices that
 /// it enters, and twice its count for each change of a window that counts events. A mark takes as
 /// much, with the slices that it splits, and 64 (r + 3) for each slice that leaves. A late entry
-/// takes none.
+/// takes none, nor does a word on progress that leaves the watermark as it is.
 pub fn apply_counted<L>(
     shard: &mut Shard,
     entry: &Entry,

@@ -13,5 +13,6 @@ returns-clause-applies g c = let a = c.apply.ensures.applies in record {
   tuple_work = on_ok_weaker c.apply.result (tuple_within_folds c.args.shard.now c.args.entry.now c.args.steps.now c.apply.new.steps c.apply.ensures.limits) a.tuple_work;
   mark_work = on_ok_weaker c.apply.result (mark_within_folds c.args.shard.now c.args.entry.now c.args.steps.now c.apply.new.steps c.apply.ensures.limits) a.mark_work;
   late_work = a.late_work;
+  still_work = a.still_work;
   refused_work = a.refused_work;
 }

@@ -49,5 +49,6 @@ returns g c = record {
       rw (← c.self.view_is) (subst (λ s. IsTupleWithin g.K.KeyWindows.bounds_put s c.args.entry.now c.args.steps.now c.take_in.new.steps) alike c.in_ok-place.ensures.tuple_work);
   mark_work = search rules;
   late_work = search rules;
+  still_work = search rules;
   refused_work = search rules;
 }
