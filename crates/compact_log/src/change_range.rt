@@ -6,6 +6,7 @@ use std::marker::Model;
 use stream_base::Change;
 
 /// Changes of a log from one place up to another, told one by one. Contracts see the list.
+#[derive(Drop)]
 pub struct ChangeRange<'a> {
     pub(crate) log: &'a Changes,
     pub(crate) from: usize,

@@ -11,6 +11,7 @@ use crate::pending::Pending;
 use crate::pieces::put_pieces;
 use crate::report_form::ReportForm;
 use crate::sink_fault::SinkFault;
+use compact_log::ChangeRange;
 use itoa::Buffer;
 use outside::Sink;
 use stream_base::{Change, FINAL, Former, KeyText, Row, Shown};
@@ -18,15 +19,15 @@ use stream_base::{Change, FINAL, Former, KeyText, Row, Shown};
 /// Puts the lines of changes, in their order and in a form.
 pub fn put_changes<K: Sink>(
     form: ReportForm,
-    changes: &[Change],
+    changes: &ChangeRange<'_>,
     out: &mut Pending,
     sink: &mut K,
 ) -> Result<(), SinkFault>
     ensures { Puts K.taken K.faults (change_lines (form_of form) changes.now)
         out.old out.new sink.old sink.new result }
 {
-    for change in changes {
-        put_change(form, change, out, sink)?;
+    for at in 0..changes.len() {
+        put_change(form, &changes.get(at), out, sink)?;
     }
     Ok(())
 }

@@ -148,6 +148,6 @@ fn put_position<K: Sink>(
     ensures { Puts K.taken K.faults (lines_at (form_of form) shard.now position)
         out.old out.new sink.old sink.new result }
 {
-    put_entry(shard.entry_at(position), out, sink)?;
-    put_changes(form, shard.changes_at(position), out, sink)
+    put_entry(&shard.entry_at(position), out, sink)?;
+    put_changes(form, &shard.changes_at(position), out, sink)
 }

@@ -1,4 +1,5 @@
 pub mod Showing
+mod Counted
 pub mod ReadMore
 pub mod Opening
 pub mod Authors

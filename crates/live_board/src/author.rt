@@ -80,7 +80,7 @@ fn apply<R: Threads>(
         Ok(applied) => {
             // Rows that stand were emitted, so no window has more of them than there are changes.
             let _changes = shard.change_count();
-            Ok(tally_after(tally, shard.changes_at(applied.position)))
+            Ok(tally_after(tally, &shard.changes_at(applied.position)))
         }
         Err(ApplyFault::NoMemory) => Err(NoMemory),
         Err(ApplyFault::Ended | ApplyFault::Full) => unreachable!(),

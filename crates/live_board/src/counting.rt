@@ -2,11 +2,12 @@ ghost use Rattle.std.specs.Prelude.{◌≡◌, ◌≤◌, ◌<◌, ◌+◌, ◌-
 ghost use Rattle.model_laws.specs.Counts.{emitted_in, retracted_in};
 
 use crate::tally::Tally;
+use compact_log::ChangeRange;
 use stream_base::Change;
 
 // The tally behind one entry more, by the changes that it causes. Emissions are counted before
 // retractions, so that no count falls below what stands then.
-pub fn tally_after(tally: &Tally, changes: &[Change]) -> Tally
+pub fn tally_after(tally: &Tally, changes: &ChangeRange<'_>) -> Tally
     requires entries { tally.now.entries < 2 ^ 64 - 1 }
     requires fit { (w : ℕ) → w < 32
         → slice_index tally.now.counts w + emitted_in w changes.now < 2 ^ 64 }
@@ -27,25 +28,25 @@ pub fn tally_after(tally: &Tally, changes: &[Change]) -> Tally
     }
 }
 
-fn add_emitted(counts: &mut [u64; 32], changes: &[Change])
+fn add_emitted(counts: &mut [u64; 32], changes: &ChangeRange<'_>)
     requires fit { (w : ℕ) → w < 32 → slice_index counts.old w + emitted_in w changes.now < 2 ^ 64 }
     ensures many { length counts.new ≡ 32 }
     ensures counts { (w : ℕ) → w < 32
         → slice_index counts.new w ≡ slice_index counts.old w + emitted_in w changes.now }
 {
-    'changes: for change in changes {
-        count_emission(counts, change);
+    'changes: for at in 0..changes.len() {
+        count_emission(counts, &changes.get(at));
     }
 }
 
-fn take_retracted(counts: &mut [u64; 32], changes: &[Change])
+fn take_retracted(counts: &mut [u64; 32], changes: &ChangeRange<'_>)
     requires stood { (w : ℕ) → w < 32 → retracted_in w changes.now ≤ slice_index counts.old w }
     ensures many { length counts.new ≡ 32 }
     ensures counts { (w : ℕ) → w < 32
         → slice_index counts.new w + retracted_in w changes.now ≡ slice_index counts.old w }
 {
-    'changes: for change in changes {
-        count_retraction(counts, change);
+    'changes: for at in 0..changes.len() {
+        count_retraction(counts, &changes.get(at));
     }
 }
 

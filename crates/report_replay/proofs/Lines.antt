@@ -1,5 +1,6 @@
 -- The lines of a shard's journal, position by position.
-use Rattle.std.proofs.Common.{◌≡◌, ◌∙◌, ℕ, ◌+◌, ◌<◌, List, [], ◌++◌, Some, length, get_or, slice_get, take, drop, ap, sym, subst, append_assoc}
+use Rattle.std.proofs.Common.{◌≡◌, ◌∙◌, ℕ, ◌+◌, ◌<◌, List, [], ◌∷◌, ◌++◌, Some, length, get_or, slice_get, take, drop, ap, sym, subst, append_assoc}
+use Rattle.std.specs.List.{flat_map}
 use Rattle.std.specs.Option.{option_map_or}
 use Rattle.std.proofs.lemmas.List.{at_drop_more, take_more}
 use Rattle.std.proofs.lemmas.Option.{get_or_from_slice_get}
@@ -34,3 +35,13 @@ told_more form s position e out all within found told =
     let rest = lines_behind form s (position + 1) in
     ap (λ o. ((out ++ entry_line e) ++ change_lines form (option_map_or (changes_after s.defs s.sources before) o [])) ++ rest) found
     ∙ subst (λ x. ((out ++ entry_line x) ++ changes_under form s.defs s.sources before x) ++ rest ≡ all) (get_or_from_slice_get s.journal position e e found) (lines_more form s position e out all within told)
+
+-- of elements told one behind the other, one more is told
+pub one_more : {X : Type 0} (f : X → List ℕ) (xs : List X) (at : ℕ) (x : X) (out all : List ℕ) → at < length xs → slice_get xs at ≡ Some x → out ++ flat_map f (drop at xs) ≡ all
+    → (out ++ f x) ++ flat_map f (drop (at + 1) xs) ≡ all
+one_more f xs at x out all within found told =
+    let rest = drop (at + 1) xs in
+    append_assoc out (f x) (flat_map f rest)
+    ∙ ap (λ y. out ++ flat_map f (y ∷ rest)) (sym (get_or_from_slice_get xs at x x found))
+    ∙ sym (ap (λ text. out ++ text) (at_drop_more (flat_map f) xs at x within))
+    ∙ told

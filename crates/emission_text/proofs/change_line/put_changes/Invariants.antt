@@ -5,6 +5,6 @@ use Rattle.emission_text.specs.Report.{form_of}
 use Rattle.emission_text.specs.Sending.{AppendsPrefix}
 use Rattle.emission_text.proofs.change_line.put_changes.Given as goal
 
-abbrev pub invariant-loop-change : goal.invariant-loop-change
-invariant-loop-change g l =
-    AppendsPrefix g.K.Sink.taken g.K.Sink.faults (l.fn.out ++ flat_map (form_of l.form).line l.changes) (l.out ++ flat_map (form_of l.form).line (drop l.change-index l.changes)) l.fn.sink l.sink
+abbrev pub invariant-loop-at : goal.invariant-loop-at
+invariant-loop-at g l =
+    AppendsPrefix g.K.Sink.taken g.K.Sink.faults (l.fn.out ++ flat_map (form_of l.form).line l.changes) (l.out ++ flat_map (form_of l.form).line (drop l.at l.changes)) l.fn.sink l.sink

@@ -11,7 +11,7 @@ loop-position-preserved c =
     let form = form_of c.args.told in
     let s = c.args.shard.now in
     let position = c.loop-position.position in
-    let e = c.entry_at.result.now in
+    let e = c.entry_at.result in
     let within : position < length s.journal = omega arith in
     let lines : c.put_changes.new.out.items ≡ (c.loop-position.out.items ++ entry_line e) ++ change_lines form (changes_at s.defs s.sources s.journal position) =
     c.in_ok-put_changes.ensures ∙ (λ i. c.in_ok-put_entry.ensures i ++ change_lines form (c.changes_at.ensures i)) in
