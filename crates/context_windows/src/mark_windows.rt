@@ -296,8 +296,8 @@ impl MarkWindows {
         end_of_last_begun(&self.spans, time)
     }
 
-    /// Does what `drop_settled` does once more marks leave by it than stay, so that marks that come
-    /// for ever pay for those that leave. No tuple and no mark comes at an earlier time.
+    /// Does what `drop_settled` does once more marks leave by it than stay: then what it takes to move
+    /// the others up is paid for by those that leave. No tuple and no mark comes at an earlier time.
     pub fn drop_needless(&mut self, time: u64)
         ensures few { length self.new.marks ≤ 2 * length (marks_left time self.new.marks) }
         ensures follows { (marks : List ℕ) (kept : List Kept) → FollowsMarks marks kept self.old
