@@ -152,6 +152,9 @@ impl KeyPart for MarkPart {
         let func = func_at(defs, window);
         self.windows
             .mark(window, func, store, key, time, water, out, steps);
+        // Slices that a tuple of another window holds on to don't keep marks here.
+        self.windows
+            .drop_needless(water.saturating_sub(defs.lateness()));
     }
 
     fn reserve_water<S: AggStore>(

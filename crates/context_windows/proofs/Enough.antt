@@ -170,3 +170,13 @@ enough_later from time some all h = record {
       | inl l ↦ (n, stays_behind time some n l c, le, by)
       | inr l ↦ (let t = last_stays time some n l c in (t.0, t.1, omega (arith, t.2), omega (arith, t.3)))
     ]
+
+-- all marks are enough, and so are those that are left
+pub left_enough : (time : ℕ) (marks : List ℕ) → AreEnoughFrom time (marks_left time marks) marks
+left_enough time marks =
+    subst (λ n. AreEnoughFrom n (marks_left time marks) marks) (let e : max time time ≡ time = omega arith in e)
+    (enough_later time time marks marks (record {
+      own = λ m c. c;
+      behind = λ m l c. c;
+      last = λ m l c. (m, c, omega arith, l);
+    }))

@@ -18,7 +18,7 @@ use Rattle.window_spans.specs.Parted.{back_of, first_or, front_of, head_before, 
 use Rattle.window_spans.specs.Spans.{AreApart, head_standing, is_near, near_of, span_of, stands}
 use Rattle.window_spans.specs.Telling.{as_standing}
 
--- the spans of a key's intervals that have a tuple, oldest first; its marks, rising; what was kept of the one that stood before a tuple comes; up to which time intervals are forgotten; and for how many more there is room
+-- the spans of a key's intervals that have a tuple, oldest first; those of its marks that what comes can need, rising; what was kept of the one that stood before a tuple comes; up to which time intervals are forgotten; and for how many more there is room
 pub record Marked : Type 0 where
   pub spans : List Span
   pub marks : List ℕ

@@ -1,5 +1,5 @@
 //! The intervals between the marks of one key.
-ghost use Rattle.std.specs.Prelude.{◌≡◌, ◌≤◌, ◌<◌, ◌+◌, ◌-◌, ◌*◌, ◌++◌, ℕ, List, [], length, vec_len, Some, option_to_list};
+ghost use Rattle.std.specs.Prelude.{◌≡◌, ◌≤◌, ◌<◌, ◌+◌, ◌-◌, ◌*◌, ◌++◌, ℕ, List, [], length, max, vec_len, Some, option_to_list};
 ghost use Rattle.std.specs.BTreeSet.{insert_key};
 ghost use Rattle.std.specs.Ordering.{nat_cmp};
 ghost use Rattle.stream_base.specs.declared.kept.Kept.{Kept};
@@ -8,6 +8,7 @@ ghost use Rattle.stream_base.specs.Laws.{completions};
 ghost use Rattle.stream_base.specs.Model.Changes.{Moment};
 ghost use Rattle.stream_base.specs.Model.Journal.{put_in_order};
 ghost use Rattle.stream_base.specs.Vectors.{room};
+ghost use Rattle.slice_lists.specs.Touched.{marks_left};
 ghost use Rattle.window_laws.specs.After.{with_mark, with_tuple};
 ghost use Rattle.window_spans.specs.Ahead.{end_after, end_of_last_begun, start_after};
 ghost use Rattle.window_spans.specs.Held.{AreAlignedWith};
@@ -23,14 +24,16 @@ use std::alloc::Global;
 use std::marker::Model;
 use stream_base::{Change, Func, KeyText, NoMemory};
 use window_spans::{
-    Span, Standing, Teller, add_mark, ask, back_of, between, due, end_after, end_of_last_begun,
-    first_asked, first_before, first_or, front_of, holder, is_filled, leave_marks, near, part,
-    part_if, replace, start_after, tell_all, tell_joined, tell_part, tell_taken,
+    Span, Standing, Teller, add_mark, are_mostly_needless, ask, back_of, between, due, end_after,
+    end_of_last_begun, first_asked, first_before, first_or, front_of, holder, is_filled,
+    leave_marks, near, part, part_if, replace, start_after, tell_all, tell_joined, tell_part,
+    tell_taken,
 };
 
 /// The intervals between the marks of one key, for a marks window of it: the span of each that has a
-/// tuple, the marks, and what the interval showed that a coming tuple may change. Contracts see these,
-/// up to which time intervals are forgotten, and for how many more there is room.
+/// tuple, the marks that what comes can need, and what the interval showed that a coming tuple may
+/// change. Contracts see these, up to which time intervals are forgotten, and for how many more there
+/// is room.
 #[derive(Debug, Drop)]
 pub struct MarkWindows {
     spans: Vec<Span>,
@@ -291,6 +294,20 @@ impl MarkWindows {
         ensures { result ≡ end_of_last_begun time self.now.spans }
     {
         end_of_last_begun(&self.spans, time)
+    }
+
+    /// Does what `drop_settled` does once more marks leave by it than stay: then what it takes to move
+    /// the others up is paid for by those that leave. No tuple and no mark comes at an earlier time.
+    pub fn drop_needless(&mut self, time: u64)
+        ensures few { length self.new.marks ≤ 2 * length (marks_left time self.new.marks) }
+        ensures follows { (marks : List ℕ) (kept : List Kept) → FollowsMarks marks kept self.old
+            → FollowsMarks marks kept self.new }
+        ensures forgotten { self.new.forgotten ≤ max self.old.forgotten time }
+        ensures spare { self.old.spare ≤ self.new.spare }
+    {
+        if are_mostly_needless(&self.marks, time) {
+            self.drop_settled(time);
+        }
     }
 
     /// Forgets the intervals that end at or before a time, and the marks up to it but the greatest

@@ -88,8 +88,8 @@ impl Marks {
         }
     }
 
-    /// Whether `keep_last` takes away more marks than it leaves. To ask this first bounds the marks
-    /// by twice those that are needed, and what it takes to move them up by the marks that came.
+    /// Whether `keep_last` takes away more marks than it leaves. Who asks this first has at most twice
+    /// the marks that are left, and moves them up no more often than marks leave.
     pub fn are_mostly_needless(&self, time: u64) -> bool
         ensures few { result ≡ false
             → length self.now.times ≤ 2 * length (marks_left time self.now.times) }

@@ -1,5 +1,5 @@
 //! Where intervals between marks start and end.
-ghost use Rattle.std.specs.Prelude.{◌≡◌, ◌≤◌, ◌<◌, ◌+◌, ◌==◌, ◌&&◌, length, slice_index, vec_len, vec_capacity, nat_lt};
+ghost use Rattle.std.specs.Prelude.{◌≡◌, ◌≤◌, ◌<◌, ◌+◌, ◌*◌, true, false, ◌==◌, ◌&&◌, length, slice_index, vec_len, vec_capacity, nat_lt};
 ghost use Rattle.std.specs.BTreeSet.{insert_key};
 ghost use Rattle.std.specs.List.Sorted.{IsNonDecreasing, IsStrictlyIncreasing};
 ghost use Rattle.std.specs.Ordering.{nat_cmp};
@@ -72,6 +72,18 @@ pub fn leave_marks(marks: &mut Vec<u64>, time: u64)
         let last = marks[count - 1];
         marks.retain(|mark| last <= *mark);
     }
+}
+
+/// Whether `leave_marks` takes away more marks than it leaves.
+pub fn are_mostly_needless(marks: &[u64], time: u64) -> bool
+    requires rising { IsStrictlyIncreasing marks.now }
+    ensures few { result ≡ false
+        → length marks.now ≤ 2 * length (marks_left time marks.now) }
+    ensures many { result ≡ true
+        → 2 * length (marks_left time marks.now) < length marks.now }
+{
+    let needless = marks_up_to(marks, time).saturating_sub(1);
+    marks.len() - needless < needless
 }
 
 fn is_marked(marks: &[u64], place: usize, time: u64) -> bool

@@ -17,7 +17,7 @@ mod standing;
 mod telling;
 
 pub use ahead::{end_after, end_of_last_begun, start_after};
-pub use edges::{add_mark, holder, leave_marks};
+pub use edges::{add_mark, are_mostly_needless, holder, leave_marks};
 pub use joining::{changes_of_joining, joined, replace};
 pub use parting::{back_of, front_of, is_filled, part, part_if};
 pub use searching::{

@@ -1,5 +1,5 @@
 -- The store holds all of the interval that the mark parts.
-use Rattle.std.proofs.Common.{◌∙◌, ◌++◌, ◌≤◌, ◌-◌, arith, ap, subst, sym, drop}
+use Rattle.std.proofs.Common.{◌∙◌, ◌++◌, ◌≤◌, ◌-◌, arith, ap, drop}
 use Rattle.std.specs.BTreeSet.{insert_key}
 use Rattle.std.specs.Ordering.{nat_cmp}
 use Rattle.window_laws.specs.After.{with_mark}
@@ -29,9 +29,9 @@ returns-clause-stands g c = λ m n before t.
     let held = stretches_held d c.args.window t.stood.marks m n (g.S.AggStore.stored c.args.store.now) (rest_marked d m n before c.args.time (g.S.AggStore.stored c.args.store.now) t.step) c.args.time late (few_kept m t.step.lists.0 t.step.lists.1) in
     record {
       marks = t.stood.marks;
-      follows = c.mark.ensures.follows m.marks m.kept t.stood.follows open_ held;
-      left = c.mark.ensures.follows m.marks (drop n m.kept) t.stood.left open_ (left_held d c.args.window t.stood.marks m n (g.S.AggStore.stored c.args.store.now) t.step.held.may_leave c.args.time late held);
-      bounded = subst (λ n. n ≤ m.water - d.lateness) (sym c.mark.ensures.takes.forgotten) t.stood.bounded;
+      follows = c.drop_needless.ensures.follows (insert_key nat_cmp m.marks c.args.time) m.kept (c.mark.ensures.follows m.marks m.kept t.stood.follows open_ held);
+      left = c.drop_needless.ensures.follows (insert_key nat_cmp m.marks c.args.time) (drop n m.kept) (c.mark.ensures.follows m.marks (drop n m.kept) t.stood.left open_ (left_held d c.args.window t.stood.marks m n (g.S.AggStore.stored c.args.store.now) t.step.held.may_leave c.args.time late held));
+      bounded = omega (arith, c.drop_needless.ensures.forgotten, c.mark.ensures.takes.forgotten, t.stood.bounded, t.water_is, c.saturating_sub.ensures, c.lateness.ensures.value);
     }
 
 pub returns-clause-changes : goal.returns-clause-changes
