@@ -100,11 +100,11 @@ fn hold_key(keys: &mut Vec<KeyText>, entry: &Entry, place: usize)
     requires { vec_len keys.old < vec_capacity keys.old }
     ensures { Grows keys.old keys.new }
 {
-    let (What::Tuple { key, .. } | What::Mark { key, .. }) = entry.what else {
+    if place != keys.len() {
         return;
-    };
-    if place == keys.len() {
-        keys.push_reserved(key);
+    }
+    if let What::Tuple { key, .. } | What::Mark { key, .. } = &entry.what {
+        keys.push_reserved(*key);
     }
 }
 

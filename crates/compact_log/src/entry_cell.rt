@@ -22,12 +22,12 @@ pub(crate) fn packed(entry: &Entry, keys: &[KeyText], place: usize) -> Option<En
     ensures { IfSome result (IsCellOf entry.now keys.now) }
 {
     let source = entry.source;
-    let (time, value, place, kind) = match entry.what {
+    let (time, value, place, kind) = match &entry.what {
         What::Tuple { key, time, value } => {
-            (time, value, place_of(keys, &key, place)?, EntryKind::Tuple)
+            (*time, *value, place_of(keys, key, place)?, EntryKind::Tuple)
         }
-        What::Mark { key, time } => (time, 0, place_of(keys, &key, place)?, EntryKind::Mark),
-        What::Water { time } => (time, 0, 0, EntryKind::Water),
+        What::Mark { key, time } => (*time, 0, place_of(keys, key, place)?, EntryKind::Mark),
+        What::Water { time } => (*time, 0, 0, EntryKind::Water),
         What::Idle => (0, 0, 0, EntryKind::Idle),
         What::End => (0, 0, 0, EntryKind::End),
     };

@@ -9,7 +9,6 @@ use Rattle.std.proofs.lemmas.List.Elements.{All-cons, All-filter, All-head, All-
 use Rattle.std.proofs.lemmas.Map.Lookups.{exact_unsigned}
 use Rattle.stream_base.specs.declared.def.Def.{Def}
 use Rattle.stream_base.specs.declared.kept.Kept.{Kept}
-use Rattle.stream_base.specs.declared.limits.TheConstants.{TIME_MAX}
 use Rattle.stream_base.specs.Limits.{Definitions}
 use Rattle.stream_base.specs.Model.Changes.{Moment}
 use Rattle.stream_base.specs.Model.Cuts.{has_cut}

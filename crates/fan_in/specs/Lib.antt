@@ -15,3 +15,4 @@ pub mod Owning
 pub mod Posts
 pub mod Owners
 pub mod Settling
+pub mod NumberLogs

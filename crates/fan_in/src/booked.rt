@@ -4,10 +4,10 @@ ghost use Rattle.fan_in.specs.Offers.{Books, MayOffer};
 ghost use Rattle.shard_core.specs.Shard.{IsJournal};
 
 use crate::fixed_part::FixedPart;
+use crate::number_log::{NumberLog, with_number};
 use crate::numbering::{AnyPass, Numbering};
 use agg_laws::Steps;
 use shard_core::{Applied, ApplyFault, Shard};
-use std::alloc::Global;
 use std::marker::{Model, PhantomData};
 use stream_base::Entry;
 use turnstile::Keeps;
@@ -20,7 +20,8 @@ pub type Booked = BookedBy<AnyPass>;
 #[derive(Drop)]
 pub struct BookedBy<N: Numbering> {
     shard: Shard,
-    numbers: Vec<u64>,
+    // No code reads them.
+    numbers: NumberLog,
     by: PhantomData<N>,
 }
 
@@ -38,13 +39,13 @@ impl<N: Numbering> Model for BookedBy<N> {
 
 impl<N: Numbering> BookedBy<N> {
     /// A shard with no entry yet.
-    pub fn new(alloc: Global, shard: Shard) -> BookedBy<N>
+    pub fn new(shard: Shard) -> BookedBy<N>
         requires { shard.journal ≡ [] }
         ensures { result ≡ record { shard = shard; numbers = [] } }
     {
         BookedBy {
             shard,
-            numbers: Vec::new(alloc),
+            numbers: NumberLog::Start,
             by: PhantomData,
         }
     }
@@ -83,11 +84,8 @@ impl<N: Numbering> BookedBy<N> {
         ensures books { Books entry.now self.old self.new number result }
         ensures before { All (λ item. N.may item.0 item.1) (items_of self.old) }
     {
-        if self.numbers.reserve(1).is_err() {
-            return Err(ApplyFault::NoMemory);
-        }
         let applied = self.shard.apply(entry, steps)?;
-        self.numbers.push_reserved(number);
+        self.numbers = with_number(&self.numbers, number);
         Ok(applied)
     }
 }

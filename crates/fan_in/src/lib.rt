@@ -20,6 +20,7 @@ mod fixed_part;
 mod gathered;
 mod hand_out;
 mod mail;
+mod number_log;
 mod numbering;
 mod outcome;
 mod place;

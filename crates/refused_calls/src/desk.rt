@@ -40,7 +40,7 @@ pub fn desk<R: Print + Threads + Wait, K: Sink>(
     let first = FIRST.entry()?;
     let second = SECOND.entry()?;
     let shard = TUMBLING.shard(alloc)?;
-    let (desk, mut zero) = Turnstile::new(alloc, Booked::new(alloc, shard))?;
+    let (desk, mut zero) = Turnstile::new(alloc, Booked::new(shard))?;
     let mut one = desk.split(&mut zero)?;
     let twin = offer_both(rt, alloc, &desk, &mut zero, &mut one, &first, &second)?;
     let (booked, ends) = close_again(rt, alloc, desk, zero, one)?;

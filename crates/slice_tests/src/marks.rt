@@ -295,3 +295,31 @@ fn a_late_tuple_behind_a_purge_changes_what_is_left(rt: HostRuntime) -> Result<(
     assert_eq!(rt; window.changes.as_slice(), told.as_slice());
     Ok(())
 }
+
+// Of marks at 10, 20 and 30 a purge at 25 leaves the last two. A late tuple at that very time lies
+// between them, though no tuple had come before, and a late mark at 27 parts what lies between.
+#[test]
+fn a_purge_leaves_the_mark_that_a_late_tuple_needs(rt: HostRuntime) -> Result<(), Fail> {
+    let script = [
+        (Step::Mark(10, 0), 0),
+        (Step::Mark(20, 0), 0),
+        (Step::Mark(30, 0), 0),
+        (Step::Water(0, 35), 0),
+        (Step::Purge(25), 0),
+        (Step::Put(25, 4, 35), 1),
+        (Step::Mark(27, 35), 3),
+    ];
+    let a = KeyText::from_bytes(b"a")?;
+    let told = [
+        new(&a, 20, 30, 1, 4),
+        gone(&a, 20, 30, 1, 4),
+        new(&a, 20, 27, 1, 4),
+    ];
+    let mut window: MarksWindow<FlatTree<Bundle>> = MarksWindow::new(
+        rt.alloc(),
+        Steps::start(&rt),
+    )?;
+    window.follow(&rt, &script)?;
+    assert_eq!(rt; window.changes.as_slice(), told.as_slice());
+    Ok(())
+}

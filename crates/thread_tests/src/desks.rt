@@ -22,7 +22,7 @@ fn offers_of_two_passes_stand_under_their_numbers(rt: HostRuntime) -> Result<(),
     };
     assert!(rt; entry.is_within_limits());
     let shard = Shard::new(alloc, made_defs(alloc)?, 1)?;
-    let (desk, mut zero) = Turnstile::new(alloc, Booked::new(alloc, shard))?;
+    let (desk, mut zero) = Turnstile::new(alloc, Booked::new(shard))?;
     let mut one = desk.split(&mut zero)?;
     let mut steps: Steps<Offers> = Steps::start(&rt);
     assert_eq!(rt; (zero.number(), one.number()), (0, 1));

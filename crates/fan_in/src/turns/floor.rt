@@ -50,7 +50,7 @@ fn open_desk(
     ensures open { OnOk result (IsFloorOf plan.now floor.new rows.new.items) }
 {
     let shard = Shard::new(alloc, plan.defs.copy(alloc)?, plan.sources)?;
-    let (desk, mut zero) = Turnstile::new(alloc, BySource::new(alloc, shard))?;
+    let (desk, mut zero) = Turnstile::new(alloc, BySource::new(shard))?;
     hand_passes(&desk, &mut zero, rows.as_mut_slice())?;
     floor.desks.push(desk)?;
     floor.zeros.push(zero)?;

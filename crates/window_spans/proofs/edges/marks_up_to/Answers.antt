@@ -1,5 +1,5 @@
 -- The marks rise, so the test of the search turns once.
-use Rattle.std.proofs.Common.{ℕ, ◌≡◌, ◌<◌, ◌≤◌, ◌+◌, arith, get_or, rules}
+use Rattle.std.proofs.Common.{ℕ, ◌<◌, ◌≤◌, arith, get_or, rules}
 use Rattle.std.specs.Prelude.{nat_le}
 use Rattle.std.proofs.lemmas.Bool.{leb-false, leb-true}
 use Rattle.std.proofs.lemmas.List.Sorted.{IsPartitionPoint-from_clause, IsPartitionedBy-leb}

@@ -1,14 +1,15 @@
 use Rattle.std.proofs.Common.{◌≡◌, ◌∙◌, All, length, ap, sym, subst}
 use Rattle.fan_in.specs.Desks.{BookedState, booked_with, items_of}
+use Rattle.fan_in.specs.NumberLogs.{numbers_in}
 use Rattle.fan_in.proofs.Desks.{one_more_each, still_made}
 use Rattle.fan_in.proofs.booked.BookedBy.book.Goals as goal
 
 pub invariant_of-self-2 : goal.invariant_of-self-2
 invariant_of-self-2 g c =
-    let before : BookedState = record { shard = c.self.inside.shard; numbers = c.self.inside.numbers.items } in
-    let after : BookedState = record { shard = c.apply.new.self; numbers = c.push_reserved.new.self.items } in
+    let before : BookedState = record { shard = c.self.inside.shard; numbers = numbers_in c.self.inside.numbers } in
+    let after : BookedState = record { shard = c.apply.new.self; numbers = numbers_in c.with_number.result } in
     let applied = c.in_ok-applied.ensures.applies in
-    let booked : after ≡ booked_with before c.args.number c.args.entry.now = cc (applied.applied, c.push_reserved.ensures.items, c.reserve.ensures.items) in
+    let booked : after ≡ booked_with before c.args.number c.args.entry.now = cc (applied.applied, c.with_number.ensures) in
     record {
       numbered = ap (λ (b : BookedState). length b.numbers) booked ∙ one_more_each before c.args.number c.args.entry.now c.self.invariant.numbered ∙ ap (λ (b : BookedState). length (b.shard).journal) (sym booked);
       journal = applied.journal;

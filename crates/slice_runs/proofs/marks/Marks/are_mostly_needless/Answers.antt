@@ -1,5 +1,5 @@
 -- All but one of those up to the time are needless.
-use Rattle.std.proofs.Common.{◌≡◌, ◌≤◌, ◌<◌, ◌-◌, ◌*◌, arith, length, rules}
+use Rattle.std.proofs.Common.{◌≡◌, ◌≤◌, ◌<◌, ◌-◌, arith, length}
 use Rattle.std.proofs.lemmas.Bool.{ltb-false, ltb-true}
 use Rattle.slice_lists.specs.Touched.{marks_left}
 use Rattle.slice_lists.proofs.LeaveFacts.{many_left}
