@@ -4,6 +4,8 @@
 //! 6,000 units. So a key has a tuple about each 13 units, and a mark each 90. The floors below are
 //! well under what follows from that for each kind.
 
+ghost use Rattle.std.specs.Prelude.{◌≤◌};
+
 use crate::in_step::{Seen, compared, compared_long};
 use std::alloc::Global;
 use std::process::Abort;
