@@ -36,7 +36,7 @@ pub fn tails_of<L>(
     let mut lists = Vec::new(alloc);
     for position in 0..shard.journal_len() {
         let entry = shard.entry_at(position);
-        follow(alloc, entry, &mut tails, &mut lists, steps)?;
+        follow(alloc, &entry, &mut tails, &mut lists, steps)?;
     }
     Ok(lists)
 }

@@ -91,7 +91,7 @@ fn put_journal<K: Sink>(
 {
     for position in 0..shard.journal_len() {
         let changes = &lists[position as usize];
-        put_position(shard.entry_at(position), changes, out, sink)?;
+        put_position(&shard.entry_at(position), changes, out, sink)?;
     }
     Ok(())
 }

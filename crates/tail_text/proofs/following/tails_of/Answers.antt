@@ -19,21 +19,21 @@ loop-position-init g c =
 
 pub follow-requires-clause-source : goal.follow-requires-clause-source
 follow-requires-clause-source g c =
-    let own : (c.entry_at-entry.result.now).source < c.args.sources = at_position (λ (e : Entry). e.source < c.args.sources) c.args.shard.now.journal c.loop-position.position c.entry_at-entry.result.now c.requires.known c.entry_at-entry.ensures in
+    let own : c.entry_at-entry.result.source < c.args.sources = at_position (λ (e : Entry). e.source < c.args.sources) c.args.shard.now.journal c.loop-position.position c.entry_at-entry.result c.requires.known c.entry_at-entry.ensures in
     let are = c.loop-position.invariant.sources_are in
     omega (arith, own, are)
 
 pub follow-requires-clause-time : goal.follow-requires-clause-time
 follow-requires-clause-time g c =
-    entry_time c.entry_at-entry.result.now
-    (at_position (λ (e : Entry). is_entry_within e ≡ true) c.args.shard.now.journal c.loop-position.position c.entry_at-entry.result.now ((c.journal_len-position-end.ensures.journal).known).within c.entry_at-entry.ensures)
+    entry_time c.entry_at-entry.result
+    (at_position (λ (e : Entry). is_entry_within e ≡ true) c.args.shard.now.journal c.loop-position.position c.entry_at-entry.result ((c.journal_len-position-end.ensures.journal).known).within c.entry_at-entry.ensures)
 
 pub loop-position-preserved : goal.loop-position-preserved
 loop-position-preserved g c =
     let journal = c.args.shard.now.journal in
     let position = c.loop-position.position in
     let along = c.loop-position.invariant in
-    along_more c.args.def c.args.lateness c.args.sources journal position c.entry_at-entry.result.now c.loop-position.tails c.follow.new.tails
+    along_more c.args.def c.args.lateness c.args.sources journal position c.entry_at-entry.result c.loop-position.tails c.follow.new.tails
     (map (λ v. v.items) c.loop-position.lists.items) (map (λ v. v.items) c.follow.new.lists.items) along c.entry_at-entry.ensures
     (c.in_ok-follow.ensures (take position journal) along.stands)
 
