@@ -1,15 +1,17 @@
 //! Generated entries of two sources, of which a watermark is told now and then.
 
-ghost use Rattle.std.specs.Prelude.{◌≡◌, ◌≤◌, ◌<◌, true};
+ghost use Rattle.std.specs.Prelude.{◌≡◌, ◌≤◌, ◌<◌, ◌+◌, ◌*◌, length, true};
 ghost use Rattle.stream_base.specs.Model.Journals.{is_entry_within};
 
 use stream_base::{Entry, KeyText, What};
 
-// So many entries are generated.
-pub const ENTRIES: u64 = 2_000;
-
-// Source 1 ends here, and what it says later is refused.
-const FIRST_END: u64 = 1_900;
+// A course of so many entries, whose times lie so many times as far about those of the entries beside
+// them as in the shortest course.
+#[derive(Clone, Copy)]
+pub struct Course {
+    pub entries: u64,
+    pub spread: u64,
+}
 
 // Numbers by a linear congruence, of which the upper bits are drawn.
 #[derive(Drop)]
@@ -30,63 +32,72 @@ impl Draws {
     }
 }
 
-// The entry at a number. Times rise by 3 from one entry to the next, beside their jitter.
-pub fn entry(number: u64, draws: &mut Draws, keys: &[KeyText; 3]) -> Entry
-    requires { number < 2000 }
+// The entry at a number. Times rise by 3 from one entry to the next, beside their jitter. Source 1 ends
+// when a twentieth of the entries are left, and what it says later is refused.
+pub fn entry(number: u64, course: Course, draws: &mut Draws, keys: &[KeyText]) -> Entry
+    requires number { number < course.entries }
+    requires entries { course.entries ≤ 100000 }
+    requires spread { course.spread ≤ 100 }
+    requires wide { 1 ≤ course.spread }
+    requires keys { 0 < length keys.now }
     ensures source { result.source < 2 }
     ensures within { is_entry_within result ≡ true }
 {
-    if number == ENTRIES - 1 {
+    if number == course.entries - 1 {
         return Entry {
             source: 0,
             what: What::End,
         };
     }
-    if number == FIRST_END {
+    if number == course.entries / 20 * 19 {
         return Entry {
             source: 1,
             what: What::End,
         };
     }
     let source = draws.below(2) as u16;
-    let key = keys[draws.below(3) as usize];
-    let what = said(300 + 3 * number, draws, key);
+    let key = keys[draws.below(keys.len() as u64) as usize];
+    let what = said(300 * course.spread + 3 * number, course.spread, draws, key);
     Entry { source, what }
 }
 
 // Of 100 entries about 70 are tuples, 10 marks, 18 watermarks, and 2 say that the source is idle. A
 // watermark stands among the times of the entries about it, so many a later tuple is late. The
 // other source told its own some ten entries before, so some of those are still accepted.
-fn said(base: u64, draws: &mut Draws, key: KeyText) -> What
-    requires low { 300 ≤ base }
-    requires high { base < 6300 }
+fn said(base: u64, spread: u64, draws: &mut Draws, key: KeyText) -> What
+    requires low { 300 * spread ≤ base }
+    requires high { base ≤ 400000 }
+    requires spread { spread ≤ 100 }
+    requires wide { 1 ≤ spread }
     ensures { is_entry_within (record { source = 0; what = result }) ≡ true }
 {
     let draw = draws.below(100);
     if draw < 70 {
         let value = draws.below(2_001) as i64 - 1_000;
-        let time = jittered(base, draws);
+        let time = jittered(base, spread, draws);
         What::Tuple { key, time, value }
     } else if draw < 80 {
-        let time = jittered(base, draws);
+        let time = jittered(base, spread, draws);
         What::Mark { key, time }
     } else if draw < 98 {
-        let time = base + 19 - draws.below(20);
+        let time = base + 19 * spread - draws.below(20 * spread);
         What::Water { time }
     } else {
         What::Idle
     }
 }
 
-// Mostly up to 60 behind or 19 ahead, and for each sixteenth up to 199 behind.
-fn jittered(base: u64, draws: &mut Draws) -> u64
-    requires low { 300 ≤ base }
-    requires high { base < 6300 }
-    ensures { result < 6320 }
+// In the shortest course mostly up to 60 behind or 19 ahead, and for each sixteenth up to 199 behind.
+fn jittered(base: u64, spread: u64, draws: &mut Draws) -> u64
+    requires low { 300 * spread ≤ base }
+    requires high { base ≤ 400000 }
+    requires spread { spread ≤ 100 }
+    requires wide { 1 ≤ spread }
+    ensures { result ≤ 402000 }
 {
     if draws.below(16) == 0 {
-        base - draws.below(200)
+        base - draws.below(200 * spread)
     } else {
-        base + 19 - draws.below(80)
+        base + 19 * spread - draws.below(80 * spread)
     }
 }

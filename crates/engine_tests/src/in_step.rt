@@ -1,9 +1,9 @@
 //! Both engines under the same entries, compared at each.
 
-ghost use Rattle.std.specs.Prelude.{◌≡◌, ◌≤◌, ◌<◌, true, OnOk};
+ghost use Rattle.std.specs.Prelude.{◌≡◌, ◌≤◌, ◌<◌, length, true, IfOk, OnOk};
 ghost use Rattle.stream_base.specs.Model.Journals.{is_entry_within};
 
-use crate::entries::{Draws, ENTRIES, entry};
+use crate::entries::{Course, Draws, entry};
 use agg_laws::Steps;
 use plain_keys::PlainKey;
 use shard_core::{Applied, ApplyFault, KeyedShard, Shard, apply_counted};
@@ -42,62 +42,111 @@ impl Seen {
         }
     }
 
-    fn note(&mut self, changes: &[Change]) {
-        for change in changes {
-            match change {
-                Change::Gone(_) | Change::Again { .. } => {
-                    self.revised = self.revised.saturating_add(1)
-                }
-                Change::New(_) => {}
-                Change::Dropped => self.dropped = self.dropped.saturating_add(1),
+    fn note(&mut self, change: &Change) {
+        match change {
+            Change::Gone(_) | Change::Again { .. } => {
+                self.revised = self.revised.saturating_add(1)
             }
-            self.changes = self.changes.saturating_add(1);
+            Change::New(_) => {}
+            Change::Dropped => self.dropped = self.dropped.saturating_add(1),
         }
+        self.changes = self.changes.saturating_add(1);
     }
 }
 
-// What two shards of two sources, with an empty journal, say of the generated entries.
+// A course of three keys.
+const SHORT: Course = Course {
+    entries: 2_000,
+    spread: 1,
+};
+
+// A course of 500 keys, of each of which tuples lie as far apart, beside their jitter, as in the short one.
+const LONG: Course = Course {
+    entries: 100_000,
+    spread: 50,
+};
+
+// What two shards say of the entries of a short course.
 pub fn compared<R: Abort + Threads>(
     rt: &R,
     alloc: Global,
     defs: Defs,
     seed: u64,
 ) -> Result<Seen, Fail> {
+    compared_over(rt, alloc, defs, SHORT, 3, seed)
+}
+
+// What they say of those of a long one.
+pub fn compared_long<R: Abort + Threads>(
+    rt: &R,
+    alloc: Global,
+    defs: Defs,
+    seed: u64,
+) -> Result<Seen, Fail> {
+    compared_over(rt, alloc, defs, LONG, 500, seed)
+}
+
+// What two shards of two sources, with an empty journal, say of the entries of a course, of so many keys.
+fn compared_over<R: Abort + Threads>(
+    rt: &R,
+    alloc: Global,
+    defs: Defs,
+    course: Course,
+    keys: u64,
+    seed: u64,
+) -> Result<Seen, Fail>
+    requires entries { course.entries ≤ 100000 }
+    requires spread { course.spread ≤ 100 }
+    requires wide { 1 ≤ course.spread }
+    requires some { 3 ≤ keys }
+    requires few { keys ≤ 676 }
+{
     let mut steps: Steps<Work> = Steps::start(rt);
-    let keys = three_keys()?;
+    let keys = keys_of(alloc, keys)?;
     let mut plain: PlainShard = KeyedShard::new(alloc, defs.copy(alloc)?, 2)?;
     let mut sliced: Shard = KeyedShard::new(alloc, defs, 2)?;
-    apply_all(rt, &mut plain, &mut sliced, &keys, seed, &mut steps)
+    apply_all(rt, &mut plain, &mut sliced, course, &keys, seed, &mut steps)
 }
 
-fn three_keys() -> Result<[KeyText; 3], Fail> {
-    let a = KeyText::from_bytes(b"a")?;
-    let b = KeyText::from_bytes(b"b")?;
-    let c = KeyText::from_bytes(b"c")?;
-    Ok([a, b, c])
+// So many keys of two letters.
+fn keys_of(alloc: Global, count: u64) -> Result<Vec<KeyText>, Fail>
+    requires { count ≤ 676 }
+    ensures { IfOk result (λ keys. length keys.items ≡ count) }
+{
+    let mut keys = Vec::new(alloc);
+    for number in 0..count {
+        let letters = [b'a' + (number / 26) as u8, b'a' + (number % 26) as u8];
+        keys.push(KeyText::from_bytes(&letters)?)?;
+    }
+    Ok(keys)
 }
 
-// All entries are applied to both, in step.
+// All entries of a course are applied to both, in step.
 fn apply_all(
     rt: &impl Abort,
     plain: &mut PlainShard,
     sliced: &mut Shard,
-    keys: &[KeyText; 3],
+    course: Course,
+    keys: &[KeyText],
     seed: u64,
     steps: &mut Steps<Work>,
 ) -> Result<Seen, Fail>
     requires plain { plain.old.sources ≡ 2 }
     requires sliced { sliced.old.sources ≡ 2 }
+    requires entries { course.entries ≤ 100000 }
+    requires spread { course.spread ≤ 100 }
+    requires wide { 1 ≤ course.spread }
+    requires keys { 3 ≤ length keys.now }
 {
     let mut draws = Draws { seed };
     let mut seen = Seen::nothing();
-    'entries: for number in 0..ENTRIES {
-        let entry = entry(number, &mut draws, keys);
+    'entries: for number in 0..course.entries {
+        let entry = entry(number, course, &mut draws, keys);
         step(rt, plain, sliced, &entry, steps, &mut seen)?;
         compare_slices(rt, plain, sliced, keys, number, &mut seen);
     }
     assert_eq!(rt; plain.journal_len(), sliced.journal_len());
-    assert_eq!(rt; plain.journal_len().saturating_add(seen.refused), ENTRIES);
+    assert_eq!(rt; plain.journal_len().saturating_add(seen.refused), course.entries);
     Ok(seen)
 }
 
@@ -146,21 +195,29 @@ fn compare_changes(
     assert!(rt; position < sliced.journal_len());
     let by_lists = plain.changes_at(position);
     let by_slices = sliced.changes_at(position);
-    assert_eq!(rt; by_lists, by_slices, "under {position}");
     assert_eq!(rt; by_lists.len() as u64, applied.changes, "under {position}");
-    seen.note(by_lists);
+    assert_eq!(rt; by_lists.len(), by_slices.len(), "under {position}");
+    for at in 0..by_lists.len() {
+        let change = by_lists.get(at);
+        assert_eq!(rt; change, by_slices.get(at), "under {position}");
+        seen.note(&change);
+    }
 }
 
-// Each key has as many slices in both.
+// Three keys have as many slices in both, each of them where there are no more.
 fn compare_slices(
     rt: &impl Abort,
     plain: &PlainShard,
     sliced: &Shard,
-    keys: &[KeyText; 3],
+    keys: &[KeyText],
     number: u64,
     seen: &mut Seen,
-) {
-    for key in keys {
+)
+    requires number { number < 100000 }
+    requires keys { 3 ≤ length keys.now }
+{
+    for step in 0..3 {
+        let key = &keys[(number + step) as usize % keys.len()];
         let slices = plain.slice_count(key);
         assert_eq!(rt; slices, sliced.slice_count(key), "after entry {number}");
         seen.slices = seen.slices.saturating_add(slices);

@@ -4,7 +4,9 @@
 //! 6,000 units. So a key has a tuple about each 13 units, and a mark each 90. The floors below are
 //! well under what follows from that for each kind.
 
-use crate::in_step::{Seen, compared};
+ghost use Rattle.std.specs.Prelude.{◌≤◌};
+
+use crate::in_step::{Seen, compared, compared_long};
 use std::alloc::Global;
 use std::process::Abort;
 use std::test::Fail;
@@ -102,24 +104,25 @@ fn events_windows_are_the_same_by_lists_and_by_slices(rt: HostRuntime) -> Result
     Ok(())
 }
 
-// The floors of the five kinds together; slices are cut at the bounds of all.
-#[test]
-fn all_kinds_at_once_are_the_same_by_lists_and_by_slices(rt: HostRuntime) -> Result<(), Fail> {
-    let alloc = rt.alloc();
+// A window of each kind, over times that lie so many times as far apart.
+fn all_kinds(alloc: Global, far: u64) -> Result<Defs, Fail>
+    requires some { 1 ≤ far }
+    requires few { far ≤ 200 }
+{
     let windows = vec![in alloc;
         Def {
-            kind: Kind::Tumbling { length: 10 },
+            kind: Kind::Tumbling { length: 10 * far },
             func: Func::Rises
         },
         Def {
             kind: Kind::Sliding {
-                length: 30,
-                slide: 10
+                length: 30 * far,
+                slide: 10 * far
             },
             func: Func::Max
         },
         Def {
-            kind: Kind::Session { gap: 12 },
+            kind: Kind::Session { gap: 12 * far },
             func: Func::Trace
         },
         Def {
@@ -131,8 +134,25 @@ fn all_kinds_at_once_are_the_same_by_lists_and_by_slices(rt: HostRuntime) -> Res
             func: Func::First
         },
     ]?;
-    let seen = compared(&rt, alloc, Defs::new(windows, 25, 0, 0)?, 6)?;
+    Ok(Defs::new(windows, 25 * far, 0, 0)?)
+}
+
+// The floors of the five kinds together; slices are cut at the bounds of all.
+#[test]
+fn all_kinds_at_once_are_the_same_by_lists_and_by_slices(rt: HostRuntime) -> Result<(), Fail> {
+    let alloc = rt.alloc();
+    let seen = compared(&rt, alloc, all_kinds(alloc, 1)?, 6)?;
     assert_seen(&rt, seen, 2_000);
     assert!(rt; seen.slices > 1_000, "{seen:?}");
+    Ok(())
+}
+
+// 100,000 entries of 500 keys: a key has 140 tuples and 20 marks, a tuple about each 2,140 units.
+#[test]
+fn a_long_run_of_all_kinds_is_the_same_by_lists_and_by_slices(rt: HostRuntime) -> Result<(), Fail> {
+    let alloc = rt.alloc();
+    let seen = compared_long(&rt, alloc, all_kinds(alloc, 150)?, 7)?;
+    assert_seen(&rt, seen, 100_000);
+    assert!(rt; seen.slices > 100_000, "{seen:?}");
     Ok(())
 }
