@@ -3,7 +3,7 @@
 //!
 //! *From* definitions and generated entries, applied to both shards in step, *to* their answers,
 //! the changes under each entry and the slices of each key, which are compared as they come. Each
-//! kind of window has a test, and one test has all kinds at once. Tuples come out of order, some of
+//! kind of window has a test, two tests have all kinds at once, and one of these takes 100,000 entries. Tuples come out of order, some of
 //! them late and some too late; each source has watermarks, is idle now and then, and ends. How
 //! many changes there are at least is asked for too, so that no comparison is of nothing.
 //!
