@@ -5,8 +5,8 @@ ghost use Rattle.stream_base.specs.Model.Journals.{is_entry_within};
 
 use stream_base::{Entry, KeyText, What};
 
-// A course of so many entries, whose times lie so many times as far about those of the entries beside
-// them as in the shortest course.
+// A course of so many entries. Their times lie so many times as far about those of the entries beside
+// them as in a course of spread 1.
 #[derive(Clone, Copy)]
 pub struct Course {
     pub entries: u64,
@@ -32,8 +32,8 @@ impl Draws {
     }
 }
 
-// The entry at a number. Times rise by 3 from one entry to the next, beside their jitter. Source 1 ends
-// when a twentieth of the entries are left, and what it says later is refused.
+// The entry at a number. Times rise by 3 from one entry to the next, beside their jitter. Source 1
+// ends when a twentieth of the entries are left, and what it says later is refused.
 pub fn entry(number: u64, course: Course, draws: &mut Draws, keys: &[KeyText]) -> Entry
     requires number { number < course.entries }
     requires entries { course.entries ≤ 100000 }
@@ -87,7 +87,7 @@ fn said(base: u64, spread: u64, draws: &mut Draws, key: KeyText) -> What
     }
 }
 
-// In the shortest course mostly up to 60 behind or 19 ahead, and for each sixteenth up to 199 behind.
+// With spread 1 mostly up to 60 behind or 19 ahead, and for each sixteenth up to 199 behind.
 fn jittered(base: u64, spread: u64, draws: &mut Draws) -> u64
     requires low { 300 * spread ≤ base }
     requires high { base ≤ 400000 }

@@ -60,7 +60,7 @@ const SHORT: Course = Course {
     spread: 1,
 };
 
-// A course of 500 keys, of each of which tuples lie as far apart, beside their jitter, as in the short one.
+// A course of 500 keys: the tuples of each lie as far apart, beside their jitter, as in the short one.
 const LONG: Course = Course {
     entries: 100_000,
     spread: 50,
@@ -86,7 +86,8 @@ pub fn compared_long<R: Abort + Threads>(
     compared_over(rt, alloc, defs, LONG, 500, seed)
 }
 
-// What two shards of two sources, with an empty journal, say of the entries of a course, of so many keys.
+// What two shards of two sources, with an empty journal, say of the entries of a course, of so many
+// keys.
 fn compared_over<R: Abort + Threads>(
     rt: &R,
     alloc: Global,
