@@ -5,8 +5,8 @@ ghost use Rattle.stream_base.specs.Model.Journals.{is_entry_within};
 
 use stream_base::{Entry, KeyText, What};
 
-// A course of so many entries. Their times lie so many times as far about those of the entries beside
-// them as in a course of spread 1.
+// A course of so many entries. Their times lie so many times as far about those of the entries
+// beside them as in a course of spread 1.
 #[derive(Clone, Copy)]
 pub struct Course {
     pub entries: u64,

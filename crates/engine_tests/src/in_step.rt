@@ -60,7 +60,8 @@ const SHORT: Course = Course {
     spread: 1,
 };
 
-// A course of 500 keys: the tuples of each lie as far apart, beside their jitter, as in the short one.
+// A course of 500 keys: the tuples of each lie as far apart, beside their jitter, as in the short
+// one.
 const LONG: Course = Course {
     entries: 100_000,
     spread: 50,
