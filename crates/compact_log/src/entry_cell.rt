@@ -45,23 +45,35 @@ pub(crate) fn unpacked(cell: &EntryCell, keys: &[KeyText], whole: &[Entry]) -> E
     requires { IsEntryHeld (length keys.now) (length whole.now) cell.now }
     ensures { result ≡ entry_of keys.now whole.now cell.now }
 {
-    let what = match cell.kind {
-        EntryKind::Tuple => What::Tuple {
-            key: keys[cell.place as usize],
-            time: cell.time,
-            value: cell.value,
+    let source = cell.source;
+    match cell.kind {
+        EntryKind::Tuple => Entry {
+            source,
+            what: What::Tuple {
+                key: keys[cell.place as usize],
+                time: cell.time,
+                value: cell.value,
+            },
         },
-        EntryKind::Mark => What::Mark {
-            key: keys[cell.place as usize],
-            time: cell.time,
+        EntryKind::Mark => Entry {
+            source,
+            what: What::Mark {
+                key: keys[cell.place as usize],
+                time: cell.time,
+            },
         },
-        EntryKind::Water => What::Water { time: cell.time },
-        EntryKind::Idle => What::Idle,
-        EntryKind::End => What::End,
-        EntryKind::Whole => return whole[cell.time as usize],
-    };
-    Entry {
-        source: cell.source,
-        what,
+        EntryKind::Water => Entry {
+            source,
+            what: What::Water { time: cell.time },
+        },
+        EntryKind::Idle => Entry {
+            source,
+            what: What::Idle,
+        },
+        EntryKind::End => Entry {
+            source,
+            what: What::End,
+        },
+        EntryKind::Whole => whole[cell.time as usize],
     }
 }

@@ -19,8 +19,9 @@ const NEAR: u64 = 256;
 /// The partials of slices, each under the time of the slice's first tuple. The newest ones stand in a
 /// row, where tuples in order find them at once; the older ones stand in a tree. Where the row is
 /// full, its first one goes into the tree when another one comes behind it. The tree takes no memory
-/// before. Contracts see the pairs of both, for how many more there is room, one at most, and what the bounds on steps go by: the reach of the
-/// tree, or that of a tree which folds as fast as the row, whichever is greater.
+/// before. Contracts see the pairs of both, for how many more there is room, one at most, and what
+/// the bounds on steps go by: the reach of the tree, or that of a tree which folds as fast as the
+/// row, whichever is greater.
 #[derive(Drop)]
 pub struct Partials<T: AggTree<Bundle>> {
     tree: T,

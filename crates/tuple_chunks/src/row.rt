@@ -192,12 +192,16 @@ fn numbers<P: Part>(parts: &[P]) -> usize
     number
 }
 
-// The part that a tuple at a time enters. A tuple that comes in order takes one look at the last one.
+// The part that a tuple at a time enters. A tuple that comes in order takes one look at the last one,
+// and where there is one part it takes none.
 fn entry_of<P: Part>(parts: &[P], time: u64) -> usize
     requires some { 0 < length parts.now }
     requires parts { AreParts P.tuples parts.now }
     ensures { IsEntry P.tuples parts.now time result }
 {
+    if parts.len() == 1 {
+        return 0;
+    }
     let last = parts.len() - 1;
     if parts[last].last_time() <= time {
         last
