@@ -42,17 +42,15 @@ impl Seen {
         }
     }
 
-    fn note(&mut self, changes: &[Change]) {
-        for change in changes {
-            match change {
-                Change::Gone(_) | Change::Again { .. } => {
-                    self.revised = self.revised.saturating_add(1)
-                }
-                Change::New(_) => {}
-                Change::Dropped => self.dropped = self.dropped.saturating_add(1),
+    fn note(&mut self, change: &Change) {
+        match change {
+            Change::Gone(_) | Change::Again { .. } => {
+                self.revised = self.revised.saturating_add(1)
             }
-            self.changes = self.changes.saturating_add(1);
+            Change::New(_) => {}
+            Change::Dropped => self.dropped = self.dropped.saturating_add(1),
         }
+        self.changes = self.changes.saturating_add(1);
     }
 }
 
@@ -146,9 +144,13 @@ fn compare_changes(
     assert!(rt; position < sliced.journal_len());
     let by_lists = plain.changes_at(position);
     let by_slices = sliced.changes_at(position);
-    assert_eq!(rt; by_lists, by_slices, "under {position}");
     assert_eq!(rt; by_lists.len() as u64, applied.changes, "under {position}");
-    seen.note(by_lists);
+    assert_eq!(rt; by_lists.len(), by_slices.len(), "under {position}");
+    for at in 0..by_lists.len() {
+        let change = by_lists.get(at);
+        assert_eq!(rt; change, by_slices.get(at), "under {position}");
+        seen.note(&change);
+    }
 }
 
 // Each key has as many slices in both.
