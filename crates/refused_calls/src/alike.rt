@@ -3,6 +3,7 @@ ghost use Rattle.std.specs.Prelude.{◌<◌, length};
 
 use crate::difference::Difference;
 use crate::trouble::Trouble;
+use compact_log::ChangeRange;
 use shard_core::Shard;
 use stream_base::{Entry, What};
 
@@ -23,13 +24,26 @@ fn alike_at(shard: &Shard, other: &Shard, position: u64) -> Result<(), Trouble>
     requires other { position < length other.now.journal }
 {
     let entry = shard.entry_at(position);
-    if *entry != *other.entry_at(position) {
+    if entry != other.entry_at(position) {
         return Err(Trouble::Differs(Difference::Entry));
     }
-    if shard.changes_at(position) != other.changes_at(position) {
+    if !are_same(&shard.changes_at(position), &other.changes_at(position)) {
         return Err(Trouble::Differs(Difference::Changes));
     }
-    alike_in_slices(shard, other, entry)
+    alike_in_slices(shard, other, &entry)
+}
+
+// Whether the same changes come in the same order.
+fn are_same(changes: &ChangeRange<'_>, others: &ChangeRange<'_>) -> bool {
+    if changes.len() != others.len() {
+        return false;
+    }
+    for at in 0..changes.len() {
+        if changes.get(at) != others.get(at) {
+            return false;
+        }
+    }
+    true
 }
 
 fn alike_in_slices(shard: &Shard, other: &Shard, entry: &Entry) -> Result<(), Trouble> {
