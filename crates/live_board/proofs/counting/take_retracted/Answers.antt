@@ -13,8 +13,7 @@ count_retraction-requires c =
 
 pub changes-preserved : goal.changes-preserved
 changes-preserved c =
-    let within : c.changes.at < length c.args.changes.now = omega arith in
-    (
+    let within : c.changes.at < length c.args.changes.now = omega arith in (
       c.count_retraction.ensures.many,
       λ w few. omega (arith, counted_from (is_gone_in w) c.args.changes.now c.changes.at c.get.result within c.get.ensures, c.changes.invariant.1 w few, c.count_retraction.ensures.counts w few),
     )
