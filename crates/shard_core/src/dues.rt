@@ -113,9 +113,9 @@ impl Dues {
         }
     }
 
-    // Whether a watermark reaches more than an eighth of the numbers, which only tells what is faster.
+    // Whether a watermark reaches more than one in 32 of the numbers, which only tells what is faster.
     pub fn reaches_many(&self, water: u64) -> bool {
-        let mut few = self.numbers.len() / 8;
+        let mut few = self.numbers.len() / 32;
         let mut from = 0;
         while let Some(place) = self.next_reached(from, water) {
             if few == 0 {
