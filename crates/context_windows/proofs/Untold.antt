@@ -16,7 +16,7 @@ module _ (gap time water : ℕ) (ahead : water ≤ time) where
 
   pub none_asked : (spans : List Span) → asked_of gap time water spans ≡ []
   none_asked spans = ap (take 2) (filter_none (stands water) (near_of gap time spans)
-    (All_filtered (is_near gap time) (λ s. stands water s ≡ false) spans (λ s c e. ends_behind s (ltb-true time s.high (and_parts (nat_lt time s.high) (nat_lt s.low (time + gap)) e).0))))
+      (All_filtered (is_near gap time) (λ s. stands water s ≡ false) spans (λ s c e. ends_behind s (ltb-true time s.high (and_parts (nat_lt time s.high) (nat_lt s.low (time + gap)) e).0))))
 
   pub none_told : (spans : List Span) → 1 ≤ gap → put_changes gap time water spans ≡ 0
   none_told spans some =

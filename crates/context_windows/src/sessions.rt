@@ -270,12 +270,7 @@ impl Sessions {
 
 // Those that stand of the sessions near a time, at most two. Where the watermark isn't behind the time
 // none does: each of them ends behind it.
-fn standing_near(
-    spans: &[Span],
-    gap: u64,
-    time: u64,
-    water: u64,
-) -> (Option<Span>, Option<Span>)
+fn standing_near(spans: &[Span], gap: u64, time: u64, water: u64) -> (Option<Span>, Option<Span>)
     requires apart { AreApart spans.now }
     requires gap { 1 ≤ gap }
     requires room { time + gap ≤ u64.MAX }

@@ -148,7 +148,10 @@ fn apply_all(
         compare_slices(rt, plain, sliced, keys, number, &mut seen);
     }
     assert_eq!(rt; plain.journal_len(), sliced.journal_len());
-    assert_eq!(rt; plain.journal_len().saturating_add(seen.refused), course.entries);
+    assert_eq!(rt;
+        plain.journal_len().saturating_add(seen.refused),
+        course.entries
+    );
     Ok(seen)
 }
 

@@ -39,8 +39,8 @@ impl<T: AggTree<Bundle>> Model for Partials<T> {
     ghost view = { λ p. record {
       pairs = (T.table p.tree).pairs ++ p.near.pairs;
       spare = room_for
-        (may_need_tree p.edge (length ((T.table p.tree).pairs ++ p.near.pairs)))
-        (T.table p.tree).spare p.near.spare;
+          (may_need_tree p.edge (length ((T.table p.tree).pairs ++ p.near.pairs)))
+          (T.table p.tree).spare p.near.spare;
       reach = max (T.reach p.tree) (row_reach (length p.near.pairs));
     } };
 

@@ -14,12 +14,12 @@ returns-clause-bounded g c =
     let s = c.if-needs_tree.self-inside in
     let bounded : t.bounded (t.reach s.tree) (length (t.table s.tree).pairs) =
     elim c.if-needs_tree.branch [
-      then-needs_tree+in_ok-reserve w ↦ subst (λ s. t.bounded (t.reach s.tree) (length (t.table s.tree).pairs)) (sym w.self-inside-is) w.reserve.ensures.bounded
-    | else-needs_tree w ↦ subst (λ s. t.bounded (t.reach s.tree) (length (t.table s.tree).pairs)) (sym w.self-inside-is) (c.needs_tree.ensures.bounded w.if-needs_tree.false)
+      | then-needs_tree+in_ok-reserve w ↦ subst (λ s. t.bounded (t.reach s.tree) (length (t.table s.tree).pairs)) (sym w.self-inside-is) w.reserve.ensures.bounded
+      | else-needs_tree w ↦ subst (λ s. t.bounded (t.reach s.tree) (length (t.table s.tree).pairs)) (sym w.self-inside-is) (c.needs_tree.ensures.bounded w.if-needs_tree.false)
     ] in
     let near : s.near.pairs ≡ c.self.inside.near.pairs =
     elim c.if-needs_tree.branch [
-      then-needs_tree+in_ok-reserve w ↦ ap (λ s. s.near.pairs) w.self-inside-is
-    | else-needs_tree w ↦ ap (λ s. s.near.pairs) w.self-inside-is
+      | then-needs_tree+in_ok-reserve w ↦ ap (λ s. s.near.pairs) w.self-inside-is
+      | else-needs_tree w ↦ ap (λ s. s.near.pairs) w.self-inside-is
     ] in
     reach_over t.bounded (t.table s.tree).pairs c.reserve-2.new.self.pairs (t.reach s.tree) bounded (subst (λ l. length l ≤ 256) (sym (c.reserve-2.ensures.kept ∙ near)) c.self.invariant.few)
