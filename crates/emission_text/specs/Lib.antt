@@ -5,4 +5,3 @@ pub mod DefsFaults
 pub mod Faults
 pub mod Findings
 pub mod Summary
-pub mod Lines

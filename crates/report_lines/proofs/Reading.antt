@@ -1,5 +1,5 @@
 -- A header is told by the number in it.
-use Rattle.std.proofs.Common.{◌≡◌, ◌∙◌, ℕ, ◌-◌, ◌^◌, ◌<◌, Bool, true, false, List, [], ◌∷◌, ◌++◌, min, refl, sym, ap, arith, codes, ltb, IfOk, Result, Ok, Err}
+use Rattle.std.proofs.Common.{◌≡◌, ◌∙◌, ℕ, ◌-◌, ◌^◌, ◌<◌, Bool, true, false, List, [], ◌∷◌, ◌++◌, min, refl, sym, ap, arith, codes, ltb}
 use Rattle.std.specs.Prelude.{decimal, ◌&&◌}
 use Rattle.std.specs.Str.{bytes_eq}
 use Rattle.std.proofs.lemmas.Bool.Decides.{nat_tests}
@@ -36,8 +36,3 @@ within line m false false s t e = t ∙ sym (and_false (bytes_eq (header (number
 -- a line is a header exactly where the number in it, up to the greatest of 64 bits, spells it
 pub header_by_number : (line : List ℕ) (m : ℕ) → m ≡ min (number_in (after_word line)) (2 ^ 64 - 1) → bytes_eq (header m) (line ++ 10 ∷ []) ≡ is_header line
 header_by_number line m e = within line m (ltb (number_in (after_word line)) (2 ^ 64)) (bytes_eq (header m) (line ++ 10 ∷ [])) refl refl e
-
--- an answer that is one test is an equal one
-pub if_ok : {E : Type 0} (r : Result Bool E) {a b : Bool} → a ≡ b → IfOk r (λ yes. yes ≡ a) → IfOk r (λ yes. yes ≡ b)
-if_ok (Ok is) e h = h ∙ e
-if_ok (Err fault) e h = tt

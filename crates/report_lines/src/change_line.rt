@@ -1,126 +1,117 @@
 //! The lines of changes.
-ghost use Rattle.std.specs.Prelude.{◌≡◌, ◌++◌, ◌∷◌, [], OnOk, codes, decimal};
-ghost use Rattle.std.specs.Option.{option_map_or};
-ghost use Rattle.stream_base.specs.declared.change.Change.TheVariants.{Gone};
-ghost use Rattle.stream_base.specs.Model.Text.{change_line, change_lines, end_text, line_of, shown_text};
-ghost use Rattle.report_lines.specs.Told.{form_of, former_text, row_line};
+ghost use Rattle.std.specs.Prelude.{◌≡◌, ◌≤◌, ◌++◌, ◌∷◌, [], OnOk, codes, decimal};
+ghost use Rattle.stream_base.specs.Model.Text.{change_lines, end_text, line_of, row_fields, updated_fields};
+ghost use Rattle.report_lines.specs.Forms.{form_of};
+ghost use Rattle.report_lines.specs.Lines.{Grows, result_text, row_front, span_front};
 
-use crate::pieces::put_pieces;
-use crate::told::Told;
-use itoa::Buffer;
-use stream_base::{Change, FINAL, Former, NoMemory, Row, Shown};
+use crate::line::Line;
+use crate::report_form::ReportForm;
+use stream_base::{Change, Former, NoMemory, Row, Shown};
 
 /// Puts the lines of changes behind a text, in their order and in a form.
-pub fn put_changes(told: Told, changes: &[Change], out: &mut Vec<u8>) -> Result<(), NoMemory>
+pub fn put_changes(form: ReportForm, changes: &[Change], out: &mut Vec<u8>) -> Result<(), NoMemory>
     ensures { OnOk result
-        (out.new.items ≡ out.old.items ++ change_lines (form_of told) changes.now) }
+        (out.new.items ≡ out.old.items ++ change_lines (form_of form) changes.now) }
 {
     for change in changes {
-        put_change(told, change, out)?;
+        put_change(form, change, out)?;
     }
     Ok(())
 }
 
 /// Puts the line of a change, in a form.
-pub fn put_change(told: Told, change: &Change, out: &mut Vec<u8>) -> Result<(), NoMemory>
-    ensures { OnOk result (out.new.items ≡ out.old.items ++ (form_of told).line change.now) }
+pub fn put_change(form: ReportForm, change: &Change, out: &mut Vec<u8>) -> Result<(), NoMemory>
+    ensures { OnOk result (out.new.items ≡ out.old.items ++ (form_of form).line change.now) }
 {
-    match (told, change) {
-        (Told::Briefly, Change::Gone(row)) => put_gone(row, out),
-        (Told::InFull, Change::Gone(row)) => put_row(b"-", row, &None, out),
-        (_, Change::New(row)) => put_row(b"+", row, &None, out),
-        (Told::Briefly, Change::Again { row, .. }) => put_row(b"~", row, &None, out),
-        (Told::InFull, Change::Again { row, former }) => { put_row(b"~", row, &Some(*former), out) }
-        (_, Change::Dropped) => put_pieces(&[b"x\n"], out),
-    }
+    let mut line = Line::new();
+    line.tell_change(form, change);
+    out.extend_from_slice(line.text())?;
+    Ok(())
 }
 
-// Puts the line of a retraction that leaves out what stood.
-fn put_gone(row: &Row, out: &mut Vec<u8>) -> Result<(), NoMemory>
-    ensures { OnOk result (out.new.items ≡ out.old.items ++ change_line (Gone row.now)) }
-{
-    let mut window = Buffer::new();
-    let mut start = Buffer::new();
-    let mut end = Buffer::new();
-    let window = window.format(row.window).as_bytes();
-    let low = start.format(row.low).as_bytes();
-    let high = end_piece(row.high, &mut end);
-    let key = row.key.bytes();
-    let pieces: [&[u8]; 9] = [b"- ", window, b" ", low, b" ", high, b" ", key, b"\n"];
-    put_pieces(&pieces, out)
-}
-
-// Puts the line of a row behind the sign of its change, with what stood before where that is told.
-fn put_row(
-    sign: &[u8],
-    row: &Row,
-    former: &Option<Former>,
-    out: &mut Vec<u8>,
-) -> Result<(), NoMemory>
-    ensures { OnOk result (out.new.items ≡ out.old.items ++ row_line sign.now row.now former.now) }
-{
-    put_row_front(sign, row, out)?;
-    put_shown(&row.shown, out)?;
-    put_former(former, out)?;
-    put_pieces(&[b" ", row.key.bytes(), b"\n"], out)
-}
-
-// Puts the beginning of a row's line: the sign, the window, the start and the end, and the number.
-fn put_row_front(sign: &[u8], row: &Row, out: &mut Vec<u8>) -> Result<(), NoMemory>
-    ensures { OnOk result (out.new.items ≡ out.old.items
-        ++ (sign.now ++ 32 ∷ (decimal (row.now).window ++ 32 ∷ (decimal (row.now).low
-        ++ 32 ∷ (end_text (row.now).high ++ 32 ∷ (decimal (row.now).number ++ 32 ∷ [])))))) }
-{
-    let mut window = Buffer::new();
-    let mut start = Buffer::new();
-    let mut end = Buffer::new();
-    let mut number = Buffer::new();
-    let window = window.format(row.window).as_bytes();
-    let low = start.format(row.low).as_bytes();
-    let high = end_piece(row.high, &mut end);
-    let number = number.format(row.number).as_bytes();
-    let pieces: [&[u8]; 9] = [sign, b" ", window, b" ", low, b" ", high, b" ", number];
-    put_pieces(&pieces, out)?;
-    put_pieces(&[b" "], out)
-}
-
-// Puts a number and value that stood, each behind a space, where they are told.
-fn put_former(former: &Option<Former>, out: &mut Vec<u8>) -> Result<(), NoMemory>
-    ensures { OnOk result (out.new.items ≡ out.old.items
-        ++ option_map_or former_text former.now []) }
-{
-    match former {
-        None => Ok(()),
-        Some(former) => {
-            let mut number = Buffer::new();
-            put_pieces(&[b" ", number.format(former.number).as_bytes(), b" "], out)?;
-            put_shown(&former.shown, out)
+impl Line {
+    /// Tells a change in a form, in place of what was told before.
+    pub fn tell_change(&mut self, form: ReportForm, change: &Change)
+        ensures { (self.new).text ≡ (form_of form).line change.now }
+    {
+        self.clear();
+        match (form, change) {
+            (ReportForm::One, Change::Gone(row)) => self.gone(row),
+            (ReportForm::Two, Change::Gone(row)) => self.row(b'-', row),
+            (_, Change::New(row)) => self.row(b'+', row),
+            (ReportForm::One, Change::Again { row, .. }) => self.row(b'~', row),
+            (ReportForm::Two, Change::Again { row, former }) => self.updated(row, former),
+            (_, Change::Dropped) => {
+                self.byte(b'\n');
+                self.byte(b'x');
+            }
         }
     }
-}
 
-// Puts a value as shown.
-fn put_shown(shown: &Shown, out: &mut Vec<u8>) -> Result<(), NoMemory>
-    ensures { OnOk result (out.new.items ≡ out.old.items ++ shown_text shown.now) }
-{
-    let mut value = Buffer::new();
-    let mut divisor = Buffer::new();
-    match shown {
-        Shown::Whole(number) => put_pieces(&[value.format(*number).as_bytes()], out),
-        Shown::Ratio { sum, count } => {
-            let sum = value.format(*sum).as_bytes();
-            let count = divisor.format(*count).as_bytes();
-            put_pieces(&[sum, b"/", count], out)
-        }
+    // A retraction that leaves out what stood.
+    fn gone(&mut self, row: &Row)
+        requires text { (self.old).text ≡ [] }
+        requires room { 320 ≤ self.old.room }
+        ensures { (self.new).text ≡ line_of (codes "-" ∷ decimal (row.now).window
+            ∷ decimal (row.now).low ∷ end_text (row.now).high ∷ (row.now).key ∷ []) }
+    {
+        self.last_key(&row.key);
+        self.span_front(b'-', row);
     }
-}
 
-/// The end of an instance: a word, where it is the final time.
-pub fn end_piece(high: u64, buffer: &mut Buffer) -> &[u8]
-    ensures { result.now ≡ end_text high }
-{
-    if high == FINAL {
-        return b"end";
+    // A row behind the sign of its change.
+    fn row(&mut self, sign: u8, row: &Row)
+        requires text { (self.old).text ≡ [] }
+        requires room { 320 ≤ self.old.room }
+        ensures { (self.new).text ≡ line_of ((sign ∷ []) ∷ row_fields row.now) }
+    {
+        self.last_key(&row.key);
+        self.row_front(sign, row);
     }
-    buffer.format(high).as_bytes()
+
+    // An updated row, with what stood.
+    fn updated(&mut self, row: &Row, former: &Former)
+        requires text { (self.old).text ≡ [] }
+        requires room { 320 ≤ self.old.room }
+        ensures { (self.new).text ≡ line_of (codes "~" ∷ updated_fields row.now former.now) }
+    {
+        self.last_key(&row.key);
+        self.result(former.number, &former.shown);
+        self.row_front(b'~', row);
+    }
+
+    // The beginning of a row's line, up to its value.
+    fn row_front(&mut self, sign: u8, row: &Row)
+        requires { 150 ≤ self.old.room }
+        ensures { Grows (row_front sign row.now) 150 self.old self.new }
+    {
+        self.result(row.number, &row.shown);
+        self.span_front(sign, row);
+    }
+
+    // The number and the value of an instance.
+    fn result(&mut self, number: u64, shown: &Shown)
+        requires { 83 ≤ self.old.room }
+        ensures { Grows (result_text number shown.now) 83 self.old self.new }
+    {
+        self.byte(b' ');
+        self.shown(shown);
+        self.byte(b' ');
+        self.number(number);
+    }
+
+    // The sign, the window, the start and the end.
+    fn span_front(&mut self, sign: u8, row: &Row)
+        requires { 65 ≤ self.old.room }
+        ensures { Grows (span_front sign row.now) 65 self.old self.new }
+    {
+        self.byte(b' ');
+        self.end(row.high);
+        self.byte(b' ');
+        self.number(row.low);
+        self.byte(b' ');
+        self.number(u64::from(row.window));
+        self.byte(b' ');
+        self.byte(sign);
+    }
 }

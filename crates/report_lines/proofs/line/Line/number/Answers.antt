@@ -1,8 +1,8 @@
 -- A number of 64 bits has at most twenty digits, and they are written in front of what was there.
 use Rattle.std.proofs.Common.{◌≡◌, ◌∙◌, ◌++◌, ◌≤◌, ap, arith, decimal, length, rules}
 use Rattle.std.proofs.lemmas.Fmt.{length-decimal-le}
-use Rattle.emission_text.specs.Lines.{Lined}
-use Rattle.emission_text.proofs.line.Line.number.Goals as goal
+use Rattle.report_lines.specs.Lines.{Lined}
+use Rattle.report_lines.proofs.line.Line.number.Goals as goal
 
 pub write_digits-self-inside-requires : goal.write_digits-self-inside-requires
 write_digits-self-inside-requires c =
