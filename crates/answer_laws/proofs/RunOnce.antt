@@ -19,7 +19,7 @@ use Rattle.source_feed.specs.Stream.{Stream, entry_of, only_refused, too_long}
 use Rattle.source_feed.specs.declared.whole.TheConstants.{SOURCE_MAX}
 use Rattle.window_defs.specs.Reading.{reading_of}
 use Rattle.emission_text.specs.Faults.{fault_line}
-use Rattle.emission_text.specs.Report.{form_of}
+use Rattle.report_lines.specs.Forms.{form_of}
 use Rattle.emission_text.specs.declared.fault.Fault.{Fault}
 use Rattle.emission_text.specs.declared.fault.Fault.TheVariants.{FullShard}
 use Rattle.scotty_run.specs.Answer.{IsAnswer, IsReportOf, IsReportOfFiles, IsStopped, Says}

@@ -2,9 +2,10 @@
 
 use crate::line_sink::LineSink;
 use crate::retold::Retold;
-use emission_text::{ReportForm, write_form};
+use emission_text::write_form;
 use fault_words::{Again, Help, line_from, put_file, start_of_line};
 use report_check::{Journal, journals_of};
+use report_lines::ReportForm;
 use shard_core::Shard;
 use std::alloc::Global;
 use std::thread::Threads;

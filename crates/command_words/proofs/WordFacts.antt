@@ -7,8 +7,8 @@ use Rattle.std.proofs.Math.ListN.{get_or-map}
 use Rattle.std.proofs.lemmas.List.{length-map, length-drop, take_all}
 use Rattle.std.proofs.lemmas.List.Elements.{All-map}
 use Rattle.std.proofs.lemmas.Fmt.{parse-decimal, decimal_injective}
-use Rattle.emission_text.specs.declared.report_form.ReportForm.{ReportForm}
-use Rattle.emission_text.specs.declared.report_form.ReportForm.TheVariants.{One, Two}
+use Rattle.report_lines.specs.declared.report_form.ReportForm.{ReportForm}
+use Rattle.report_lines.specs.declared.report_form.ReportForm.TheVariants.{One, Two}
 use Rattle.command_words.specs.declared.way.Way.{Way}
 use Rattle.command_words.specs.declared.way.Way.TheVariants.{Turns, Mail}
 use Rattle.std.specs.Prelude.{◌⊎◌}

@@ -1,7 +1,7 @@
 -- The words of the command line.
 use Rattle.source_feed.specs.declared.made_feed.TheConstants.{MADE_ROWS_MAX}
-use Rattle.emission_text.specs.declared.report_form.ReportForm.{ReportForm}
-use Rattle.emission_text.specs.declared.report_form.ReportForm.TheVariants.{One, Two}
+use Rattle.report_lines.specs.declared.report_form.ReportForm.{ReportForm}
+use Rattle.report_lines.specs.declared.report_form.ReportForm.TheVariants.{One, Two}
 use Rattle.command_words.specs.declared.way.Way.{Way}
 use Rattle.command_words.specs.declared.way.Way.TheVariants.{Turns, Mail}
 use Rattle.std.specs.Prelude.{◌≡◌, ◌≤◌, ◌<◌, ◌^◌, ◌⊎◌, ℕ, List, [], ◌∷◌, length, All, codes, decimal}

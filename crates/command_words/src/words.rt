@@ -4,8 +4,8 @@ ghost use Rattle.command_words.specs.LastWords.{IsLast, IsLastOf, LastRun};
 ghost use Rattle.command_words.specs.Words.{AreSources, Check, IsCheck, IsCheckOf, IsMade, IsMadeOf, IsName, IsNumberWithin, IsRun, IsRunOf, IsRunWord, IsWatch, IsWatchOf, IsWay, Made, Run, Watch, run_word, way_word};
 
 use crate::way::Way;
-use emission_text::ReportForm;
 use itoa::Buffer;
+use report_lines::ReportForm;
 use std::marker::Model;
 
 /// A run: the form of its report, the name of its definitions, how many shards there are, how feeds

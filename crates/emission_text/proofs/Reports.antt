@@ -9,7 +9,8 @@ use Rattle.stream_base.specs.declared.entry.Entry.{Entry}
 use Rattle.stream_base.specs.Model.Changes.{changes_after, changes_at}
 use Rattle.stream_base.specs.Model.Text.{Form, change_lines, changes_under, entry_line, journal_lines, report_of, shard_lines}
 use Rattle.shard_core.specs.Shard.{Sharded}
-use Rattle.emission_text.specs.Report.{AreAlike, header_line, lines_at, lines_from, lines_of, report_text, shards_text}
+use Rattle.report_lines.specs.Lines.{header_line}
+use Rattle.emission_text.specs.Report.{AreAlike, lines_at, lines_from, lines_of, report_text, shards_text}
 
 -- the lines of the entries from a position on
 abbrev pub lines_behind : Form → Sharded → ℕ → List ℕ

@@ -1,5 +1,4 @@
 pub mod Sending
-pub mod Rows
 pub mod Report
 pub mod DefsFaults
 pub mod Faults

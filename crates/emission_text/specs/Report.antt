@@ -1,12 +1,11 @@
 -- The report of shards, each with definitions and sources of its own.
-use Rattle.std.specs.Prelude.{◌≡◌, ◌+◌, ◌++◌, ℕ, List, [], ◌∷◌, All, codes, decimal, slice_get}
+use Rattle.std.specs.Prelude.{◌≡◌, ◌+◌, ◌++◌, ℕ, List, [], ◌∷◌, All, codes, slice_get}
 use Rattle.std.specs.Option.{option_map_or}
 use Rattle.stream_base.specs.Limits.{Definitions}
 use Rattle.stream_base.specs.Model.Changes.{changes_at}
-use Rattle.stream_base.specs.Model.Text.{Form, change_lines, changes_under, entry_line, journal_lines, line_of, report_1, report_2}
+use Rattle.stream_base.specs.Model.Text.{Form, change_lines, changes_under, entry_line, journal_lines}
+use Rattle.report_lines.specs.Lines.{header_line}
 use Rattle.shard_core.specs.Shard.{Sharded}
-use Rattle.emission_text.specs.declared.report_form.ReportForm.{ReportForm}
-use Rattle.emission_text.specs.declared.report_form.ReportForm.TheVariants.{One, Two}
 
 -- the lines at a position of a shard's journal, in a form: the entry's own, and those of the changes under it
 unfoldable pub lines_at : Form → Sharded → ℕ → List ℕ
@@ -17,10 +16,6 @@ lines_at form s position =
 -- the lines of a shard's journal
 abbrev pub lines_of : Form → Sharded → List ℕ
 lines_of form s = journal_lines (changes_under form s.defs s.sources) [] s.journal
-
--- the header of a shard
-abbrev pub header_line : ℕ → List ℕ
-header_line k = line_of (codes "shard" ∷ decimal k ∷ [])
 
 -- the lines of shards from number k on: each shard's header, and the lines of its journal
 abbrev pub lines_from : Form → ℕ → List Sharded → List ℕ
@@ -38,8 +33,3 @@ report_text form shards = form.front ++ shards_text form shards
 -- all shards have these definitions and this number of sources
 abbrev pub AreAlike : Definitions → ℕ → List Sharded → Type 0
 AreAlike d sources shards = All (λ s. (s.defs ≡ d) × (s.sources ≡ sources)) shards
-
--- the form of a report
-abbrev pub form_of : ReportForm → Form
-form_of One = report_1
-form_of Two = report_2

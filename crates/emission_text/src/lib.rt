@@ -11,18 +11,16 @@ mod entry_line;
 mod fault;
 mod fault_line;
 mod finding_line;
-mod line;
 mod pending;
 mod pieces;
 mod report;
-mod report_form;
 mod sink_fault;
 mod summary;
 mod tally;
 mod writing;
 
 pub use change_line::put_change;
-pub use entry_line::put_entry;
+pub use entry_line::{put_entry, put_header};
 pub use fault::Fault;
 pub use fault_line::write_fault;
 pub use finding_line::write_finding;
@@ -31,6 +29,5 @@ pub use pieces::{put_numbered, put_pieces};
 pub use report::{
     report_of_alike_shards_is_of_their_journals, write_form, write_report, write_report2,
 };
-pub use report_form::ReportForm;
 pub use sink_fault::SinkFault;
 pub use summary::write_summary;

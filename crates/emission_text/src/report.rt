@@ -2,16 +2,18 @@
 ghost use Rattle.std.specs.Prelude.{◌≡◌, ◌<◌, ◌++◌, ℕ, length, map};
 ghost use Rattle.stream_base.specs.Limits.{Definitions};
 ghost use Rattle.stream_base.specs.Model.Text.{Form, report_1, report_2, report_of};
-ghost use Rattle.emission_text.specs.Report.{AreAlike, form_of, header_line, lines_at, lines_from, lines_of, report_text, shards_text};
+ghost use Rattle.report_lines.specs.Forms.{form_of};
+ghost use Rattle.report_lines.specs.Lines.{header_line};
+ghost use Rattle.emission_text.specs.Report.{AreAlike, lines_at, lines_from, lines_of, report_text, shards_text};
 ghost use Rattle.emission_text.specs.Sending.{Puts, Writes};
 
 use crate::change_line::put_changes;
-use crate::entry_line::put_entry;
+use crate::entry_line::{put_entry, put_header};
 use crate::pending::Pending;
-use crate::pieces::{put_numbered, put_pieces};
-use crate::report_form::ReportForm;
+use crate::pieces::put_pieces;
 use crate::sink_fault::SinkFault;
 use outside::Sink;
+use report_lines::ReportForm;
 use shard_core::Shard;
 
 /// Writes the report of shards: for each shard its header, then each entry of its journal, and under
@@ -72,10 +74,7 @@ fn put_front<K: Sink>(form: ReportForm, out: &mut Pending, sink: &mut K) -> Resu
     ensures { Puts K.taken K.faults (form_of form).front
         out.old out.new sink.old sink.new result }
 {
-    match form {
-        ReportForm::One => Ok(()),
-        ReportForm::Two => put_pieces(&[b"report 2\n"], out, sink),
-    }
+    out.add(form.front(), sink)
 }
 
 fn put_all<K: Sink>(
@@ -117,7 +116,7 @@ fn put_shard<K: Sink>(
     ensures { Puts K.taken K.faults (header_line k ++ lines_of (form_of form) shard.now)
         out.old out.new sink.old sink.new result }
 {
-    put_numbered(b"shard ", k, out, sink)?;
+    put_header(k as u64, out, sink)?;
     put_journal(form, shard, out, sink)
 }
 

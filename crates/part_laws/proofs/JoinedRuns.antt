@@ -11,7 +11,8 @@ use Rattle.stream_base.specs.Limits.{Definitions}
 use Rattle.stream_base.specs.Model.Changes.{changes_after}
 use Rattle.stream_base.specs.Model.Routes.{IsLawful, entries_from, goes_to, number_of, routed}
 use Rattle.stream_base.specs.Model.Text.{Form, change_lines, changes_under, entry_line, journal_lines, report_of, shard_lines}
-use Rattle.part_laws.specs.Joined.{AreOfParts, body_of, header_line, joined, part_definitions, parts_of, shards_from}
+use Rattle.report_lines.specs.Lines.{header_line}
+use Rattle.part_laws.specs.Joined.{AreOfParts, body_of, joined, part_definitions, parts_of, shards_from}
 
 -- ---- all goes to one shard
 all_go : (what : What) → goes_to 1 0 what ≡ true

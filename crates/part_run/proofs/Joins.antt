@@ -3,7 +3,8 @@ use Rattle.std.proofs.Common.{◌≡◌, ◌∙◌, ◌<◌, ◌≤◌, ◌+◌,
 use Rattle.std.specs.Prelude.{Vec}
 use Rattle.std.proofs.lemmas.List.{at_drop_more, get_or-map, length-map}
 use Rattle.stream_base.specs.Model.Text.{Form}
-use Rattle.part_laws.specs.Joined.{body_of, header_line, shards_from}
+use Rattle.report_lines.specs.Lines.{header_line}
+use Rattle.part_laws.specs.Joined.{body_of, shards_from}
 use Rattle.report_check.specs.Findings.{lists_of}
 use Rattle.report_join.specs.ShardReports.{IsJudged, form_told}
 use Rattle.report_join.specs.declared.join_why.JoinWhy.{JoinWhy}

@@ -1,6 +1,7 @@
 //! Reports of one shard each, joined to a report of all.
 ghost use Rattle.std.specs.Prelude.{◌≡◌, ◌≤◌, ◌<◌, ◌⊎◌, ◌++◌, [], None, map, length, string_bytes, slice_index_or, IfErr, OnOk, codes};
-ghost use Rattle.part_laws.specs.Joined.{body_of, header_line, joined, shards_from};
+ghost use Rattle.report_lines.specs.Lines.{header_line};
+ghost use Rattle.part_laws.specs.Joined.{body_of, joined, shards_from};
 ghost use Rattle.report_check.specs.Findings.{lists_of};
 ghost use Rattle.report_join.specs.ShardReports.{IsJudged, form_told};
 ghost use Rattle.emission_text.specs.Sending.{Appends, Fails, Puts, Writes};
@@ -11,7 +12,7 @@ ghost use Rattle.part_run.specs.Joining.{AreShardReports, IsFormOf, IsJoinOf, Is
 use crate::part_fault::PartFault;
 use crate::printing::print_fault;
 use crate::reports::read_reports;
-use emission_text::{Fault, Pending, SinkFault, put_numbered, put_pieces};
+use emission_text::{Fault, Pending, SinkFault, put_header, put_pieces};
 use outside::{Files, Sink};
 use report_join::{JoinWhy, body_of, is_second_form, judge_shard_report};
 use run_inputs::Status;
@@ -185,6 +186,6 @@ fn put_shard<K: Sink>(
     ensures { Puts K.taken K.faults (header_line k ++ lines.now)
         out.old out.new sink.old sink.new result }
 {
-    put_numbered(b"shard ", k, out, sink)?;
+    put_header(k as u64, out, sink)?;
     out.add(lines, sink)
 }

@@ -1,7 +1,8 @@
 //! What is printed of a row.
 use crate::trouble::Trouble;
-use emission_text::{Pending, ReportForm, SinkFault, put_change, put_pieces, write_report};
+use emission_text::{Pending, SinkFault, put_change, put_pieces, write_report};
 use outside::Sink;
+use report_lines::ReportForm;
 use shard_core::Shard;
 use stream_base::{Change, Row};
 

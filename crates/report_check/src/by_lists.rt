@@ -5,7 +5,7 @@ ghost use Rattle.report_check.specs.Readable.{IsReadable};
 use crate::ledger::Ledger;
 use crate::teller::Teller;
 use agg_laws::Steps;
-use report_lines::{Told, put_changes, put_entry};
+use report_lines::{ReportForm, put_changes, put_entry};
 use std::alloc::Global;
 use stream_base::{Defs, Entry, NoMemory};
 
@@ -17,7 +17,7 @@ impl Teller for ByLists {
     fn put_journal<L>(
         &self,
         alloc: Global,
-        told: Told,
+        form: ReportForm,
         defs: &Defs,
         sources: u16,
         journal: &[Entry],
@@ -32,7 +32,7 @@ impl Teller for ByLists {
             let mut changes = Vec::new(alloc);
             ledger.take_in(defs, past, entry, upto, &mut changes, steps)?;
             put_entry(entry, out)?;
-            put_changes(told, &changes, out)?;
+            put_changes(form, &changes, out)?;
         }
         Ok(())
     }

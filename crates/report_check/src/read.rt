@@ -27,10 +27,10 @@ fn put_line(alloc: Global, line: &[u8], journals: &mut Vec<Journal>) -> Result<(
     ensures { OnOk result (journals.new.items
         ≡ after_line journals.old.items line.now) }
 {
-    if is_header(alloc, line)? {
+    if is_header(line) {
         return begin(alloc, journals);
     }
-    match entry_in(alloc, line)? {
+    match entry_in(line) {
         Some(Entry { source, what }) => put_last(source, what, journals),
         None => Ok(()),
     }

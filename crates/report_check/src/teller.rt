@@ -2,10 +2,10 @@
 ghost use Rattle.std.specs.Prelude.{◌≡◌, ◌++◌, [], OnOk};
 ghost use Rattle.stream_base.specs.Model.Text.{changes_under, journal_lines};
 ghost use Rattle.report_check.specs.Readable.{IsReadable};
-ghost use Rattle.report_lines.specs.Told.{form_of};
+ghost use Rattle.report_lines.specs.Forms.{form_of};
 
 use agg_laws::Steps;
-use report_lines::Told;
+use report_lines::ReportForm;
 use std::alloc::Global;
 use stream_base::{Defs, Entry, NoMemory};
 
@@ -16,7 +16,7 @@ pub trait Teller {
     fn put_journal<L>(
         &self,
         alloc: Global,
-        told: Told,
+        form: ReportForm,
         defs: &Defs,
         sources: u16,
         journal: &[Entry],
@@ -25,5 +25,5 @@ pub trait Teller {
     ) -> Result<(), NoMemory>
         requires { IsReadable journal.now }
         ensures { OnOk result (out.new.items ≡ out.old.items
-            ++ journal_lines (changes_under (form_of told) defs.now sources) [] journal.now) };
+            ++ journal_lines (changes_under (form_of form) defs.now sources) [] journal.now) };
 }

@@ -13,7 +13,7 @@ use Rattle.stream_base.specs.Model.Journals.{AreEntriesWithin}
 use Rattle.stream_base.specs.Model.Routes.{IsLawful, entries_from, goes_to, routed}
 use Rattle.stream_base.specs.Model.Text.{Form, change_line, change_line_2, change_lines, changes_under, end_text, entry_line, journal_lines, line_of, report_1, report_2, report_of, row_fields, updated_fields}
 use Rattle.stream_base.specs.Model.What.{what_fields}
-use Rattle.part_laws.specs.Joined.{header_line}
+use Rattle.report_lines.specs.Lines.{header_line}
 use Rattle.report_laws.specs.ReadBack.{AreWithin, IsToldFromJournals}
 use Rattle.report_laws.proofs.ReadBack.{journals_of-report_of}
 use Rattle.report_laws.proofs.ReadBackChanges.{report_1-told, report_2-told}

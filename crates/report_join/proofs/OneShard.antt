@@ -4,7 +4,8 @@ use Rattle.std.specs.Prelude.{IfNone, IfSome}
 use Rattle.std.specs.Fmt.{digits}
 use Rattle.stream_base.specs.declared.entry.Entry.{Entry}
 use Rattle.stream_base.specs.Model.Text.{Form, report_1, report_2}
-use Rattle.part_laws.specs.Joined.{body_of, header_line}
+use Rattle.report_lines.specs.Lines.{header_line}
+use Rattle.part_laws.specs.Joined.{body_of}
 use Rattle.report_join.specs.ShardReports.{IsJudged, IsOfOneShard, first_misplaced}
 use Rattle.report_join.specs.declared.join_why.JoinWhy.{JoinWhy}
 use Rattle.report_join.specs.declared.join_why.JoinWhy.TheVariants.{Entry as MisplacedEntry}

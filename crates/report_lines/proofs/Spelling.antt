@@ -1,5 +1,5 @@
 -- A text that ends with a line feed spells the line in front of it.
-use Rattle.std.proofs.Common.{◌≡◌, ◌≢◌, ◌∙◌, ℕ, false, List, [], ◌∷◌, ◌++◌, ap, sym, true≢false}
+use Rattle.std.proofs.Common.{◌≡◌, ◌≢◌, ◌∙◌, ℕ, false, List, [], ◌∷◌, ◌++◌, ap, refl, sym, true≢false}
 use Rattle.std.specs.Str.{bytes_eq}
 use Rattle.std.proofs.lemmas.Bool.Decides.{same_from_decides}
 use Rattle.std.proofs.lemmas.List.{append_cancel_right}
@@ -17,3 +17,10 @@ pub none_spells : (text line : List ℕ) → ((front : List ℕ) → text ≢ fr
 none_spells text line n =
     let whole = bytes_eq-Decides text (line ++ 10 ∷ []) in
     same_from_decides false (bytes_eq text (line ++ 10 ∷ [])) ((λ f. absurd (true≢false (sym f))), (λ s. absurd (n line s))) whole
+
+-- a text without its line feed is a line exactly where it spells it
+pub spells_front : (line front : List ℕ) → bytes_eq (front ++ 10 ∷ []) (line ++ 10 ∷ []) ≡ bytes_eq line front
+spells_front line front =
+    let other = bytes_eq-Decides front line in
+    sym (front_spells (front ++ 10 ∷ []) line front refl)
+    ∙ same_from_decides (bytes_eq front line) (bytes_eq line front) ((λ t. sym (other.0 t)), (λ s. other.1 (sym s))) (bytes_eq-Decides line front)

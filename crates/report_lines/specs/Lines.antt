@@ -1,8 +1,8 @@
--- A line that is written from its end, and the fronts of a row's line.
-use Rattle.std.specs.Prelude.{◌≡◌, ◌≤◌, ◌+◌, ◌++◌, ◌∷◌, [], ℕ, List, decimal}
+-- A line that is written from its end, the fronts of a row's line, and the header of a shard.
+use Rattle.std.specs.Prelude.{◌≡◌, ◌≤◌, ◌+◌, ◌++◌, ◌∷◌, [], ℕ, List, codes, decimal}
 use Rattle.stream_base.specs.declared.row.Row.{Row}
 use Rattle.stream_base.specs.declared.shown.Shown.{Shown}
-use Rattle.stream_base.specs.Model.Text.{end_text, shown_text}
+use Rattle.stream_base.specs.Model.Text.{end_text, line_of, shown_text}
 
 -- the bytes that stand in it, and for how many there is room in front of them
 pub record Lined : Type 0 where
@@ -25,3 +25,7 @@ span_front sign row = sign ∷ 32 ∷ (decimal row.window ++ (32 ∷ (decimal ro
 -- and its number and value
 abbrev pub row_front : ℕ → Row → List ℕ
 row_front sign row = span_front sign row ++ result_text row.number row.shown
+
+-- the header of the shard with this number
+abbrev pub header_line : ℕ → List ℕ
+header_line k = line_of (codes "shard" ∷ decimal k ∷ [])

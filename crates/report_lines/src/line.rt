@@ -1,9 +1,9 @@
 //! A line that is written from its end.
-ghost use Rattle.std.specs.Prelude.{◌≡◌, ◌≤◌, ◌++◌, ◌∷◌, [], codes, decimal, length};
+ghost use Rattle.std.specs.Prelude.{◌≡◌, ◌≤◌, ◌++◌, ◌∷◌, [], decimal, length};
 ghost use Rattle.std.specs.Fmt.{signed_decimal};
 ghost use Rattle.std.specs.Str.{bytes_eq};
-ghost use Rattle.stream_base.specs.Model.Text.{end_text, line_of, shown_text};
-ghost use Rattle.report_lines.specs.Lines.{Grows};
+ghost use Rattle.stream_base.specs.Model.Text.{end_text, shown_text};
+ghost use Rattle.report_lines.specs.Lines.{Grows, header_line};
 
 use itoa::{Buffer, write_digits};
 use std::marker::Model;
@@ -64,7 +64,7 @@ impl Line {
 
     /// Tells the header of the shard with this number, in place of what was told before.
     pub fn tell_header(&mut self, shard: u64)
-        ensures { (self.new).text ≡ line_of (codes "shard" ∷ decimal shard ∷ []) }
+        ensures { (self.new).text ≡ header_line shard }
     {
         self.clear();
         self.byte(b'\n');

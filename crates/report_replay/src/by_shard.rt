@@ -6,7 +6,7 @@ use crate::replay::replayed;
 use crate::tell::put_shard;
 use agg_laws::Steps;
 use report_check::{ByLists, Teller};
-use report_lines::Told;
+use report_lines::ReportForm;
 use std::alloc::Global;
 use stream_base::{Defs, Entry, NoMemory};
 
@@ -19,7 +19,7 @@ impl Teller for ByShard {
     fn put_journal<L>(
         &self,
         alloc: Global,
-        told: Told,
+        form: ReportForm,
         defs: &Defs,
         sources: u16,
         journal: &[Entry],
@@ -27,8 +27,8 @@ impl Teller for ByShard {
         steps: &mut Steps<L>,
     ) -> Result<(), NoMemory> {
         match replayed(alloc, defs, sources, journal, steps)? {
-            Some(shard) => put_shard(told, &shard, out),
-            None => ByLists.put_journal(alloc, told, defs, sources, journal, out, steps),
+            Some(shard) => put_shard(form, &shard, out),
+            None => ByLists.put_journal(alloc, form, defs, sources, journal, out, steps),
         }
     }
 }

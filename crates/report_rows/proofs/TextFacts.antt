@@ -1,20 +1,27 @@
 -- A text that is read, one byte more.
 use Rattle.std.proofs.Common.{◌≡◌, ◌∙◌, ℕ, ◌+◌, ◌-◌, ◌<◌, suc, Bool, true, false, cond, eqb, List, [], ◌∷◌, ◌++◌, length, drop, get_or, set, ap, sym, refl, subst, arith, append_assoc, append-nil, Option, None, Some, Result, Ok, Err, zero}
-use Rattle.std.specs.Prelude.{◌||◌, ◌==◌}
+use Rattle.std.specs.Prelude.{◌||◌, ◌==◌, codes, decimal}
+use Rattle.stream_base.specs.Model.Text.{line_of}
 use Rattle.stream_base.specs.declared.no_memory.NoMemory.{NoMemory}
 use Rattle.report_rows.specs.Steps.{Steps}
 use Rattle.std.specs.List.{list_any}
+use Rattle.std.specs.Str.{bytes_eq}
 use Rattle.std.specs.Option.{option_map}
 use Rattle.std.proofs.lemmas.Bool.{false≢true, ne_eqb, or_from, or_parts}
 use Rattle.std.proofs.lemmas.List.{at_drop_more}
 use Rattle.std.proofs.lemmas.List.Folds.{list_any-append}
 use Rattle.report_laws.proofs.ReadBackLines.{Lacks}
-use Rattle.row_laws.specs.Told.{Told, ToldShard, after_line, in_last, in_shard, is_behind, or_refused, read_from, read_text, refused, tells, unread}
+use Rattle.report_lines.proofs.Spelling.{spells_front}
+use Rattle.row_laws.specs.Told.{Told, ToldShard, after_line, header, in_last, in_shard, is_behind, or_refused, read_from, read_text, refused, tells, unread}
 use Rattle.row_laws.proofs.ToldRows.{read_left, read_line, read_nothing}
 use Rattle.report_rows.specs.Reader.{IsReader}
 use Rattle.report_rows.specs.Faults.{IsRefusedSo}
 use Rattle.report_rows.specs.declared.text_fault.TextFault.{TextFault}
 use Rattle.report_rows.specs.declared.text_fault.TextFault.TheVariants.{Line, NoMemory as Exhausted}
+
+-- the header of a shard is spelled by its line without the line feed
+pub spells_header : (told line : List ℕ) (number : ℕ) → told ≡ line_of (codes "shard" ∷ decimal number ∷ []) → bytes_eq told (line ++ 10 ∷ []) ≡ bytes_eq line (header number)
+spells_header told line number is = ap (λ text. bytes_eq text (line ++ 10 ∷ [])) is ∙ spells_front line (header number)
 
 lacks : (bytes : List ℕ) → list_any (λ byte. byte == 10) bytes ≡ false → Lacks 10 bytes
 lacks [] h = tt

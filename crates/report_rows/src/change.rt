@@ -1,39 +1,38 @@
 //! The change that a line tells.
-ghost use Rattle.std.specs.Prelude.{◌≡◌, ◌++◌, ◌∷◌, [], false, IfOk, IfSome, IfNone};
+ghost use Rattle.std.specs.Prelude.{◌≡◌, ◌++◌, ◌∷◌, [], false, IfSome, IfNone};
 ghost use Rattle.std.specs.Str.{bytes_eq};
 ghost use Rattle.row_laws.specs.Fitting.{is_change_fit};
 ghost use Rattle.row_laws.specs.Reading.{change_in, form_of, guessed_change, retraction_in, update_in};
 ghost use Rattle.report_rows.specs.Changes.{guess_of, is_line_of};
-ghost use Rattle.report_lines.specs.Told.{form_of as form_told};
+ghost use Rattle.report_lines.specs.Forms.{form_of as form_told};
 
 use crate::fields::{bare_row_in, row_in, updated_in};
 use crate::fits::change_fits;
-use report_lines::{Told, is_line, put_change, split_word};
-use std::alloc::Global;
-use stream_base::{Change, Former, NoMemory, Shown};
+use report_lines::{Line, ReportForm, split_word};
+use stream_base::{Change, Former, Shown};
 
 /// The change whose line a line is, in a report that tells in full what stood before or doesn't, if it
 /// is one.
 #[tactic(auto, using(crate::proofs::ChangeFacts::is_change, crate::proofs::ChangeFacts::is_none, crate::proofs::ChangeFacts::is_beyond))]
-pub fn change_in(alloc: Global, full: bool, line: &[u8]) -> Result<Option<Change>, NoMemory>
-    ensures { IfOk result (λ found. found ≡ change_in full line.now) }
+pub fn change_in(full: bool, line: &[u8]) -> Option<Change>
+    ensures { result ≡ change_in full line.now }
 {
     match guess(full, line) {
         Some(change) => {
-            if tells(alloc, full, line, &change)? {
-                Ok(Some(change))
+            if tells(full, line, &change) {
+                Some(change)
             } else {
-                Ok(None)
+                None
             }
         }
-        None => Ok(None),
+        None => None,
     }
 }
 
-fn tells(alloc: Global, full: bool, line: &[u8], change: &Change) -> Result<bool, NoMemory>
-    ensures { IfOk result (λ yes. yes ≡ is_line_of full line.now change.now) }
+fn tells(full: bool, line: &[u8], change: &Change) -> bool
+    ensures { result ≡ is_line_of full line.now change.now }
 {
-    Ok(spells(alloc, full, line, change)? && change_fits(change))
+    spells(full, line, change) && change_fits(change)
 }
 
 fn guess(full: bool, line: &[u8]) -> Option<Change>
@@ -94,17 +93,16 @@ const UNTOLD: Former = Former {
 };
 
 // Whether a line is the line of a change.
-fn spells(alloc: Global, full: bool, line: &[u8], change: &Change) -> Result<bool, NoMemory>
-    ensures { IfOk result (λ yes. yes
-        ≡ bytes_eq ((form_of full).line change.now) (line.now ++ 10 ∷ [])) }
+fn spells(full: bool, line: &[u8], change: &Change) -> bool
+    ensures { result ≡ bytes_eq ((form_of full).line change.now) (line.now ++ 10 ∷ []) }
 {
-    let mut spelled = Vec::new(alloc);
-    put_change(told_of(full), change, &mut spelled)?;
-    is_line(alloc, line, &spelled)
+    let mut told = Line::new();
+    told.tell_change(report_form(full), change);
+    told.spells(line)
 }
 
-fn told_of(full: bool) -> Told
+fn report_form(full: bool) -> ReportForm
     ensures { form_told result ≡ form_of full }
 {
-    if full { Told::InFull } else { Told::Briefly }
+    if full { ReportForm::Two } else { ReportForm::One }
 }

@@ -54,12 +54,12 @@ impl ShardRows {
     }
 
     /// Takes the line of an entry or a change, if that may follow.
-    pub fn line(&mut self, alloc: Global, full: bool, line: &[u8]) -> Result<bool, NoMemory>
+    pub fn line(&mut self, full: bool, line: &[u8]) -> Result<bool, NoMemory>
         ensures { Steps (in_shard full line.now self.old) self.old self.new result }
     {
-        match entry_in(alloc, line)? {
+        match entry_in(line) {
             Some(Entry { source, what }) => self.enter(source, what),
-            None => self.change_line(alloc, full, line),
+            None => self.change_line(full, line),
         }
     }
 
@@ -71,11 +71,11 @@ impl ShardRows {
         Ok(true)
     }
 
-    fn change_line(&mut self, alloc: Global, full: bool, line: &[u8]) -> Result<bool, NoMemory>
+    fn change_line(&mut self, full: bool, line: &[u8]) -> Result<bool, NoMemory>
         ensures { Steps (option_map_or (with_change self.old) (change_in full line.now) None)
             self.old self.new result }
     {
-        match change_in(alloc, full, line)? {
+        match change_in(full, line) {
             Some(change) => self.change(&change),
             None => Ok(false),
         }

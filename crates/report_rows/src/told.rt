@@ -1,13 +1,12 @@
 //! What the lines of a text tell so far.
-ghost use Rattle.std.specs.Prelude.{◌≡◌, ◌<◌, ◌-◌, [], length, IfOk, true, false, codes};
+ghost use Rattle.std.specs.Prelude.{◌≡◌, ◌<◌, ◌-◌, [], length, true, false, codes};
 ghost use Rattle.std.specs.Str.{bytes_eq};
 ghost use Rattle.row_laws.specs.Told.{after_inside, after_line, header, in_last, is_behind, unread};
 ghost use Rattle.report_rows.specs.Steps.{Steps};
 
 use crate::place::Place;
 use crate::shard::ShardRows;
-use itoa::Buffer;
-use report_lines::put_pieces;
+use report_lines::Line;
 use std::alloc::Global;
 use std::marker::Model;
 use stream_base::NoMemory;
@@ -80,7 +79,7 @@ impl ToldText {
     fn inside(&mut self, alloc: Global, full: bool, line: &[u8]) -> Result<bool, NoMemory>
         ensures { Steps (after_inside full (self.old).shards line.now) self.old self.new result }
     {
-        if is_header(alloc, line, self.shards.len())? {
+        if is_header(line, self.shards.len()) {
             self.shards.reserve(1)?;
             self.shards.push_reserved(ShardRows::new(alloc));
             self.place = Place::Inside(full);
@@ -89,7 +88,7 @@ impl ToldText {
             self.place = Place::Behind;
             Ok(true)
         } else {
-            let taken = last_line(alloc, full, line, &mut self.shards)?;
+            let taken = last_line(full, line, &mut self.shards)?;
             if taken {
                 self.place = Place::Inside(full);
             }
@@ -100,7 +99,6 @@ impl ToldText {
 
 // Takes a line of the last shard, where there is one.
 fn last_line(
-    alloc: Global,
     full: bool,
     line: &[u8],
     shards: &mut Vec<ShardRows>,
@@ -112,16 +110,15 @@ fn last_line(
         return Ok(false);
     }
     let last = shards.len() - 1;
-    shards[last].line(alloc, full, line)
+    shards[last].line(full, line)
 }
 
 // Whether a line is the header of the shard with this number.
-fn is_header(alloc: Global, line: &[u8], number: usize) -> Result<bool, NoMemory>
-    ensures { IfOk result (λ yes. yes ≡ bytes_eq line.now (header number)) }
+#[tactic(auto, using(crate::proofs::TextFacts::spells_header))]
+fn is_header(line: &[u8], number: usize) -> bool
+    ensures { result ≡ bytes_eq line.now (header number) }
 {
-    let mut spelled = Vec::new(alloc);
-    let mut buffer = Buffer::new();
-    let number = buffer.format(number).as_bytes();
-    put_pieces(&[b"shard ", number], &mut spelled)?;
-    Ok(line == spelled.as_slice())
+    let mut told = Line::new();
+    told.tell_header(number as u64);
+    told.spells(line)
 }

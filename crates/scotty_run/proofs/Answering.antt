@@ -12,9 +12,10 @@ use Rattle.stream_base.specs.Model.Text.{report_of}
 use Rattle.report_laws.proofs.ReadBack.{journals_of-report_of}
 use Rattle.report_laws.proofs.ReadBackChanges.{report_1-told, report_2-told}
 use Rattle.shard_core.specs.Shard.{IsJournal, Sharded}
-use Rattle.emission_text.specs.Report.{form_of, report_text}
-use Rattle.emission_text.specs.declared.report_form.ReportForm.{ReportForm}
-use Rattle.emission_text.specs.declared.report_form.ReportForm.TheVariants.{One, Two}
+use Rattle.emission_text.specs.Report.{report_text}
+use Rattle.report_lines.specs.Forms.{form_of}
+use Rattle.report_lines.specs.declared.report_form.ReportForm.{ReportForm}
+use Rattle.report_lines.specs.declared.report_form.ReportForm.TheVariants.{One, Two}
 use Rattle.emission_text.proofs.Reports.{report_text-alike}
 use Rattle.scotty_run.specs.Answer.{IsReportOfFiles}
 use Rattle.run_inputs.specs.Causes.{AreShardsOfFiles, count_routed}

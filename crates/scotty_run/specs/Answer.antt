@@ -11,7 +11,7 @@ use Rattle.source_feed.specs.Generated.{made_definitions, made_sources}
 use Rattle.emission_text.specs.Faults.{fault_line}
 use Rattle.report_check.specs.declared.finding.Finding.{Finding}
 use Rattle.emission_text.specs.Findings.{finding_line}
-use Rattle.emission_text.specs.Report.{form_of}
+use Rattle.report_lines.specs.Forms.{form_of}
 use Rattle.emission_text.specs.Sending.{Appends, Fails}
 use Rattle.emission_text.specs.declared.fault.Fault.{Fault}
 use Rattle.emission_text.specs.declared.fault.Fault.TheVariants as stop

@@ -1,7 +1,8 @@
 //! The top call.
 ghost use Rattle.std.specs.Prelude.{◌≡◌, ◌↔◌, ◌⊎◌, ◌∷◌, map, string_bytes};
 ghost use Rattle.emission_text.specs.Findings.{finding_line};
-ghost use Rattle.emission_text.specs.Report.{form_of, report_text};
+ghost use Rattle.emission_text.specs.Report.{report_text};
+ghost use Rattle.report_lines.specs.Forms.{form_of};
 ghost use Rattle.emission_text.specs.Sending.{Appends, Fails};
 ghost use Rattle.scotty_run.specs.Answer.{IsAnswer, IsCheckAnswer, IsMadeAnswer, Says};
 ghost use Rattle.run_inputs.specs.Causes.{AreShardsOfFiles, StopsAtFiles};
@@ -23,10 +24,11 @@ use command_words::{
     CheckWords, LastWords, MadeWords, RunWords, WatchWords, check_of, last_of, made_of, run_of,
     watch_of,
 };
-use emission_text::{Fault, ReportForm, write_fault, write_finding, write_form};
+use emission_text::{Fault, write_fault, write_finding, write_form};
 use live_board::Watched;
 use outside::{Files, Gate, Sink};
 use report_check::Finding;
+use report_lines::ReportForm;
 use run_inputs::{Status, find, read_definitions, status_of, status_of_finding};
 use shard_core::Shard;
 use std::alloc::Global;

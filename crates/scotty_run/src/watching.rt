@@ -9,9 +9,10 @@ ghost use Rattle.scotty_run.specs.Watching.{IsFullBoard, IsWatchedIn, IsWatchedO
 
 use board_text::write_reads;
 use command_words::WatchWords;
-use emission_text::{Fault, ReportForm, SinkFault, write_form};
+use emission_text::{Fault, SinkFault, write_form};
 use live_board::{WatchFault, Watched, watch_entries};
 use outside::{Files, Gate, Sink};
+use report_lines::ReportForm;
 use run_inputs::{read_definitions, read_sources};
 use std::alloc::Global;
 use std::slice;

@@ -14,7 +14,8 @@ use Rattle.tail_windows.specs.Report.{tail_fields, tail_report_of, tails_under}
 use Rattle.tail_windows.specs.declared.change.TailChange.{TailChange}
 use Rattle.tail_windows.specs.declared.row.TailRow.{TailRow}
 use Rattle.tail_windows.specs.declared.def.TailDef.{TailDef}
-use Rattle.tail_text.specs.Texts.{AreAsLong, ByPosition, header_line, in_vectors, journal_with, lines_with, shards_with, tail_changes_behind, tail_changes_in, tails_text}
+use Rattle.report_lines.specs.Lines.{header_line}
+use Rattle.tail_text.specs.Texts.{AreAsLong, ByPosition, in_vectors, journal_with, lines_with, shards_with, tail_changes_behind, tail_changes_in, tails_text}
 
 -- the beginning of a row's line
 abbrev pub front : List ℕ → TailRow → List ℕ

@@ -1,8 +1,9 @@
 -- The text of journals with changes that stand beside their entries.
-use Rattle.std.specs.Prelude.{◌≡◌, ◌+◌, ◌++◌, ℕ, List, Vec, [], ◌∷◌, codes, decimal, length, map}
+use Rattle.std.specs.Prelude.{◌≡◌, ◌+◌, ◌++◌, ℕ, List, Vec, [], ◌∷◌, codes, length, map}
 use Rattle.std.specs.List.{flat_map, zip}
 use Rattle.stream_base.specs.declared.entry.Entry.{Entry}
-use Rattle.stream_base.specs.Model.Text.{entry_line, line_of}
+use Rattle.stream_base.specs.Model.Text.{entry_line}
+use Rattle.report_lines.specs.Lines.{header_line}
 use Rattle.tail_windows.specs.Report.{tail_line}
 use Rattle.tail_windows.specs.Tails.{tail_changes_after}
 use Rattle.tail_windows.specs.declared.def.TailDef.{TailDef}
@@ -27,10 +28,6 @@ lines_with e changes = entry_line e ++ flat_map tail_line changes
 -- the lines of a journal, each entry with its changes
 abbrev pub journal_with : List Entry → ByPosition → List ℕ
 journal_with journal lists = flat_map (λ p. lines_with p.0 p.1) (zip journal lists)
-
--- the header of a shard
-abbrev pub header_line : ℕ → List ℕ
-header_line k = line_of (codes "shard" ∷ decimal k ∷ [])
 
 -- the lines of shards from number k on: each shard's header, and its journal
 abbrev pub shards_with : ℕ → List (List Entry × ByPosition) → List ℕ

@@ -2,10 +2,11 @@
 ghost use Rattle.std.specs.Prelude.{◌≡◌, ◌++◌, length, map, codes};
 ghost use Rattle.std.specs.List.{zip};
 ghost use Rattle.emission_text.specs.Sending.{Puts, Writes};
-ghost use Rattle.tail_text.specs.Texts.{AreAsLong, header_line, in_vectors, journal_with, lines_with, shards_with, tails_text};
+ghost use Rattle.report_lines.specs.Lines.{header_line};
+ghost use Rattle.tail_text.specs.Texts.{AreAsLong, in_vectors, journal_with, lines_with, shards_with, tails_text};
 
 use crate::change_line::put_changes;
-use emission_text::{Pending, SinkFault, put_entry, put_numbered, put_pieces};
+use emission_text::{Pending, SinkFault, put_entry, put_header, put_pieces};
 use outside::Sink;
 use shard_core::Shard;
 use stream_base::Entry;
@@ -74,7 +75,7 @@ fn put_shard<K: Sink>(
         ++ journal_with shard.now.journal (map (λ changes. changes.items) lists.now))
         out.old out.new sink.old sink.new result }
 {
-    put_numbered(b"shard ", k, out, sink)?;
+    put_header(k as u64, out, sink)?;
     put_journal(shard, lists, out, sink)
 }
 

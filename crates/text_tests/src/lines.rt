@@ -1,10 +1,9 @@
 use crate::said::{Said, key_of, what_of};
 use crate::sinks::sink;
-use emission_text::{
-    Fault, Pending, ReportForm, SinkFault, put_change, put_entry, write_fault, write_finding,
-};
+use emission_text::{Fault, Pending, SinkFault, put_change, put_entry, write_fault, write_finding};
 use outside::MemSink;
 use report_check::Finding;
+use report_lines::ReportForm;
 use source_feed::RowWhy;
 use std::process::Abort;
 use stream_base::{Change, Entry, FINAL, Former, Row, Shown, TIME_MAX};

@@ -2,7 +2,7 @@
 use Rattle.std.proofs.Common.{◌<◌, length, sym, arith}
 use Rattle.std.proofs.lemmas.Option.{get_or_from_slice_get}
 use Rattle.stream_base.specs.Model.Text.{change_lines}
-use Rattle.emission_text.specs.Report.{form_of}
+use Rattle.report_lines.specs.Forms.{form_of}
 use Rattle.emission_text.proofs.Sent.{item_put, item_failed, put_failed}
 use Rattle.emission_text.proofs.change_line.put_changes.Goals as goal
 

@@ -1,7 +1,7 @@
 -- What is pending, and then the lines that are left, is what is left of all.
 use Rattle.std.proofs.Common.{◌++◌, drop}
 use Rattle.std.specs.List.{flat_map}
-use Rattle.emission_text.specs.Report.{form_of}
+use Rattle.report_lines.specs.Forms.{form_of}
 use Rattle.emission_text.specs.Sending.{AppendsPrefix}
 use Rattle.emission_text.proofs.change_line.put_changes.Given as goal
 

@@ -1,6 +1,7 @@
 -- The shards, and then the last line.
 use Rattle.std.proofs.Common.{codes}
-use Rattle.emission_text.specs.Report.{form_of, lines_from, shards_text}
+use Rattle.emission_text.specs.Report.{lines_from, shards_text}
+use Rattle.report_lines.specs.Forms.{form_of}
 use Rattle.emission_text.proofs.Sent.{both_put, first_failed, put_failed}
 use Rattle.emission_text.proofs.report.put_all.Goals as goal
 

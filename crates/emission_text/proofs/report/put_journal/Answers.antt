@@ -1,6 +1,7 @@
 -- The lines at each position are one part more.
 use Rattle.std.proofs.Common.{◌+◌, ◌<◌, length, arith}
-use Rattle.emission_text.specs.Report.{form_of, lines_at, lines_of}
+use Rattle.emission_text.specs.Report.{lines_at, lines_of}
+use Rattle.report_lines.specs.Forms.{form_of}
 use Rattle.emission_text.proofs.Reports.{lines_behind, lines_behind-more}
 use Rattle.emission_text.proofs.Sent.{part_failed, part_put, put_failed}
 use Rattle.emission_text.proofs.report.put_journal.Goals as goal

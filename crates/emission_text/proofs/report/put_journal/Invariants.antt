@@ -1,6 +1,7 @@
 -- What is pending, and then the lines of the entries that are left, is what is left of all.
 use Rattle.std.proofs.Common.{◌++◌}
-use Rattle.emission_text.specs.Report.{form_of, lines_of}
+use Rattle.emission_text.specs.Report.{lines_of}
+use Rattle.report_lines.specs.Forms.{form_of}
 use Rattle.emission_text.specs.Sending.{AppendsPrefix}
 use Rattle.emission_text.proofs.Reports.{lines_behind}
 use Rattle.emission_text.proofs.report.put_journal.Given as goal

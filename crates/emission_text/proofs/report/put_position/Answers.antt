@@ -2,7 +2,7 @@
 use Rattle.std.proofs.Common.{◌++◌}
 use Rattle.stream_base.specs.Model.Changes.{changes_at}
 use Rattle.stream_base.specs.Model.Text.{change_lines, entry_line}
-use Rattle.emission_text.specs.Report.{form_of}
+use Rattle.report_lines.specs.Forms.{form_of}
 use Rattle.emission_text.proofs.Reports.{lines_at-is}
 use Rattle.emission_text.proofs.Sent.{both_put, first_failed, put_failed}
 use Rattle.emission_text.proofs.report.put_position.Goals as goal

@@ -1,5 +1,6 @@
 -- The line that tells the form, and then the shards.
-use Rattle.emission_text.specs.Report.{form_of, report_text, shards_text}
+use Rattle.emission_text.specs.Report.{report_text, shards_text}
+use Rattle.report_lines.specs.Forms.{form_of}
 use Rattle.emission_text.proofs.Sent.{both_put, first_failed, put_failed}
 use Rattle.emission_text.proofs.report.put_report.Goals as goal
 

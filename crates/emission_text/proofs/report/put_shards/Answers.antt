@@ -1,6 +1,8 @@
 -- Each shard is one part more.
 use Rattle.std.proofs.Common.{◌+◌, ◌++◌, drop}
-use Rattle.emission_text.specs.Report.{form_of, header_line, lines_from, lines_of}
+use Rattle.report_lines.specs.Lines.{header_line}
+use Rattle.emission_text.specs.Report.{lines_from, lines_of}
+use Rattle.report_lines.specs.Forms.{form_of}
 use Rattle.emission_text.proofs.Reports.{lines_from-more}
 use Rattle.emission_text.proofs.Sent.{part_failed, part_put, put_failed}
 use Rattle.emission_text.proofs.report.put_shards.Goals as goal

@@ -1,6 +1,7 @@
 -- What is pending, and then the lines of the shards that are left, is what is left of all.
 use Rattle.std.proofs.Common.{◌++◌, drop}
-use Rattle.emission_text.specs.Report.{form_of, lines_from}
+use Rattle.emission_text.specs.Report.{lines_from}
+use Rattle.report_lines.specs.Forms.{form_of}
 use Rattle.emission_text.specs.Sending.{AppendsPrefix}
 use Rattle.emission_text.proofs.report.put_shards.Given as goal
 

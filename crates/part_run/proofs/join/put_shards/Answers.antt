@@ -1,6 +1,7 @@
 -- Each shard is one part more.
 use Rattle.std.proofs.Common.{◌+◌, ◌++◌, drop}
-use Rattle.part_laws.specs.Joined.{body_of, header_line, shards_from}
+use Rattle.report_lines.specs.Lines.{header_line}
+use Rattle.part_laws.specs.Joined.{body_of, shards_from}
 use Rattle.report_check.specs.Findings.{lists_of}
 use Rattle.report_join.specs.ShardReports.{form_told}
 use Rattle.emission_text.proofs.Sent.{part_failed, part_put, put_failed}

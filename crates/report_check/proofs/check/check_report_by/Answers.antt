@@ -3,7 +3,7 @@ use Rattle.std.proofs.Common.{◌≡◌, length, rules, sym}
 use Rattle.std.proofs.lemmas.List.{length-map}
 use Rattle.stream_base.specs.Model.Text.{report_of}
 use Rattle.report_check.specs.Findings.{lists_of}
-use Rattle.report_lines.specs.Told.{form_of}
+use Rattle.report_lines.specs.Forms.{form_of}
 use Rattle.report_check.proofs.Judging.{told_report}
 use Rattle.report_check.proofs.check.check_report_by.Goals as goal
 

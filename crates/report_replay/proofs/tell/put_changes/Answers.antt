@@ -1,13 +1,13 @@
 -- The line of one change more.
 use Rattle.std.proofs.Common.{◌∙◌, ◌+◌, ◌<◌, ◌++◌, drop, length, ap, arith}
 use Rattle.std.specs.List.{flat_map}
-use Rattle.report_lines.specs.Told.{form_of}
+use Rattle.report_lines.specs.Forms.{form_of}
 use Rattle.report_replay.proofs.Lines.{one_more}
 use Rattle.report_replay.proofs.tell.put_changes.Goals as goal
 
 pub loop-at-preserved : goal.loop-at-preserved
 loop-at-preserved c =
-    let f = (form_of c.args.told).line in
+    let f = (form_of c.args.form).line in
     let changes = c.args.changes.now in
     let at = c.loop-at.at in
     let within : at < length changes = omega arith in

@@ -2,13 +2,13 @@
 use Rattle.std.proofs.Common.{◌≡◌, ◌∙◌, ◌+◌, ◌<◌, ◌++◌, length, ap, arith}
 use Rattle.stream_base.specs.Model.Changes.{changes_at}
 use Rattle.stream_base.specs.Model.Text.{change_lines, entry_line}
-use Rattle.report_lines.specs.Told.{form_of}
+use Rattle.report_lines.specs.Forms.{form_of}
 use Rattle.report_replay.proofs.Lines.{lines_behind, told_more}
 use Rattle.report_replay.proofs.tell.put_shard.Goals as goal
 
 pub loop-position-preserved : goal.loop-position-preserved
 loop-position-preserved c =
-    let form = form_of c.args.told in
+    let form = form_of c.args.form in
     let s = c.args.shard.now in
     let position = c.loop-position.position in
     let e = c.entry_at.result in

@@ -1,6 +1,7 @@
 use Rattle.std.proofs.Common.{◌≡◌, List, ap, sym, subst}
 use Rattle.shard_core.specs.Shard.{Sharded}
-use Rattle.emission_text.specs.Report.{form_of, report_text}
+use Rattle.emission_text.specs.Report.{report_text}
+use Rattle.report_lines.specs.Forms.{form_of}
 use Rattle.emission_text.specs.Sending.{Appends, Fails}
 use Rattle.scotty_run.specs.Answer.{IsAnswer, IsReportOf}
 use Rattle.run_inputs.specs.Causes.{AreShardsOfFiles}

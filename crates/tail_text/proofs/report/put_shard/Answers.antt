@@ -1,16 +1,17 @@
 -- The header, and then the journal.
 use Rattle.std.proofs.Common.{◌++◌, map}
 use Rattle.emission_text.proofs.Sent.{both_put, first_failed, put_failed}
-use Rattle.tail_text.specs.Texts.{header_line, journal_with}
+use Rattle.report_lines.specs.Lines.{header_line}
+use Rattle.tail_text.specs.Texts.{journal_with}
 use Rattle.tail_text.proofs.report.put_shard.Goals as goal
 
-pub returns-in_err-put_numbered : goal.returns-in_err-put_numbered
-returns-in_err-put_numbered g c =
+pub returns-in_err-put_header : goal.returns-in_err-put_header
+returns-in_err-put_header g c =
     let journal = journal_with c.args.shard.now.journal (map (λ v. v.items) c.args.lists.now) in
-    put_failed (header_line c.args.k ++ journal) c.args.out.now c.put_numbered.new.out c.put_numbered.new.sink c.from_residual.result c.from_residual.ensures.0
-    (first_failed c.args.out.now (header_line c.args.k) journal c.in_err-put_numbered.ensures)
+    put_failed (header_line c.args.k ++ journal) c.args.out.now c.put_header.new.out c.put_header.new.sink c.from_residual.result c.from_residual.ensures.0
+    (first_failed c.args.out.now (header_line c.args.k) journal c.in_err-put_header.ensures)
 
 pub returns : goal.returns
 returns g c =
     both_put c.args.out.now (header_line c.args.k) (journal_with c.args.shard.now.journal (map (λ v. v.items) c.args.lists.now))
-    c.put_journal.new.out c.put_journal.new.sink c.put_journal.result c.in_ok-put_numbered.ensures c.put_journal.ensures
+    c.put_journal.new.out c.put_journal.new.sink c.put_journal.result c.in_ok-put_header.ensures c.put_journal.ensures

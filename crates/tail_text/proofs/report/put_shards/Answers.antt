@@ -2,7 +2,8 @@
 use Rattle.std.proofs.Common.{◌+◌, ◌<◌, ◌≤◌, ◌++◌, length, map, arith}
 use Rattle.std.specs.List.{zip}
 use Rattle.emission_text.proofs.Sent.{appends_nothing, part_failed, part_put, put_failed}
-use Rattle.tail_text.specs.Texts.{header_line, in_vectors, journal_with, shards_with}
+use Rattle.report_lines.specs.Lines.{header_line}
+use Rattle.tail_text.specs.Texts.{in_vectors, journal_with, shards_with}
 use Rattle.tail_text.proofs.TextFacts.{as_long, as_many, part_end, shards_from, shards_from-end, shards_from-more}
 use Rattle.tail_text.proofs.report.put_shards.Goals as goal
 

@@ -4,7 +4,7 @@ use Rattle.stream_base.specs.declared.entry.Entry.{Entry}
 use Rattle.stream_base.specs.Limits.{Definitions}
 use Rattle.stream_base.specs.Model.Text.{Form, changes_under, journal_lines}
 use Rattle.report_check.specs.Ledgers.{IsLedger}
-use Rattle.report_lines.specs.Told.{form_of}
+use Rattle.report_lines.specs.Forms.{form_of}
 use Rattle.report_check.specs.declared.ledger.Ledger.{Ledger}
 use Rattle.report_check.proofs.by_lists.ByListsTeller.put_journal.Given as goal
 
@@ -13,4 +13,4 @@ pub record IsToldUpTo (form : Form) (d : Definitions) (sources : ℕ) (journal :
   pub told : out ++ journal_lines (changes_under form d sources) (take place journal) (drop place journal) ≡ before ++ journal_lines (changes_under form d sources) [] journal
 
 abbrev pub invariant-loop-place : goal.invariant-loop-place
-invariant-loop-place g l = IsToldUpTo (form_of l.told) l.defs l.sources l.journal l.fn.out.items l.out.items l.ledger l.place
+invariant-loop-place g l = IsToldUpTo (form_of l.form) l.defs l.sources l.journal l.fn.out.items l.out.items l.ledger l.place
