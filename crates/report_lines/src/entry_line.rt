@@ -26,7 +26,7 @@ impl Line {
             What::Tuple { key, time, value } => {
                 self.last_key(key);
                 self.byte(b' ');
-                self.signed(*value);
+                self.signed(i128::from(*value));
                 self.byte(b' ');
                 self.number(*time);
                 self.byte(b' ');

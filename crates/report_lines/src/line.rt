@@ -94,11 +94,11 @@ impl Line {
         self.start = write_digits(number, &mut self.cells, self.start);
     }
 
-    pub(crate) fn signed(&mut self, number: i64)
-        requires { 21 ≤ self.old.room }
-        ensures { Grows (signed_decimal number) 21 self.old self.new }
+    pub(crate) fn signed(&mut self, number: i128)
+        requires { 40 ≤ self.old.room }
+        ensures { Grows (signed_decimal number) 40 self.old self.new }
     {
-        self.number(number.unsigned_abs());
+        self.digits(number.unsigned_abs());
         if number < 0 {
             self.byte(b'-');
         }
@@ -110,11 +110,11 @@ impl Line {
         ensures { Grows (shown_text shown.now) 61 self.old self.new }
     {
         match *shown {
-            Shown::Whole(number) => self.whole(number),
+            Shown::Whole(number) => self.signed(number),
             Shown::Ratio { sum, count } => {
                 self.number(count);
                 self.byte(b'/');
-                self.whole(sum);
+                self.signed(sum);
             }
         }
     }
@@ -138,17 +138,6 @@ impl Line {
     {
         self.byte(b'\n');
         self.bytes(key.bytes());
-    }
-
-    // A number of up to 128 bits and its sign.
-    fn whole(&mut self, number: i128)
-        requires { 40 ≤ self.old.room }
-        ensures { Grows (signed_decimal number) 40 self.old self.new }
-    {
-        self.digits(number.unsigned_abs());
-        if number < 0 {
-            self.byte(b'-');
-        }
     }
 
     fn digits(&mut self, number: u128)
