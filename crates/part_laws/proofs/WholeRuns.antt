@@ -1,13 +1,13 @@
 -- What is read of parts is what is routed of the whole.
-use Rattle.std.proofs.Common.{◌≡◌, ◌∙◌, ◌<◌, ◌+◌, ℕ, List, [], ◌∷◌, length, map, get_or, ap, sym, subst, refl}
+use Rattle.std.proofs.Common.{◌≡◌, ◌+◌, ℕ, List, [], ◌∷◌, map, get_or, ap, subst, refl}
 use Rattle.stream_base.specs.declared.entry.Entry.{Entry}
 use Rattle.stream_base.specs.Limits.{Definitions}
 use Rattle.stream_base.specs.Model.Routes.{IsLawful, routed}
 use Rattle.source_feed.specs.Events.{stream_of}
 use Rattle.source_feed.specs.Stream.{Stream}
-use Rattle.part_laws.specs.Joined.{AreOfParts, part_definitions, parts_of}
+use Rattle.part_laws.specs.Joined.{AreOfParts, part_definitions}
 use Rattle.part_laws.specs.Parts.{part_text}
-use Rattle.part_laws.specs.Runs.{AreAcceptedFrom, AreRunsOverParts, entries_from_bytes, entries_of_all, part_files}
+use Rattle.part_laws.specs.Runs.{AreAcceptedFrom, AreRunsOverParts, entries_from_bytes, entries_of_all}
 use Rattle.part_laws.proofs.JoinedRuns.{parts_are_whole}
 use Rattle.part_laws.proofs.PartStreams.{part_is_source}
 

@@ -6,17 +6,16 @@ ghost use Rattle.stream_base.specs.declared.kept.Kept.{Kept};
 ghost use Rattle.stream_base.specs.Laws.{completions};
 ghost use Rattle.stream_base.specs.Model.Journal.{put_in_order};
 ghost use Rattle.stream_base.specs.Vectors.{Appends, room};
-ghost use Rattle.plain_windows.specs.Changing.{BringsBound, BringsNoneBelow, IsAhead, IsDue, KeepsBounds, all_completions, bounds_ahead, window_of};
+ghost use Rattle.plain_windows.specs.Changing.{IsAhead, IsDue, all_completions, bounds_ahead, window_of};
 
-use crate::find::bound_above;
 use crate::fold::{Owner, row_of};
-use crate::spans::{Spacing, bound_holding};
+use crate::kinds::{bound_above, bound_of};
 use crate::time::EventTime;
 use crate::view::View;
 use crate::walk::{due_from, first_left};
 use crate::window::{Window, windows_of};
 use agg_laws::Steps;
-use stream_base::{Change, Defs, KeyText, Kind};
+use stream_base::{Change, Defs, KeyText};
 
 /// Appends what a move of the watermark to `new` brings of a key: the emission of each instance that
 /// becomes complete, by window, start and end. Takes no memory.
@@ -152,23 +151,6 @@ pub fn bound_from(defs: &Defs, time: u64) -> Option<u64>
         least = least_of(least, bound_of(&Window { def }, EventTime { time })?);
     }
     Some(least)
-}
-
-// The same of one window.
-#[tactic(auto, unfolding(stream_base::specs::Model::Windows::instances_of))]
-fn bound_of(window: &Window, at: EventTime) -> Option<u64>
-    ensures none_below { IfSome result (BringsNoneBelow window.now.kind at.time) }
-    ensures brought { IfSome result (BringsBound window.now.kind at.time) }
-    ensures stay { IfSome result (λ bound. KeepsBounds window.now.kind) }
-{
-    match window.def.kind {
-        Kind::Tumbling { length } => {
-            let slide = length;
-            Some(bound_holding(Spacing { length, slide }, at))
-        }
-        Kind::Sliding { length, slide } => Some(bound_holding(Spacing { length, slide }, at)),
-        Kind::Session { .. } | Kind::Marks | Kind::Events { .. } => None,
-    }
 }
 
 fn least_of(a: u64, b: u64) -> u64

@@ -4,11 +4,12 @@ ghost use Rattle.std.specs.List.{list_any};
 ghost use Rattle.stream_base.specs.declared.limits.TheConstants.{TIME_MAX};
 ghost use Rattle.stream_base.specs.Model.Cuts.{bounds_up_to, cuts_between, has_bound, has_cut};
 
+use crate::kinds::cuts_between;
 use crate::places::marks_before;
 use crate::time::EventTime;
 use crate::view::View;
 use crate::window::{Window, windows_of};
-use stream_base::{Defs, Kind};
+use stream_base::Defs;
 
 /// The times of two tuples, one behind the other.
 #[derive(Clone, Copy)]
@@ -49,24 +50,9 @@ fn cuts_any(defs: &Defs, times: Times) -> bool
     false
 }
 
-// Whether a start or an end of an interval lies after the first time and at or before the second,
-// or they are at least the gap apart.
-fn cuts_between(window: &Window, times: Times) -> bool
-    ensures { result ≡ cuts_between window.now.kind times.low times.high }
-{
-    match window.def.kind {
-        Kind::Tumbling { length } => has_bound(0, length, times),
-        Kind::Sliding { length, slide } => {
-            has_bound(0, slide, times) || has_bound(length, slide, times)
-        }
-        Kind::Session { gap } => gap <= times.high.saturating_sub(times.low),
-        Kind::Marks | Kind::Events { .. } => false,
-    }
-}
-
-// Whether one of the times offset, offset + slide, offset + 2 * slide and so on lies after the
-// first time and at or before the second.
-fn has_bound(offset: u64, slide: u64, times: Times) -> bool
+/// Whether one of the times offset, offset + slide, offset + 2 * slide and so on lies after the
+/// first time and at or before the second.
+pub fn has_bound(offset: u64, slide: u64, times: Times) -> bool
     requires { 1 ≤ slide }
     ensures { result ≡ has_bound offset slide times.low times.high }
 {

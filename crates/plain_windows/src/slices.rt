@@ -1,15 +1,15 @@
 //! How many slices the unsettled tuples of a key have.
 ghost use Rattle.std.specs.Prelude.{◌≡◌, ◌≤◌, drop, length};
 ghost use Rattle.std.specs.List.{list_all};
-ghost use Rattle.stream_base.specs.Model.Slices.{is_events, is_settled_in, runs_of, unsettled};
+ghost use Rattle.stream_base.specs.Model.Slices.{is_settled_in, runs_of, unsettled};
 ghost use Rattle.window_laws.specs.Positions.{HaveDistinctPositions};
 ghost use Rattle.plain_windows.specs.Turns.{IsTurnOf};
 
 use crate::cuts::{Times, has_cut};
-use crate::find::first_above;
+use crate::kinds::{counts_events, first_above};
 use crate::view::View;
 use crate::window::{Window, windows_of};
-use stream_base::{Defs, Kind};
+use stream_base::Defs;
 
 /// How many slices the tuples have that aren't settled, under these definitions: the maximal
 /// stretches of them with no cut between neighbours. Settled tuples come first, so it looks for the
@@ -52,16 +52,6 @@ fn first_unsettled_in(window: &Window, lateness: u64, view: &View) -> usize
     match first_above(window, view, water) {
         Some(extent) => extent.first,
         None => view.len(),
-    }
-}
-
-// Whether a window is one of event counts.
-fn counts_events(window: &Window) -> bool
-    ensures { result ≡ is_events window.now.kind }
-{
-    match window.def.kind {
-        Kind::Events { .. } => true,
-        _ => false,
     }
 }
 

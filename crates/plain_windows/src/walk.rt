@@ -5,7 +5,7 @@ ghost use Rattle.stream_base.specs.Model.Windows.{instances_of};
 ghost use Rattle.plain_windows.specs.Walks.{IsFirstLeft, left_of};
 
 use crate::extent::Extent;
-use crate::find::{first_above, first_from};
+use crate::kinds::{first_above, first_from};
 use crate::view::View;
 use crate::window::Window;
 

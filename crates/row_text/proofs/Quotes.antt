@@ -1,8 +1,8 @@
 -- A field in one's own words is csv's.
-use Rattle.std.proofs.Common.{◌≡◌, ◌∙◌, ℕ, Bool, true, false, cond, eqb, List, [], ◌∷◌, ◌++◌, ap, refl}
+use Rattle.std.proofs.Common.{◌≡◌, ℕ, Bool, true, false, cond, eqb, List, [], ◌∷◌, ◌++◌, ap, refl}
 use Rattle.std.specs.List.{flat_map}
-use Rattle.csv.specs.Writing.{default_writer, escaped, field_text, needs_quotes, quoted}
-use Rattle.row_text.specs.Lines.{csv_byte, csv_field, csv_quoted}
+use Rattle.csv.specs.Writing.{default_writer, escaped, field_text, needs_quotes}
+use Rattle.row_text.specs.Lines.{csv_byte, csv_field}
 
 escaped_is : (text : List ℕ) → flat_map csv_byte text ≡ escaped default_writer text
 unfolding escaped

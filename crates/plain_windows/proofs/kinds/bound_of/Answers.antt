@@ -3,7 +3,7 @@ use Rattle.std.proofs.Common.{sym, subst}
 use Rattle.stream_base.specs.declared.kind.Kind.{Kind}
 use Rattle.plain_windows.specs.Changing.{BringsBound, BringsNoneBelow, KeepsBounds}
 use Rattle.plain_windows.proofs.Ahead.{brings_sliding, brings_tumbling, keeps_sliding, keeps_tumbling, one_sliding, one_tumbling}
-use Rattle.plain_windows.proofs.completions.bound_of.Goals as goal
+use Rattle.plain_windows.proofs.kinds.bound_of.Goals as goal
 
 pub returns-in-Tumbling-clause-none_below : goal.returns-in-Tumbling-clause-none_below
 returns-in-Tumbling-clause-none_below c =
