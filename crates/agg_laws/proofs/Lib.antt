@@ -1,3 +1,4 @@
 pub mod Totals
 pub mod RisingPairs
+pub mod Distances
 pub mod Examples

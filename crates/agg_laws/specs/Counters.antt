@@ -1,5 +1,5 @@
 -- How a counter goes up.
-use Rattle.std.specs.Prelude.{◌≡◌, ◌≤◌, ◌+◌, ◌-◌, ◌^◌, ℕ, min}
+use Rattle.std.specs.Prelude.{◌≡◌, ◌≤◌, ◌+◌, ◌-◌, ◌*◌, ◌^◌, ℕ, min}
 
 -- one more, up to the last number of 64 bits, where a counter stays
 abbrev pub next_count : ℕ → ℕ
@@ -20,6 +20,13 @@ pub record Looks (most old new : ℕ) : Type 0 where
 pub record Works (most looked looks made makes : ℕ) : Type 0 where
   pub rises : looked ≤ looks
   pub cost : makes ≤ made + most
+
+-- a change took no more levels than a tree of this reach has, and no more than is near where so many pairs lie behind the change; its work goes by those levels
+pub record WorksNear (Near : ℕ → ℕ → Type 0) (behind reach looked looks made makes : ℕ) : Type 0 where
+  pub levels : ℕ
+  pub near : Near levels behind
+  pub within : levels ≤ reach
+  pub work : Works (64 * (levels + 2)) looked looks made makes
 
 -- so many steps were made at most, and at most one for each of so many pairs
 pub record Spends (most pairs made makes : ℕ) : Type 0 where

@@ -47,6 +47,10 @@ least_key pairs = option_map (λ p. p.0) (slice_get pairs 0)
 abbrev pub values_of : {M : Type 0} → List (ℕ × M) → List M
 values_of pairs = map (λ p. p.1) pairs
 
+-- how many pairs have a greater key
+abbrev pub distance : {M : Type 0} → ℕ → List (ℕ × M) → ℕ
+distance key pairs = length (filter (λ p. nat_lt key p.0) pairs)
+
 -- the pair with the key stands at this place
 pub record StandsAt {M : Type 0} (wanted at : ℕ) (pairs : List (ℕ × M)) : Type 0 where
   pub within : at < length pairs

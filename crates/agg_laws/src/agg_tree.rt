@@ -1,7 +1,7 @@
 ghost use Rattle.std.specs.Prelude.{◌≡◌, ◌≤◌, ◌+◌, ◌*◌, ℕ, [], length, IsTrue};
-ghost use Rattle.agg_laws.specs.Counters.{Works};
+ghost use Rattle.agg_laws.specs.Counters.{Works, WorksNear};
 ghost use Rattle.agg_laws.specs.Laws.{total};
-ghost use Rattle.agg_laws.specs.Pairs.{AreRising, has_key, within, values_of};
+ghost use Rattle.agg_laws.specs.Pairs.{AreRising, distance, has_key, within, values_of};
 ghost use Rattle.agg_laws.specs.Tables.{Inserts, IsHeight, IsLeast, IsReach, MayInsert, Removes, Replaces, Reserves, Table};
 
 use crate::monoid::Monoid;
@@ -13,9 +13,10 @@ use stream_base::NoMemory;
 /// Partial aggregates under rising keys, which can fold any range of keys.
 ///
 /// Its work is bounded by its reach: each call makes at most `64 * (reach + 2)` steps, and a fold
-/// at most half as many and at most one for each pair in its range. The reach grows by at most 1 at
-/// an `insert` and at no other call, and it is bounded by the number of pairs. `probes` counts the
-/// nodes that a call looks at, and doesn't fall.
+/// at most half as many and at most one for each pair in its range. A `set` makes at most
+/// `64 * (levels + 2)` for so many levels as are `near` where so many pairs lie behind its key. The
+/// reach grows by at most 1 at an `insert` and at no other call, and it is bounded by the number of
+/// pairs. `probes` counts the nodes that a call looks at, and doesn't fall.
 pub trait AggTree<M: Monoid> {
     // The pairs that the tree stands for, in the order of their keys, and for how many more room is
     // made.
@@ -26,6 +27,9 @@ pub trait AggTree<M: Monoid> {
 
     // How the reach of any tree is bounded by the number of its pairs.
     ghost bounded: { ℕ → ℕ → Type 0 };
+
+    // How the levels that a change may take are bounded by the number of pairs behind it.
+    ghost near: { ℕ → ℕ → Type 0 };
 
     /// An empty tree.
     fn fresh(alloc: Global) -> Self
@@ -51,6 +55,8 @@ pub trait AggTree<M: Monoid> {
         requires { IsTrue (has_key key (table self.old).pairs) }
         ensures replaces { Replaces key value (table self.old) (table self.new) }
         ensures reach { IsReach bounded (reach self.old) (table self.new) (reach self.new) }
+        ensures near { WorksNear near (distance key (table self.old).pairs) (reach self.old)
+            probes.old probes.new steps.old steps.new }
         ensures work { Works (64 * (reach self.old + 2))
             probes.old probes.new steps.old steps.new };
 

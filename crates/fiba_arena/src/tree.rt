@@ -1,7 +1,7 @@
 ghost use Rattle.std.specs.Prelude.{◌≡◌, ◌≤◌, ◌<◌, ◌+◌, ◌-◌, ◌*◌, ◌^◌, length, Some, IsTrue};
-ghost use Rattle.agg_laws.specs.Counters.{Works};
+ghost use Rattle.agg_laws.specs.Counters.{Works, WorksNear};
 ghost use Rattle.agg_laws.specs.Laws.{total};
-ghost use Rattle.agg_laws.specs.Pairs.{AreRising, has_key, within, values_of};
+ghost use Rattle.agg_laws.specs.Pairs.{AreRising, distance, has_key, within, values_of};
 ghost use Rattle.agg_laws.specs.Tables.{Inserts, IsHeight, IsReach, MayInsert, Removes, Replaces};
 ghost use Rattle.fiba_nodes.specs.Arena.{IsBalanced};
 
@@ -47,6 +47,9 @@ impl<M: Monoid> AggTree<M> for ArenaTree<M> {
 
     ghost bounded = { IsBalanced };
 
+    // Each way begins at the root, so that what lies behind a key promises nothing.
+    ghost near = { λ _ _. Unit {0} };
+
     fn fresh(alloc: Global) -> ArenaTree<M> {
         ArenaTree {
             nodes: Nodes::new(alloc),
@@ -89,6 +92,8 @@ impl<M: Monoid> AggTree<M> for ArenaTree<M> {
         requires { IsTrue (has_key key self.old.table.pairs) }
         ensures replaces { Replaces key value self.old.table self.new.table }
         ensures reach { IsReach IsBalanced self.old.height self.new.table self.new.height }
+        ensures near { WorksNear (λ _ _. Unit {0}) (distance key self.old.table.pairs)
+            self.old.height probes.old probes.new steps.old steps.new }
         ensures work { Works (16 * (self.old.height + 2))
             probes.old probes.new steps.old steps.new }
     {

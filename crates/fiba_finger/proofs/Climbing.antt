@@ -1,33 +1,26 @@
 -- One level of a climb along the right edge.
-use Rattle.std.proofs.Common.{◌≡◌, ◌≤◌, ◌<◌, ◌==◌, ◌||◌, ◌+◌, ◌-◌, ◌^◌, ◌++◌, ℕ, suc, Bool, true, false, cond, List, [], ◌∷◌, Some, length, refl, sym, ap, subst, ◌∙◌, arith, append_assoc}
-use Rattle.std.specs.Prelude.{filter, nat_lt, slice_get}
+use Rattle.std.proofs.Common.{◌≡◌, ◌≤◌, ◌<◌, ◌+◌, ◌-◌, ◌^◌, ◌++◌, ℕ, zero, suc, Bool, true, List, [], ◌∷◌, Some, length, refl, sym, ap, subst, ◌∙◌, arith, append_assoc}
+use Rattle.std.specs.Prelude.{nat_lt, slice_get}
 use Rattle.std.specs.List.{All}
 use Rattle.std.specs.Option.{option_map}
-use Rattle.std.proofs.lemmas.List.Elements.{All-head, All-tail, All-nil, All-weaker}
+use Rattle.std.proofs.lemmas.List.Elements.{All-nil, All-weaker}
 use Rattle.std.proofs.lemmas.Bool.Decides.{nat_tests}
-use Rattle.agg_laws.specs.Pairs.{AreRising, has_key}
-use Rattle.agg_laws.proofs.RisingPairs.{rising_first, rising_second}
+use Rattle.agg_laws.specs.Pairs.{AreRising, distance, has_key}
+use Rattle.agg_laws.proofs.Distances.{distance-end}
+use Rattle.agg_laws.proofs.RisingPairs.{rising_above, rising_first, rising_second}
 use Rattle.fiba_nodes.specs.declared.root.Root.{Root}
 use Rattle.fiba_nodes.specs.declared.slot.Slot.{Slot}
 use Rattle.fiba_nodes.specs.declared.node.Node.{Node}
 use Rattle.fiba_nodes.specs.Rows.{plain_node, slots_of}
 use Rattle.fiba_nodes.specs.Stores.{Store, look}
-use Rattle.fiba_nodes.specs.Trees.{IsAt, pair_of, pairs_at, plain, ups}
+use Rattle.fiba_nodes.specs.Trees.{IsAt, Look, pair_of, pairs_at, plain, ups}
 use Rattle.fiba_nodes.specs.Places.{EndsIn}
 use Rattle.fiba_nodes.specs.Roots.{IsTree}
 use Rattle.fiba_nodes.specs.Arena.{pairs_in}
-use Rattle.fiba_nodes.proofs.Tops.{all_behind, all_under, tall}
+use Rattle.fiba_nodes.proofs.Tops.{all_under, tall}
 use Rattle.fiba_finger.specs.Edges.{ahead, edge}
-use Rattle.fiba_finger.specs.Climbs.{IsClimbed, IsReached, distance}
+use Rattle.fiba_finger.specs.Climbs.{IsClimbed, IsReached}
 use Rattle.fiba_finger.proofs.Edges.{ahead_last, ahead_zero, edge_pairs, edge_sound, edge_up, left_at}
-
-first_false : (a b : Bool) → (a || b) ≡ false → a ≡ false
-first_false false b e = refl
-first_false true b e = cc
-
-second_false : (a b : Bool) → (a || b) ≡ false → b ≡ false
-second_false false b e = e
-second_false true b e = cc
 
 module _ {M : Type 0} where
   ends_with : (test : ℕ → Bool) (xs : List (ℕ × M)) (p : ℕ × M) → test p.0 ≡ true → EndsIn test (xs ++ p ∷ [])
@@ -35,29 +28,13 @@ module _ {M : Type 0} where
   ends_with test (x ∷ []) p t = t
   ends_with test (x ∷ y ∷ xs) p t = ends_with test (y ∷ xs) p t
 
-  none_middle : (key : ℕ) (xs : List (ℕ × M)) (p : ℕ × M) (ys : List (ℕ × M)) → has_key key (xs ++ p ∷ ys) ≡ false → (p.0 == key) ≡ false
-  none_middle key [] p ys h = first_false (p.0 == key) (has_key key ys) h
-  none_middle key (x ∷ xs) p ys h = none_middle key xs p ys (second_false (x.0 == key) (has_key key (xs ++ p ∷ ys)) h)
+  -- a tree in which some pair has a key has a level
+  pub some_level : (look : Look M) (h at key : ℕ) → has_key key (pairs_at look h at) ≡ true → 1 ≤ h
+  unfolding pairs_at
+  some_level look zero at key e = absurd cc
+  some_level look (suc h) at key e = omega arith
 
-  longer : (b : Bool) (x : ℕ × M) (xs : List (ℕ × M)) → length xs ≤ length (cond b (x ∷ xs) xs)
-  longer true x xs = omega arith
-  longer false x xs = omega arith
-
-  filter_whole : (test : ℕ × M → Bool) (ys : List (ℕ × M)) → All (λ q. test q ≡ true) ys → length ys ≤ length (filter test ys)
-  filter_whole test [] a = omega arith
-  filter_whole test (y ∷ ys) a =
-      let t : test y ≡ true = All-head (λ q. test q ≡ true) y ys a in
-      let rest = filter_whole test ys (All-tail (λ q. test q ≡ true) y ys a) in
-      rw t (omega arith)
-
-  filter_end : (test : ℕ × M → Bool) (xs ys : List (ℕ × M)) → All (λ q. test q ≡ true) ys → length ys ≤ length (filter test (xs ++ ys))
-  filter_end test [] ys a = filter_whole test ys a
-  filter_end test (x ∷ xs) ys a =
-      let rest = filter_end test xs ys a in
-      let more = longer (test x) x (filter test (xs ++ ys)) in
-      omega arith
-
-module _ {M : Type 0} (IsValue : M → Type 0) (empty : M) (op : M → M → M) (s : Store M) (root : Root) (key at below : ℕ) (tree : IsTree IsValue empty op s root true true) (rising : AreRising (pairs_in s root)) (absent : has_key key (pairs_in s root) ≡ false) (r : IsReached s root key at below) where
+module _ {M : Type 0} (IsValue : M → Type 0) (empty : M) (op : M → M → M) (s : Store M) (root : Root) (key at below : ℕ) (tree : IsTree IsValue empty op s root true true) (rising : AreRising (pairs_in s root)) (r : IsReached s root key at below) where
   pub here : IsAt IsValue empty op (plain s) (suc below) (left_at true (root.height - 1 - below)) true at
   here =
       let w = r.edge.within in
@@ -115,12 +92,8 @@ module _ {M : Type 0} (IsValue : M → Type 0) (empty : M) (op : M → M → M) 
           let p = pair_of slot.item in
           let rest = pairs_at (plain s) (suc below) at in
           let parts : pairs_in s root ≡ q.0 ++ p ∷ rest = q.2 ∙ append_assoc q.0 (p ∷ []) rest in
-          let other : (slot.item.key == key) ≡ false = none_middle key q.0 p rest (subst (λ ps. has_key key ps ≡ false) parts absent) in
-          let lt : nat_lt key slot.item.key ≡ true = grind (arith, nat_tests) in
           let up : AreRising (p ∷ rest) = rising_second q.0 (p ∷ rest) (subst AreRising parts rising) in
-          let over : All (λ x. key < x.0) (p ∷ rest) = all_behind key (p ∷ rest) up lt in
-          let pass : All (λ x. nat_lt key x.0 ≡ true) (p ∷ rest) = All-weaker (λ x. key < x.0) (λ x. nat_lt key x.0 ≡ true) (λ x h. grind (arith, nat_tests)) (p ∷ rest) over in
-          let many : length (p ∷ rest) ≤ distance key (pairs_in s root) = subst (λ ps. length (p ∷ rest) ≤ distance key ps) (sym parts) (filter_end (λ x. nat_lt key x.0) q.0 (p ∷ rest) pass) in
+          let many : length rest ≤ distance key (pairs_in s root) = subst (λ ps. length rest ≤ distance key ps) (sym q.2) (distance-end key (q.0 ++ p ∷ []) rest (All-weaker (λ x. p.0 < x.0) (λ x. key < x.0) (λ x h. omega arith) rest (rising_above [] rest p up))) in
           let high = tall IsValue empty op (plain s) (suc below) (left_at true (root.height - 1 - below)) true at here in
           let same : 2 ^ (below + 1) ≡ 2 ^ suc below = ap (λ k. 2 ^ k) (omega arith) in
           record { edge = record { within = inner; stands = sym is_parent }; near = omega (arith, many, high, same) }

@@ -247,39 +247,45 @@ module _ {M : Type 0} (IsValue : M → Type 0) (empty : M) (op : M → M → M) 
         let low : root.height - 1 ≡ suc b = omega arith in
         ap (λ n. left_edge (plain new) n root.at) low ∙ same ∙ ap (λ n. left_edge (plain old) n root.at) (sym low)
 
-    -- the node is written, and the tree is whole
-    pub ends : (new : Store M) (l right : Bool) → l ≡ false → right ≡ true → IsWritten IsValue empty op now new at below l right slots last → Moves (look now) (look new) (λ k. only k at + row_times k (plain now) below slots last) (λ k. times k (plain new) (suc below) at) → new.spare ≡ now.spare → ups new at ≡ Some parent → IsRaised IsValue empty op old new root root at below change
-    ends new l right le re written moves spare up =
-        let w : IsWritten IsValue empty op now new at below false true slots last = subst (λ b. IsWritten IsValue empty op now new at below b true slots last) le (subst (λ b. IsWritten IsValue empty op now new at below l b slots last) re written) in
-        let d = root.height - 1 - below in
-        let base : IsRegrown IsValue empty op old new at below false change r.taken = record {
-          sound = w.sound;
-          applies = subst (λ ps. Applies change r.taken (pairs_at (plain old) (suc below) at) ps) (sym w.pairs) r.applied.applies;
-          moves = moves-then (look old) (look now) (look new) (λ k. times k (plain old) (suc below) at) (λ k. only k at + row_times k (plain now) below slots last) (λ k. times k (plain new) (suc below) at) r.applied.moves moves;
-          room = let a = w.weighs (λ _. 1) in let b = r.applied.room in omega arith;
-          linked = w.linked;
-          up = up ∙ sym (r.up inner);
-        } in
-        let flag : left_at true d ≡ false = ap (left_at true) next in
-        let there : IsRegrown IsValue empty op old new (edge (plain old) d root.at) below (left_at true d) change r.taken = subst (λ k. IsRegrown IsValue empty op old new k below (left_at true d) change r.taken) (sym r.can.edge.stands) (subst (λ b. IsRegrown IsValue empty op old new at below b change r.taken) (sym flag) base) in
-        let high : root.height ≡ suc (root.height - 1) = omega arith in
-        let top = can_root IsValue empty op old root at below change r.can in
-        let lower : All (λ p. stands_before change p.0 ≡ true) (ahead (plain old) (suc (root.height - 1)) d root.at) = subst (λ h. All (λ p. stands_before change p.0 ≡ true) (ahead (plain old) h d root.at)) high r.can.lower in
-        let whole = lifted IsValue empty op change old new (root.height - 1) d below root.at true r.taken (omega arith) top lower there in
-        let g = whole.0 in
-        let tall : Root = record { at = root.at; height = suc (root.height - 1) } in
-        let c : IsChanged IsValue empty op old new tall tall true true change r.taken = record {
-          tree = record { sound = g.sound; owned = λ k. let a = g.moves.counts k in let o = top.owned k in omega arith; linked = g.linked };
-          applies = g.applies;
-          room = g.room;
-          higher = omega arith;
-        } in
-        record {
-          taken = r.taken;
-          changed = subst (λ h. IsChanged IsValue empty op old new (record { at = root.at; height = h }) (record { at = root.at; height = h }) true true change r.taken) (sym high) c;
-          edge = record { within = r.can.edge.within; stands = whole.1 ∙ r.can.edge.stands };
-          front = λ lt. (refl, left_end new base.moves);
-        }
+  -- the node is written in its place, and the tree is whole
+  pub rewritten : (new : Store M) (l right : Bool) → l ≡ left_at true (root.height - 1 - below) → right ≡ true → IsWritten IsValue empty op now new at below l right slots last → Moves (look now) (look new) (λ k. only k at + row_times k (plain now) below slots last) (λ k. times k (plain new) (suc below) at) → new.spare ≡ now.spare → ups new at ≡ ups old at → IsRaised IsValue empty op old new root root at below change
+  rewritten new l right le re written moves spare up =
+      let d = root.height - 1 - below in
+      let w : IsWritten IsValue empty op now new at below (left_at true d) true slots last = subst (λ b. IsWritten IsValue empty op now new at below b true slots last) le (subst (λ b. IsWritten IsValue empty op now new at below l b slots last) re written) in
+      let base : IsRegrown IsValue empty op old new at below (left_at true d) change r.taken = record {
+        sound = w.sound;
+        applies = subst (λ ps. Applies change r.taken (pairs_at (plain old) (suc below) at) ps) (sym w.pairs) r.applied.applies;
+        moves = moves-then (look old) (look now) (look new) (λ k. times k (plain old) (suc below) at) (λ k. only k at + row_times k (plain now) below slots last) (λ k. times k (plain new) (suc below) at) r.applied.moves moves;
+        room = let a = w.weighs (λ _. 1) in let b = r.applied.room in omega arith;
+        linked = w.linked;
+        up = up;
+      } in
+      let there : IsRegrown IsValue empty op old new (edge (plain old) d root.at) below (left_at true d) change r.taken = subst (λ k. IsRegrown IsValue empty op old new k below (left_at true d) change r.taken) (sym r.can.edge.stands) base in
+      let within = r.can.edge.within in
+      let high : root.height ≡ suc (root.height - 1) = omega arith in
+      let top = can_root IsValue empty op old root at below change r.can in
+      let lower : All (λ p. stands_before change p.0 ≡ true) (ahead (plain old) (suc (root.height - 1)) d root.at) = subst (λ h. All (λ p. stands_before change p.0 ≡ true) (ahead (plain old) h d root.at)) high r.can.lower in
+      let whole = lifted IsValue empty op change old new (root.height - 1) d below root.at true r.taken (omega arith) top lower there in
+      let g = whole.0 in
+      let tall : Root = record { at = root.at; height = suc (root.height - 1) } in
+      let c : IsChanged IsValue empty op old new tall tall true true change r.taken = record {
+        tree = record { sound = g.sound; owned = λ k. let a = g.moves.counts k in let o = top.owned k in omega arith; linked = g.linked };
+        applies = g.applies;
+        room = g.room;
+        higher = omega arith;
+      } in
+      record {
+        taken = r.taken;
+        changed = subst (λ h. IsChanged IsValue empty op old new (record { at = root.at; height = h }) (record { at = root.at; height = h }) true true change r.taken) (sym high) c;
+        edge = record { within = r.can.edge.within; stands = whole.1 ∙ r.can.edge.stands };
+        front = λ lt. (refl, left_end lt new base.moves);
+      }
+
+  -- so it is where the node isn't the root
+  pub ends : (inner : below + 1 < root.height) (new : Store M) (l right : Bool) → l ≡ false → right ≡ true → IsWritten IsValue empty op now new at below l right slots last → Moves (look now) (look new) (λ k. only k at + row_times k (plain now) below slots last) (λ k. times k (plain new) (suc below) at) → new.spare ≡ now.spare → ups new at ≡ Some parent → IsRaised IsValue empty op old new root root at below change
+  ends inner new l right le re written moves spare up =
+      let flag : left_at true (root.height - 1 - below) ≡ false = ap (left_at true) (next inner) in
+      rewritten new l right (le ∙ sym flag) re written moves spare (up ∙ sym (r.up inner))
 
   module _ (b : ℕ) (b_is : b ≡ root.height - 1) (here : below ≡ b) where
     at_root : at ≡ root.at

@@ -1,10 +1,9 @@
 -- Climbing along the right edge of a tree, and what is done there.
-use Rattle.std.specs.Prelude.{◌≡◌, ◌≤◌, ◌<◌, ◌+◌, ◌-◌, ◌^◌, ℕ, true, false, List, Option, All, filter, length, nat_lt}
-use Rattle.agg_laws.specs.Pairs.{AreRising, has_key}
+use Rattle.std.specs.Prelude.{◌≡◌, ◌≤◌, ◌<◌, ◌+◌, ◌-◌, ◌^◌, ℕ, true, List, Option, All}
+use Rattle.agg_laws.specs.Pairs.{AreRising, distance}
 use Rattle.fiba_nodes.specs.declared.item.Item.{Item}
 use Rattle.fiba_nodes.specs.declared.root.Root.{Root}
 use Rattle.fiba_nodes.specs.declared.change.Change.{Change}
-use Rattle.fiba_nodes.specs.declared.change.Change.TheVariants.{Insert}
 use Rattle.fiba_nodes.specs.Stores.{Store}
 use Rattle.fiba_nodes.specs.Trees.{plain}
 use Rattle.fiba_nodes.specs.Changes.{stands_before}
@@ -12,9 +11,9 @@ use Rattle.fiba_nodes.specs.Roots.{CanChange, IsChanged, IsTree}
 use Rattle.fiba_nodes.specs.Arena.{pairs_in}
 use Rattle.fiba_finger.specs.Edges.{ahead, edge, left_edge}
 
--- how many pairs have a greater key
-abbrev pub distance : {M : Type 0} → ℕ → List (ℕ × M) → ℕ
-distance key pairs = length (filter (λ p. nat_lt key p.0) pairs)
+-- a change may climb so many levels where so many pairs lie behind its key
+abbrev pub IsNear : ℕ → ℕ → Type 0
+IsNear levels behind = 2 ^ levels ≤ behind + 1
 
 -- the node stands on the right edge, with so many levels of nodes below it
 pub record IsOnEdge {M : Type 0} (store : Store M) (root : Root) (at below : ℕ) : Type 0 where
@@ -24,13 +23,12 @@ pub record IsOnEdge {M : Type 0} (store : Store M) (root : Root) (at below : ℕ
 -- a climb has reached the node, and the distance of the key covers it
 pub record IsReached {M : Type 0} (store : Store M) (root : Root) (key at below : ℕ) : Type 0 where
   pub edge : IsOnEdge store root at below
-  pub near : 2 ^ below ≤ distance key (pairs_in store root) + 1
+  pub near : IsNear below (distance key (pairs_in store root))
 
--- from there the climb can go on to the place of a key that isn't in the tree
+-- from there the climb can go on to the place of a key
 pub record CanClimb {M : Type 0} (IsValue : M → Type 0) (empty : M) (op : M → M → M) (store : Store M) (root : Root) (key at below : ℕ) : Type 0 where
   pub tree : IsTree IsValue empty op store root true true
   pub rising : AreRising (pairs_in store root)
-  pub absent : has_key key (pairs_in store root) ≡ false
   pub reached : IsReached store root key at below
 
 -- a climb has reached the node, and the place of the key lies in the tree of that node: all that stands before this tree has lower keys
@@ -51,7 +49,7 @@ pub record IsRaised {M : Type 0} (IsValue : M → Type 0) (empty : M) (op : M �
   pub edge : IsOnEdge new grown top below
   pub front : below + 1 < grown.height → (grown.height ≡ root.height) × (left_edge (plain new) (grown.height - 1) grown.at ≡ left_edge (plain old) (root.height - 1) root.at)
 
--- an item was put into a tree
-pub record IsPut {M : Type 0} (IsValue : M → Type 0) (empty : M) (op : M → M → M) (old new : Store M) (root grown : Root) (item : Item M) : Type 0 where
+-- an item was put into a tree, be it in the place of another
+pub record IsPut {M : Type 0} (IsValue : M → Type 0) (empty : M) (op : M → M → M) (old new : Store M) (root grown : Root) (change : Change M) : Type 0 where
   pub taken : Option (Item M)
-  pub changed : IsChanged IsValue empty op old new root grown true true (Insert item) taken
+  pub changed : IsChanged IsValue empty op old new root grown true true change taken

@@ -6,8 +6,8 @@ use agg_laws::{Monoid, Probes};
 use fiba_nodes::{Nodes, Root};
 
 /// From a node on the right edge up to the first one whose tree has the place of a key. At each
-/// level that is climbed the key has an item of the parent behind it, and so the whole tree that is
-/// left.
+/// level that is climbed the key isn't behind the last item of the parent, and so the whole tree that
+/// is left lies behind the key.
 pub fn climb<M: Monoid>(
     nodes: &Nodes<M>,
     root: Root,

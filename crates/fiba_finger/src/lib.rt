@@ -25,6 +25,8 @@ mod growing;
 mod grown;
 mod put;
 mod raised;
+mod renewing;
+mod set;
 mod take;
 mod tree;
 
@@ -35,4 +37,5 @@ pub use edge::{leftmost, right_place, rightmost};
 pub use growing::raise;
 pub use grown::Grown;
 pub use raised::Raised;
+pub use renewing::renew;
 pub use tree::FingerTree;

@@ -1,11 +1,11 @@
-ghost use Rattle.std.specs.Prelude.{◌≡◌, ◌≤◌, ◌<◌, ◌+◌, ◌-◌, ◌*◌, ◌^◌, false, true};
+ghost use Rattle.std.specs.Prelude.{◌≡◌, ◌≤◌, ◌<◌, ◌+◌, ◌-◌, ◌*◌, ◌^◌, true};
 ghost use Rattle.agg_laws.specs.Counters.{Looks};
-ghost use Rattle.agg_laws.specs.Pairs.{AreRising, has_key};
+ghost use Rattle.agg_laws.specs.Pairs.{AreRising, distance};
 ghost use Rattle.fiba_nodes.specs.Arena.{pairs_in};
 ghost use Rattle.fiba_nodes.specs.Stores.{full_nodes};
 ghost use Rattle.fiba_nodes.specs.Roots.{CanChange, IsTree};
 ghost use Rattle.fiba_nodes.specs.declared.change.Change.TheVariants.{Insert};
-ghost use Rattle.fiba_finger.specs.Climbs.{IsPut, distance};
+ghost use Rattle.fiba_finger.specs.Climbs.{IsPut};
 ghost use Rattle.fiba_finger.specs.Fingers.{IsFinger, IsFront, KeepsFront};
 
 use crate::ascending::climb;
@@ -37,10 +37,10 @@ pub fn put_near<M: Monoid, L>(
 ) -> Put
     requires can { CanChange M.is_value M.empty M.op nodes.old root true true (Insert item) }
     requires rising { AreRising (pairs_in nodes.old root) }
-    requires absent { has_key item.key (pairs_in nodes.old root) ≡ false }
     requires front { IsFront nodes.old root front }
     requires finger { IsFinger nodes.old root finger }
-    ensures put { IsPut M.is_value M.empty M.op nodes.old nodes.new root result.root item }
+    ensures put { IsPut M.is_value M.empty M.op nodes.old nodes.new root result.root
+        (Insert item) }
     ensures front { IsFront nodes.new result.root result.front }
     ensures finger { IsFinger nodes.new result.root result.finger }
     ensures near { 2 ^ result.grown.climbs ≤ distance item.key (pairs_in nodes.old root) + 1 }
@@ -115,9 +115,9 @@ pub fn start_of<M: Monoid>(nodes: &Nodes<M>, root: Root, probes: &mut Probes) ->
     leftmost(nodes, root.at, root.height - 1, right_place(true), probes)
 }
 
-// The first leaf after an insertion that wrote no node above a level: the one from before, unless
-// the root was written too.
-fn front_after<M: Monoid>(
+/// The first leaf after a change that wrote no node above a level: the one from before, unless the
+/// root was written too.
+pub fn front_after<M: Monoid>(
     nodes: &Nodes<M>,
     root: Root,
     below: u32,

@@ -1,18 +1,19 @@
 ghost use Rattle.std.specs.Prelude.{◌≡◌, ◌≤◌, ◌<◌, ◌+◌, ◌-◌, ◌*◌, ◌^◌, [], length, IsTrue};
-ghost use Rattle.agg_laws.specs.Counters.{Looks, Works};
+ghost use Rattle.agg_laws.specs.Counters.{Looks, Works, WorksNear};
 ghost use Rattle.agg_laws.specs.Laws.{total};
-ghost use Rattle.agg_laws.specs.Pairs.{AreRising, has_key, within, values_of};
+ghost use Rattle.agg_laws.specs.Pairs.{AreRising, distance, has_key, within, values_of};
 ghost use Rattle.agg_laws.specs.Tables.{Inserts, IsHeight, IsLeast, IsReach, MayInsert, Removes, Replaces, Reserves};
 ghost use Rattle.fiba_nodes.specs.Arena.{IsBalanced};
-ghost use Rattle.fiba_finger.specs.Climbs.{distance};
+ghost use Rattle.fiba_finger.specs.Climbs.{IsNear};
 ghost use Rattle.fiba_finger.specs.Fingers.{Shrinks};
 
 use crate::edge::right_place;
 use crate::grown::Grown;
 use crate::put::{end_of, put_near, start_of};
+use crate::set::set_near;
 use crate::take::take;
 use agg_laws::{AggTree, Monoid, Probes, Steps};
-use fiba_nodes::{Bound, Change, Item, Nodes, Root, change_root, fold_span};
+use fiba_nodes::{Bound, Item, Nodes, Root, fold_span};
 use std::alloc::Global;
 use std::marker::Model;
 use stream_base::NoMemory;
@@ -103,6 +104,8 @@ impl<M: Monoid> AggTree<M> for FingerTree<M> {
 
     ghost bounded = { IsBalanced };
 
+    ghost near = { IsNear };
+
     /// An empty tree.
     fn fresh(alloc: Global) -> FingerTree<M>
         ensures empty { result.table.pairs ≡ [] }
@@ -149,22 +152,32 @@ impl<M: Monoid> AggTree<M> for FingerTree<M> {
         let _grown = self.insert_near(key, value, probes, steps);
     }
 
-    /// Puts another value under a key that is there. At most `16 * (height + 2)` steps.
+    /// Puts another value under a key that is there, from the last leaf: it climbs as many levels as
+    /// an insertion there, and writes anew only what lies on the way down from the node that it
+    /// reaches. At most `8 * (levels + 1)` steps.
     fn set<L>(&mut self, key: u64, value: M, probes: &mut Probes, steps: &mut Steps<L>)
         requires { IsTrue (has_key key self.old.table.pairs) }
         ensures replaces { Replaces key value self.old.table self.new.table }
         ensures reach { IsReach IsBalanced self.old.height self.new.table self.new.height }
         ensures full { self.new.full ≡ self.old.full }
+        ensures near { WorksNear IsNear (distance key self.old.table.pairs) self.old.height
+            probes.old probes.new steps.old steps.new }
         ensures work { Works (16 * (self.old.height + 2))
             probes.old probes.new steps.old steps.new }
     {
         value.vouch();
-        let change = Change::Set(Item { key, value });
-        let place = right_place(true);
-        let changed = change_root(&mut self.nodes, self.root, place, change, probes, steps);
-        self.root = changed.root;
-        self.front = start_of(&self.nodes, self.root, probes);
-        self.finger = end_of(&self.nodes, self.root, probes);
+        let item = Item { key, value };
+        let set = set_near(
+            &mut self.nodes,
+            self.root,
+            self.front,
+            self.finger,
+            item,
+            probes,
+            steps,
+        );
+        self.front = set.front;
+        self.finger = set.finger;
     }
 
     /// Takes out the pair with this key and gives its value, `None` exactly where there is none. At

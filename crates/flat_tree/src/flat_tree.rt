@@ -29,6 +29,9 @@ impl<M: Monoid> AggTree<M> for FlatTree<M> {
 
     ghost bounded = { λ reach count. reach ≡ count };
 
+    // A value is put in the place of another with no combine, however many lie behind it.
+    ghost near = { λ levels _. IsFlat levels };
+
     fn fresh(alloc: Global) -> FlatTree<M> {
         FlatTree {
             row: PairRow::new(alloc),

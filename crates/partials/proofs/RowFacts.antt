@@ -1,15 +1,17 @@
 -- What an edit of pairs is, where the newest of them stand in a row beside the rest.
-use Rattle.std.proofs.Common.{◌≡◌, ◌∙◌, ℕ, ◌+◌, ◌*◌, ◌^◌, ◌<◌, ◌≤◌, zero, suc, Bool, true, false, not, cond, ◌||◌, Some, List, [], ◌∷◌, ◌++◌, length, ap, sym, subst, refl, arith, append_assoc, length-append}
-use Rattle.std.specs.Prelude.{◌==◌, ◌&&◌, ◌/◌, ◌-◌, find, max, nat_le, nat_lt}
+use Rattle.std.proofs.Common.{◌≡◌, ◌∙◌, ℕ, ◌+◌, ◌*◌, ◌^◌, ◌<◌, ◌≤◌, zero, suc, Bool, true, false, not, cond, ◌||◌, Some, List, [], ◌∷◌, ◌++◌, length, ap, sym, subst, refl, arith, append_assoc, length-append, inl, inr}
+use Rattle.std.specs.Prelude.{◌⊎◌, ◌==◌, ◌&&◌, ◌/◌, ◌-◌, find, max, nat_le, nat_lt}
 use Rattle.std.specs.Option.{option_map}
 use Rattle.std.proofs.lemmas.Bool.Decides.{nat_tests}
 use Rattle.std.proofs.lemmas.List.{append-nil, map-append}
 use Rattle.std.proofs.lemmas.List.Elements.{All-append, All-cons, All-filter, All-map, All-nil, All-weaker, filter-append}
 use Rattle.std.proofs.lemmas.List.Folds.{list_any-append}
-use Rattle.agg_laws.specs.Pairs.{AreRising, has_key, inserted, least_key, pairs_below, pairs_from, replaced, value_at, within, without}
+use Rattle.agg_laws.specs.Counters.{WorksNear}
+use Rattle.agg_laws.specs.Pairs.{AreRising, distance, has_key, inserted, least_key, pairs_below, pairs_from, replaced, value_at, within, without}
+use Rattle.agg_laws.proofs.Distances.{distance-append, distance-end}
 use Rattle.agg_laws.proofs.RisingPairs.{has_key-between, inserted-parts, pairs_below-parts, pairs_from-parts, replaced-absent, rising_above, value_at-absent, value_at-middle, without-absent, without-middle}
-use Rattle.stream_base.proofs.Filters.{filter_none}
-use Rattle.partials.specs.Apart.{AreBelow, AreFrom, IsReachOver, row_reach}
+use Rattle.stream_base.proofs.Filters.{cases_of, filter_none}
+use Rattle.partials.specs.Apart.{AreBelow, AreFrom, IsReachOver, SpendsNear, row_reach}
 
 left_false : (a b : Bool) → (a || b) ≡ false → a ≡ false
 left_false true b h = h
@@ -251,3 +253,49 @@ reach_over bounded inside near reach b few = record {
   row = omega (arith, length-append inside near, row_bounded (length near) few);
   is = refl;
 }
+
+-- ---- how many partials lie behind one, and what that costs
+module _ {M : Type 0} where
+  -- where so many stand in the row, all that has fewer behind it stands there
+  pub full_row : (edge time : ℕ) (xs ys : List (ℕ × M)) → AreFrom edge ys → 256 ≤ length ys → distance time (xs ++ ys) < 256 → edge ≤ time
+  full_row edge time xs ys from many few = by (cases_of (nat_lt time edge))
+    where
+      by : (nat_lt time edge ≡ true) ⊎ (nat_lt time edge ≡ false) → edge ≤ time
+      by (inl before) =
+          let l : time < edge = grind (arith, nat_tests) in
+          absurd (omega (arith, distance-end time xs ys (All-weaker (λ p. edge ≤ p.0) (λ p. time < p.0) (λ p h. omega arith) ys from)))
+      by (inr behind) = grind (arith, nat_tests)
+
+module _ (Near : ℕ → ℕ → Type 0) where
+  -- a change of a tree with so many steps before it
+  pub near_in_tree : (behind reach more looked looks begun made makes : ℕ) → WorksNear Near behind reach looked looks made makes → made ≤ begun + more → SpendsNear Near behind reach more begun makes
+  near_in_tree behind reach more looked looks begun made makes w before = record {
+    levels = w.levels;
+    pairs = behind;
+    fewer = omega arith;
+    near = λ _. w.near;
+    within = w.within;
+    cost = omega (arith, w.work.cost, before);
+  }
+
+  -- and with a row behind the tree
+  pub near_before_row : {M : Type 0} (low : ℕ) (xs ys : List (ℕ × M)) (reach row more made makes : ℕ) → SpendsNear Near (distance low xs) reach more made makes → SpendsNear Near (distance low (xs ++ ys)) (max reach row) more made makes
+  near_before_row low xs ys reach row more made makes s = record {
+    levels = s.levels;
+    pairs = s.pairs;
+    fewer = omega (arith, s.fewer, distance-append low xs ys);
+    near = s.near;
+    within = omega (arith, s.within);
+    cost = s.cost;
+  }
+
+  -- a change of the row takes no level
+  pub near_in_row : (behind reach more made makes : ℕ) → makes ≤ made + more → SpendsNear Near behind reach more made makes
+  near_in_row behind reach more made makes cost = record {
+    levels = 0;
+    pairs = 0;
+    fewer = omega arith;
+    near = λ some. absurd (omega arith);
+    within = omega arith;
+    cost = omega arith;
+  }

@@ -1,18 +1,33 @@
 -- Pairs in a tree, and the newest ones in a row beside it.
-use Rattle.std.specs.Prelude.{◌≡◌, ◌≤◌, ◌<◌, ◌+◌, ◌-◌, ◌/◌, ◌^◌, ◌||◌, ℕ, Bool, List, Some, length, max, min, nat_le, nat_lt, if◌then◌else◌, All}
-use Rattle.agg_laws.specs.Pairs.{value_at}
+use Rattle.std.specs.Prelude.{◌≡◌, ◌≤◌, ◌<◌, ◌+◌, ◌-◌, ◌*◌, ◌/◌, ◌^◌, ◌||◌, ℕ, Bool, List, Some, length, max, min, nat_le, nat_lt, if◌then◌else◌, All}
+use Rattle.agg_laws.specs.Pairs.{distance, value_at}
 use Rattle.aggregates.specs.Bundled.{Bundled, IsBundle}
 
--- pairs of the time of a slice's first tuple and the slice's partial, for how many more there is room, and what the bounds on steps go by
+-- pairs of the time of a slice's first tuple and the slice's partial, for how many more there is room, what the bounds on steps go by, and from which time on partials stand in the row
 pub record Sums : Type 0 where
   pub pairs : List (ℕ × Bundled)
   pub spare : ℕ
   pub reach : ℕ
+  pub edge : ℕ
 
--- no room was used, and the reach didn't grow
+-- no room was used, the reach didn't grow, and the row begins where it did
 pub record KeepsRoom (old new : Sums) : Type 0 where
   pub spare : old.spare ≤ new.spare
   pub reach : new.reach ≤ old.reach
+  pub edge : new.edge ≡ old.edge
+
+-- a partial changed that has so many behind it: no level of a tree was taken in the row, and else no more than are near where no more than these lie behind; the steps go by the levels, and so many may come on top
+pub record SpendsNear (Near : ℕ → ℕ → Type 0) (behind reach more made makes : ℕ) : Type 0 where
+  pub levels : ℕ
+  pub pairs : ℕ
+  pub fewer : pairs ≤ behind
+  pub near : 1 ≤ levels → Near levels pairs
+  pub within : levels ≤ reach
+  pub cost : makes ≤ made + (64 * (levels + 2) + more)
+
+-- a partial that stood in the row stands there still, and one that came from where the row began stands there now, unless 256 lie behind it
+abbrev pub KeepsRow : Sums → Sums → Type 0
+KeepsRow old new = (time : ℕ) → old.edge ≤ time → distance time new.pairs < 256 → new.edge ≤ time
 
 -- the partial under a time is read, in one step at most
 pub record Reads (low : ℕ) (pairs : List (ℕ × Bundled)) (read : Bundled) (made makes : ℕ) : Type 0 where

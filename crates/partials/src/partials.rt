@@ -3,8 +3,8 @@ ghost use Rattle.std.specs.Prelude.{◌≡◌, ◌≤◌, ◌<◌, ◌+◌, ◌*
 ghost use Rattle.aggregates.specs.Bundled.{Bundled, IsBundle, bundles_combined, empty_bundle};
 ghost use Rattle.agg_laws.specs.Counters.{Spends};
 ghost use Rattle.agg_laws.specs.Laws.{total};
-ghost use Rattle.agg_laws.specs.Pairs.{has_key, inserted, least_key, replaced, value_at, values_of, within, without};
-ghost use Rattle.partials.specs.Apart.{AreBelow, AreFrom, IsReachOver, KeepsRoom, Reads, may_need_tree};
+ghost use Rattle.agg_laws.specs.Pairs.{distance, has_key, inserted, least_key, replaced, value_at, values_of, within, without};
+ghost use Rattle.partials.specs.Apart.{AreBelow, AreFrom, IsReachOver, KeepsRoom, KeepsRow, Reads, SpendsNear, may_need_tree};
 
 use agg_laws::{AggTree, Monoid, Probes, Steps};
 use aggregates::Bundle;
@@ -42,6 +42,7 @@ impl<T: AggTree<Bundle>> Model for Partials<T> {
           (may_need_tree p.edge (length ((T.table p.tree).pairs ++ p.near.pairs)))
           (T.table p.tree).spare p.near.spare;
       reach = max (T.reach p.tree) (row_reach (length p.near.pairs));
+      edge = p.edge;
     } };
 
     ghost invariant = { λ p. AreApart (T.table p.tree).pairs p.near.pairs p.edge };
@@ -52,6 +53,7 @@ impl<T: AggTree<Bundle>> Partials<T> {
     pub fn new(alloc: Global) -> Partials<T>
         ensures pairs { (result).pairs ≡ [] }
         ensures reach { (result).reach ≡ 0 }
+        ensures edge { (result).edge ≡ 0 }
     {
         Partials {
             tree: T::fresh(alloc),
@@ -66,6 +68,7 @@ impl<T: AggTree<Bundle>> Partials<T> {
         ensures spare { (self.old).spare ≤ (self.new).spare }
         ensures pairs { (self.new).pairs ≡ (self.old).pairs }
         ensures reach { (self.new).reach ≡ (self.old).reach }
+        ensures edge { (self.new).edge ≡ (self.old).edge }
         ensures bounded { IsReachOver T.bounded (length (self.new).pairs) (self.new).reach }
     {
         if needs_tree(&self.tree, &self.near, self.edge) {
@@ -88,6 +91,7 @@ impl<T: AggTree<Bundle>> Partials<T> {
         ensures inserted { (self.new).pairs ≡ inserted low partial (self.old).pairs }
         ensures spare { (self.old).spare ≤ (self.new).spare + 1 }
         ensures reach { (self.new).reach ≤ (self.old).reach + 1 }
+        ensures row { KeepsRow self.old self.new }
         ensures cost { steps.new ≤ steps.old + 64 * ((self.old).reach + 2) }
     {
         let mut probes = Probes::new();
@@ -100,11 +104,15 @@ impl<T: AggTree<Bundle>> Partials<T> {
         }
     }
 
-    /// Puts another partial under a time that has one.
+    /// Puts another partial under a time that has one: with no step in the row, and else with as
+    /// many as a tree takes where no more partials lie behind.
     pub fn set<L>(&mut self, low: u64, partial: Bundle, steps: &mut Steps<L>)
         requires { IsTrue (has_key low (self.old).pairs) }
         ensures replaced { (self.new).pairs ≡ replaced low partial (self.old).pairs }
         ensures keeps { KeepsRoom self.old self.new }
+        ensures row { (self.old).edge ≤ low → steps.new ≤ steps.old }
+        ensures near { SpendsNear T.near (distance low (self.old).pairs) (self.old).reach 0
+            steps.old steps.new }
         ensures cost { steps.new ≤ steps.old + 64 * ((self.old).reach + 2) }
     {
         let mut probes = Probes::new();
@@ -115,12 +123,16 @@ impl<T: AggTree<Bundle>> Partials<T> {
         }
     }
 
-    /// Combines the partial under a time with another one behind it.
+    /// Combines the partial under a time with another one behind it: in one step in the row, and else
+    /// in two more than `set` takes.
     pub fn extend<L>(&mut self, low: u64, more: &Bundle, steps: &mut Steps<L>)
         requires { IsTrue (has_key low (self.old).pairs) }
         ensures extended { (b : Bundled) → IsBundle b → value_at low (self.old).pairs ≡ Some b
             → (self.new).pairs ≡ replaced low (bundles_combined b more.now) (self.old).pairs }
         ensures keeps { KeepsRoom self.old self.new }
+        ensures row { (self.old).edge ≤ low → steps.new ≤ steps.old + 1 }
+        ensures near { SpendsNear T.near (distance low (self.old).pairs) (self.old).reach 2
+            steps.old steps.new }
         ensures cost { steps.new ≤ steps.old + 64 * ((self.old).reach + 3) }
     {
         if low < self.edge {
@@ -189,6 +201,7 @@ fn is_near(near: &PairRow<Bundle>, edge: u64, key: u64) -> bool
     ensures before { result ≡ false → AreFrom (key + 1) near.now.pairs }
     ensures within { result ≡ false → key + 1 < 2 ^ 64 }
     ensures far { result ≡ false → may_need_tree edge (length near.now.pairs) ≡ true }
+    ensures early { result ≡ false → length near.now.pairs < 256 → key < edge }
 {
     if near.len() < NEAR {
         return edge <= key;
@@ -218,6 +231,8 @@ fn make_way<T: AggTree<Bundle>, L>(
     ensures from { AreFrom result near.new.pairs }
     ensures edge { (key : ℕ) → edge ≤ key → (256 ≤ length near.old.pairs
         → (low : ℕ) → least_key near.old.pairs ≡ Some low → low < key) → result ≤ key }
+    ensures stays { length near.old.pairs < 256 → result ≡ edge }
+    ensures full { 256 ≤ length near.old.pairs → length near.new.pairs ≡ 255 }
     ensures few { length near.new.pairs < 256 }
     ensures row { length near.new.pairs ≤ length near.old.pairs }
     ensures row_spare { near.old.spare ≤ near.new.spare }
@@ -307,6 +322,8 @@ fn extend_in<T: AggTree<Bundle>, L>(tree: &mut T, low: u64, more: &Bundle, steps
         → AreBelow edge (T.table tree.new).pairs }
     ensures spare { (T.table tree.old).spare ≤ (T.table tree.new).spare }
     ensures reach { T.reach tree.new ≤ T.reach tree.old }
+    ensures near { SpendsNear T.near (distance low (T.table tree.old).pairs) (T.reach tree.old) 2
+        steps.old steps.new }
     ensures cost { steps.new ≤ steps.old + 64 * (T.reach tree.old + 3) }
 {
     let mut probes = Probes::new();

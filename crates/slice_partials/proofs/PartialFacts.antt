@@ -1,15 +1,16 @@
 -- The partials of slices: which pairs they are, and what an edit makes of them.
-use Rattle.std.proofs.Common.{◌≡◌, ◌∙◌, ℕ, suc, ◌+◌, ◌<◌, ◌≤◌, true, false, Some, List, [], ◌∷◌, ◌++◌, length, get_or, take, drop, map, ap, sym, subst, arith, append_assoc, drop-cons}
+use Rattle.std.proofs.Common.{◌≡◌, ◌∙◌, ℕ, suc, ◌+◌, ◌-◌, ◌<◌, ◌≤◌, true, false, Some, List, [], ◌∷◌, ◌++◌, length, get_or, take, drop, map, ap, sym, subst, arith, append_assoc, drop-cons}
 use Rattle.std.specs.List.{All}
-use Rattle.std.proofs.lemmas.List.{map-append, take-append-drop}
+use Rattle.std.proofs.lemmas.List.{length-drop, length-map, map-append, take-append-drop}
 use Rattle.std.proofs.lemmas.List.Elements.{All-cons, All-nil, All-weaker}
 use Rattle.std.proofs.Math.Seq.{take-suc}
 use Rattle.stream_base.specs.declared.kept.Kept.{Kept}
 use Rattle.stream_base.specs.Model.Journal.{put_in_order}
 use Rattle.stream_base.specs.Model.Windows.{first_time, last_time}
 use Rattle.aggregates.specs.Bundled.{Bundled, IsBundle, bundle_of}
-use Rattle.agg_laws.specs.Pairs.{has_key, inserted, replaced, value_at, without}
+use Rattle.agg_laws.specs.Pairs.{distance, has_key, inserted, replaced, value_at, without}
 use Rattle.aggregates.proofs.Bundles.{bundle_is_value}
+use Rattle.agg_laws.proofs.Distances.{distance-middle}
 use Rattle.agg_laws.proofs.RisingPairs.{has_key-between, has_key-middle, inserted-parts, replaced-middle, value_at-middle, without-middle}
 use Rattle.run_laws.specs.Runs.{AreInOrder, IsPartFrom, IsRun}
 use Rattle.slice_lists.specs.Slices.{AreSlices, entered_at, values_of}
@@ -63,6 +64,13 @@ module _ (runs : List (List Kept)) (at : ℕ) (l : at < length runs) (o : AreInO
   partial_found =
       ap (value_at (first_time (get_or runs at []))) pairs_at
       ∙ value_at-middle (first_time (get_or runs at [])) (map partial_of (take at runs)) (map partial_of (drop (suc at) runs)) lower_at upper_at (bundle_of (values_of (get_or runs at [])))
+
+  -- behind it lie those of the slices behind
+  pub partial_behind : distance (first_time (get_or runs at [])) (map partial_of runs) ≡ length runs - (at + 1)
+  partial_behind =
+      let pairs = ap (distance (first_time (get_or runs at []))) pairs_at in
+      let behind = distance-middle (first_time (get_or runs at [])) (bundle_of (values_of (get_or runs at []))) (map partial_of (take at runs)) (map partial_of (drop (suc at) runs)) lower_at upper_at in
+      omega (arith, pairs, behind, length-map (drop (suc at) runs) partial_of, length-drop (suc at) runs)
 
   pub partial_gone : without (first_time (get_or runs at [])) (map partial_of runs) ≡ map partial_of (take at runs) ++ map partial_of (drop (suc at) runs)
   partial_gone =

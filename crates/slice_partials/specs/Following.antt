@@ -1,6 +1,7 @@
 -- Slices and their partials: when a tuple may enter them, and that the partials follow what becomes of the slices.
-use Rattle.std.specs.Prelude.{◌≡◌, ◌≤◌, ◌+◌, ℕ, List, map}
+use Rattle.std.specs.Prelude.{◌≡◌, ◌≤◌, ◌+◌, ℕ, List, length, map, nat_le, if◌then◌else◌}
 use Rattle.stream_base.specs.declared.kept.Kept.{Kept}
+use Rattle.stream_base.specs.Model.Windows.{last_time}
 use Rattle.partials.specs.Apart.{Sums}
 use Rattle.slice_lists.specs.Slices.{AreSlices, CanEnter, CanSplit, Sliced}
 use Rattle.agg_store.specs.Stored.{partial_of}
@@ -27,3 +28,7 @@ pub record Follow (these : List (List Kept)) (runs : Sliced) (partials : Sums) (
   pub room : runs.spare ≤ runs'.spare + 1
   pub spare : partials.spare ≤ partials'.spare + 1
   pub reach : partials'.reach ≤ partials.reach + 1
+
+-- how many tuples of a slice are folded anew for one that comes at a time in it: none where it comes behind them all, and else all with that one
+abbrev pub refolded : ℕ → List Kept → ℕ
+refolded time run = if nat_le (last_time run) time then 0 else length run + 1

@@ -1,8 +1,9 @@
 //! A tuple enters the slices that it is near to, and what becomes of their partials.
-ghost use Rattle.std.specs.Prelude.{◌≤◌, ◌<◌, ◌+◌, ◌*◌, [], length, slice_index_or};
+ghost use Rattle.std.specs.Prelude.{◌≡◌, ◌≤◌, ◌<◌, ◌+◌, ◌-◌, ◌*◌, [], length, slice_index_or};
 ghost use Rattle.stream_base.specs.Model.Windows.{first_time, last_time};
+ghost use Rattle.partials.specs.Apart.{SpendsNear};
 ghost use Rattle.slice_lists.specs.Slices.{entered_at, joined, slices_between};
-ghost use Rattle.slice_partials.specs.Following.{Follow, MayEnter};
+ghost use Rattle.slice_partials.specs.Following.{Follow, MayEnter, refolded};
 
 use crate::lifting::lifted;
 use agg_laws::{AggTree, Monoid, Steps};
@@ -40,6 +41,8 @@ fn extend<T: AggTree<Bundle>, L>(
     requires late { last_time (slice_index_or (runs.old).slices at []) ≤ x.time }
     ensures follow { Follow (entered_at at (at + 1) x (runs.old).slices)
         runs.old partials.old runs.new partials.new }
+    ensures near { SpendsNear T.near (length (runs.old).slices - (at + 1)) (partials.old).reach 2
+        steps.old steps.new }
     ensures cost { steps.new ≤ steps.old + 64 * ((partials.old).reach + 3) }
 {
     let low = runs.slice(at).low;
@@ -80,6 +83,8 @@ fn refold<T: AggTree<Bundle>, L>(
     requires late { first_time (slice_index_or (runs.old).slices at []) ≤ x.time }
     ensures follow { Follow (entered_at at (at + 1) x (runs.old).slices)
         runs.old partials.old runs.new partials.new }
+    ensures near { SpendsNear T.near (length (runs.old).slices - (at + 1)) (partials.old).reach
+        (length (slice_index_or (runs.old).slices at []) + 1) steps.old steps.new }
     ensures cost { steps.new ≤ steps.old + (128 * ((partials.old).reach + 3)
         + length (joined (slices_between at (at + 1) (runs.old).slices))) }
 {
@@ -133,6 +138,12 @@ pub fn enter<T: AggTree<Bundle>, L>(
     // A tuple behind those of its slice refolds none.
     ensures behind { from < to → last_time (slice_index_or (runs.old).slices from []) ≤ x.time
         → steps.new ≤ steps.old + 128 * ((partials.old).reach + 3) }
+
+    // A tuple that enters one slice, and doesn't come before it, goes by how many slices lie behind.
+    ensures near { to ≡ from + 1 → first_time (slice_index_or (runs.old).slices from []) ≤ x.time
+        → SpendsNear T.near (length (runs.old).slices - to) (partials.old).reach
+        (2 + refolded x.time (slice_index_or (runs.old).slices from []))
+        steps.old steps.new }
 {
     let count = to - from;
     if count == 0 {

@@ -1,12 +1,15 @@
 -- When a tuple or a mark may come, and how a tuple is placed.
-use Rattle.std.specs.Prelude.{◌≤◌, ℕ, Bool, List, [], ◌∷◌, Result, OnOk, length, nat_le, if◌then◌else◌}
+use Rattle.std.specs.Prelude.{◌≡◌, ◌≤◌, ◌+◌, ℕ, Bool, List, [], ◌∷◌, Result, OnOk, length, nat_le, if◌then◌else◌}
 use Rattle.stream_base.specs.declared.kept.Kept.{Kept}
 use Rattle.stream_base.specs.declared.def.Def.{Def}
 use Rattle.stream_base.specs.declared.limits.TheConstants.{TIME_MAX}
-use Rattle.stream_base.specs.Model.Windows.{last_time}
+use Rattle.stream_base.specs.Model.Windows.{first_time, last_time}
 use Rattle.slice_store.specs.declared.placed.Placed.{Placed}
 use Rattle.slice_store.specs.declared.placed.Placed.TheVariants.{Appended, Joined, Added, Merged}
-use Rattle.partials.specs.Apart.{IsReachOver}
+use Rattle.partials.specs.Apart.{IsReachOver, SpendsNear}
+use Rattle.slice_lists.specs.Touched.{slices_from}
+use Rattle.slice_partials.specs.Following.{refolded}
+use Rattle.agg_store.specs.Entered.{slices_near}
 use Rattle.agg_store.specs.Stored.{IsAsBefore, IsSliced, Stored, tuples_of}
 
 -- a tuple or a mark may come at a time: there is room for it, the time is within its limit, and the slices are those of these windows
@@ -31,3 +34,8 @@ abbrev pub placed_in : List (List Kept) → Bool → Placed
 placed_in [] last = Added
 placed_in (run ∷ []) last = if last then Appended else Joined
 placed_in (run ∷ next ∷ runs) last = Merged
+
+-- where a tuple at a time enters one slice, and doesn't come before that, the steps go by as many levels as are near where so many slices begin later, and by how many tuples are folded anew
+abbrev pub PutsNear : (ℕ → ℕ → Type 0) → List Def → ℕ → Stored → ℕ → ℕ → Type 0
+PutsNear Near windows time s made makes =
+    (run : List Kept) → slices_near windows time s ≡ run ∷ [] → first_time run ≤ time → SpendsNear Near (length (slices_from (time + 1) s.slices)) s.reach (2 + refolded time run) made makes

@@ -15,7 +15,7 @@ ghost use Rattle.slice_lists.specs.Slices.{joined, kept_at};
 ghost use Rattle.slice_lists.specs.Touched.{is_across, marks_left, slices_from};
 ghost use Rattle.agg_store.specs.Entered.{IsPut, slices_near};
 ghost use Rattle.agg_store.specs.Stored.{IsSliced, IsStore, tuples_of};
-ghost use Rattle.slice_store.specs.Placing.{MayTake, Reserves, is_last, placed_in};
+ghost use Rattle.slice_store.specs.Placing.{MayTake, PutsNear, Reserves, is_last, placed_in};
 
 use crate::placed::Placed;
 use agg_laws::{AggTree, Steps};
@@ -93,7 +93,8 @@ impl<T: AggTree<Bundle>> SliceStore<T> {
     /// Puts a tuple in its place in event order, behind those of its time, and says what that did to
     /// the slices. It enters the slices that it is near to: in none it becomes a slice of its own,
     /// and two neighbours become one with it. Work is done on the tuples of a slice only where it
-    /// comes between two of them.
+    /// comes between two of them, and else grows with the logarithm of how many slices begin later,
+    /// where the tree has a finger at its end: no other slice is looked at.
     pub fn put<L>(
         &mut self,
         defs: &Defs,
@@ -119,6 +120,9 @@ impl<T: AggTree<Bundle>> SliceStore<T> {
         // A tuple in order refolds no slice.
         ensures in_order { is_last time self.old ≡ true
             → steps.new ≤ steps.old + 128 * (self.old.reach + 3) }
+
+        // A late tuple goes by how many slices begin after it.
+        ensures near { PutsNear T.near defs.now.windows time self.old steps.old steps.new }
     {
         let windows = defs.windows();
         let at = self.runs.up_to(time);

@@ -1,17 +1,18 @@
 -- The partial of the slice is combined with the tuple behind it.
-use Rattle.std.proofs.Common.{◌≡◌, ◌∙◌, ◌<◌, ◌+◌, [], ◌∷◌, ◌++◌, Some, ap, sym, map, refl, arith, length, get_or}
+use Rattle.std.proofs.Common.{◌≡◌, ◌∙◌, ◌<◌, ◌+◌, ◌-◌, [], ◌∷◌, ◌++◌, Some, ap, sym, map, refl, arith, length, get_or}
 use Rattle.std.specs.Prelude.{FitsSigned}
 use Rattle.std.specs.Int.{w64}
 use Rattle.std.proofs.lemmas.List.Elements.{All-cons, All-nil}
 use Rattle.stream_base.specs.Model.Windows.{first_time}
 use Rattle.aggregates.specs.Bundled.{bundle_of, bundles_combined}
-use Rattle.agg_laws.specs.Pairs.{has_key, replaced, value_at}
+use Rattle.agg_laws.specs.Pairs.{distance, has_key, replaced, value_at}
 use Rattle.aggregates.proofs.Bundles.{bundle_of-append}
 use Rattle.slice_lists.specs.declared.slice.Slice.{Slice}
 use Rattle.slice_lists.specs.Slices.{values_of}
 use Rattle.agg_store.specs.Stored.{partial_of}
 use Rattle.slice_lists.proofs.SliceFacts.{values_at}
-use Rattle.slice_partials.proofs.PartialFacts.{extended_there, partial_found, partial_is_value, partial_there}
+use Rattle.slice_partials.proofs.PartialFacts.{extended_there, partial_behind, partial_found, partial_is_value, partial_there}
+use Rattle.slice_partials.proofs.CostFacts.{spends_more}
 use Rattle.slice_partials.proofs.CountFacts.{few_slices}
 use Rattle.slice_partials.proofs.entering.extend.Goals as goal
 
@@ -49,3 +50,13 @@ returns-clause-follow g c =
       spare = omega (arith, c.extend.ensures.keeps.spare);
       reach = omega (arith, c.extend.ensures.keeps.reach);
     }
+
+pub returns-clause-near : goal.returns-clause-near
+returns-clause-near g c =
+    let runs = c.args.runs.now.slices in
+    let l : c.args.at < length runs = omega (arith, c.requires.may.can.within) in
+    let behind : distance c.slice-low.result.low c.args.partials.now.pairs ≡ length runs - (c.args.at + 1) =
+    ap (λ (s : Slice). distance s.low c.args.partials.now.pairs) c.slice-low.ensures.shown
+    ∙ ap (distance (first_time (get_or runs c.args.at []))) c.requires.may.stand
+    ∙ partial_behind runs c.args.at l c.slice-low.ensures.holds.ordered in
+    spends_more g.T.AggTree.near _ (length runs - (c.args.at + 1)) c.args.partials.now.reach 2 2 _ _ _ c.extend.ensures.near (omega (arith, behind)) (omega arith)

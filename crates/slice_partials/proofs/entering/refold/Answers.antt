@@ -1,13 +1,15 @@
 -- The partial of the slice is that of its tuples, with the new one among them.
-use Rattle.std.proofs.Common.{◌∙◌, ◌<◌, ◌+◌, [], ap, sym, map, refl, subst, arith, length, get_or}
+use Rattle.std.proofs.Common.{◌≡◌, ◌∙◌, ◌<◌, ◌+◌, ◌-◌, [], ap, sym, map, refl, subst, arith, length, get_or}
 use Rattle.stream_base.specs.Model.Windows.{first_time}
 use Rattle.aggregates.specs.Bundled.{bundle_of}
-use Rattle.agg_laws.specs.Pairs.{has_key, replaced}
+use Rattle.agg_laws.specs.Pairs.{distance, has_key, replaced}
 use Rattle.slice_lists.specs.declared.slice.Slice.{Slice}
 use Rattle.slice_lists.specs.Slices.{AreSlices, Sliced, values_of}
 use Rattle.agg_store.specs.Stored.{partial_of}
+use Rattle.slice_lists.proofs.SliceEdits.{put_length}
 use Rattle.slice_lists.proofs.SliceFacts.{entered_there, refolded_length}
-use Rattle.slice_partials.proofs.PartialFacts.{partial_there, refolded_there}
+use Rattle.slice_partials.proofs.PartialFacts.{partial_behind, partial_there, refolded_there}
+use Rattle.slice_partials.proofs.CostFacts.{spends_more}
 use Rattle.slice_partials.proofs.CountFacts.{few_slices}
 use Rattle.slice_partials.proofs.entering.refold.Goals as goal
 
@@ -45,3 +47,15 @@ returns-clause-cost g c =
     let l : c.args.at < length runs = omega (arith, c.requires.may.can.within) in
     let own = ap (λ rs. get_or rs c.args.at []) c.enter.ensures.slices ∙ entered_there runs c.args.at (c.args.at + 1) c.args.x refl l in
     omega (arith, c.fold_of-bundle.ensures.cost, ap length own, refolded_length runs c.args.at (c.args.at + 1) c.args.x refl l, c.set.ensures.cost)
+
+pub returns-clause-near : goal.returns-clause-near
+returns-clause-near g c =
+    let runs = c.args.runs.now.slices in
+    let l : c.args.at < length runs = omega (arith, c.requires.may.can.within) in
+    let own = ap (λ rs. get_or rs c.args.at []) c.enter.ensures.slices ∙ entered_there runs c.args.at (c.args.at + 1) c.args.x refl l in
+    let behind : distance c.slice-low.result.low c.args.partials.now.pairs ≡ length runs - (c.args.at + 1) =
+    ap (λ (s : Slice). distance s.low c.args.partials.now.pairs) c.slice-low.ensures.shown
+    ∙ ap (distance (first_time (get_or runs c.args.at []))) c.requires.may.stand
+    ∙ partial_behind runs c.args.at l c.slice-low.ensures.holds.ordered in
+    spends_more g.T.AggTree.near _ (length runs - (c.args.at + 1)) c.args.partials.now.reach 0 (length (get_or runs c.args.at []) + 1) _ _ _ c.set.ensures.near (omega (arith, behind))
+    (omega (arith, c.fold_of-bundle.ensures.cost, ap length own, put_length (get_or runs c.args.at []) c.args.x))

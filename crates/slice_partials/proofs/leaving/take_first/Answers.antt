@@ -14,7 +14,10 @@ loop-at-preserved g c =
       stand = c.take-partial.ensures.pairs
           ∙ (λ i. without (ap (λ (s : Slice). s.low) c.slice.ensures.shown i) (c.loop-at.invariant.stand i))
           ∙ first_leaves runs at l c.slice.ensures.holds.ordered;
-      spare = omega (arith, c.loop-at.invariant.spare, c.take-partial.ensures.keeps.spare);
-      reach = omega (arith, c.loop-at.invariant.reach, c.take-partial.ensures.keeps.reach);
-      cost = one_more c.args.steps.now c.loop-at.steps c.take-partial.new.steps c.args.partials.now.reach c.loop-at.partials.reach at c.loop-at.invariant.cost c.loop-at.invariant.reach c.take-partial.ensures.cost;
+      keeps = record {
+        spare = omega (arith, c.loop-at.invariant.keeps.spare, c.take-partial.ensures.keeps.spare);
+        reach = omega (arith, c.loop-at.invariant.keeps.reach, c.take-partial.ensures.keeps.reach);
+        edge = c.take-partial.ensures.keeps.edge ∙ c.loop-at.invariant.keeps.edge;
+      };
+      cost = one_more c.args.steps.now c.loop-at.steps c.take-partial.new.steps c.args.partials.now.reach c.loop-at.partials.reach at c.loop-at.invariant.cost c.loop-at.invariant.keeps.reach c.take-partial.ensures.cost;
     }

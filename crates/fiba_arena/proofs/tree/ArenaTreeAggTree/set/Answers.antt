@@ -29,3 +29,14 @@ returns-clause-reach g c =
     let height = ap (λ v. v.height) c.self.view_is in
     let a = invariant_of-self g c in
     record { within = omega (arith, height, c.change_root-changed.ensures.changed.higher); bounded = a.tall }
+
+pub returns-clause-near : goal.returns-clause-near
+returns-clause-near g c =
+    let height = ap (λ v. v.height) c.self.view_is in
+    let looks = c.change_root-changed.ensures.looks in
+    record {
+      levels = c.self.inside.root.height;
+      near = tt;
+      within = omega (arith, height);
+      work = record { rises = looks.rises; cost = omega (arith, c.change_root-changed.ensures.cost) };
+    }

@@ -1,8 +1,8 @@
 -- The pair with the key is in the tree where the key is below the edge, and else in the row.
-use Rattle.std.proofs.Common.{◌∙◌, ◌++◌, ap, sym, subst, arith}
-use Rattle.partials.specs.Apart.{AreFrom}
+use Rattle.std.proofs.Common.{◌∙◌, ◌++◌, ap, sym, subst, arith, length}
+use Rattle.partials.specs.Apart.{AreFrom, row_reach}
 use Rattle.aggregates.specs.Bundled.{bundles_combined}
-use Rattle.partials.proofs.RowFacts.{absent_before, absent_behind, from_replaced, replaced_inside, replaced_near, there_inside, there_near, value_inside, value_near, value_there}
+use Rattle.partials.proofs.RowFacts.{absent_before, absent_behind, from_replaced, near_before_row, near_in_row, replaced_inside, replaced_near, there_inside, there_near, value_inside, value_near, value_there}
 use Rattle.partials.proofs.partials.Partials.extend.Goals as goal
 
 pub extend_in-requires-clause-there : goal.extend_in-requires-clause-there
@@ -53,3 +53,14 @@ returns-else-low-self-clause-extended g c b is e =
     rw (← c.self.view_is)
     (ap (λ l. xs ++ l) (c.extend.ensures.extended b (sym (value_near c.args.low xs s.near.pairs absent) ∙ (rw (← c.self.view_is) at e)))
     ∙ sym (replaced_near c.args.low (bundles_combined b c.args.more.now) xs s.near.pairs absent))
+
+pub returns-then-low-self-clause-near : goal.returns-then-low-self-clause-near
+returns-then-low-self-clause-near g c =
+    let t = g.T.AggTree in
+    let s = c.self.inside in
+    rw (← c.self.view_is)
+    (near_before_row t.near c.args.low (t.table s.tree).pairs s.near.pairs (t.reach s.tree) (row_reach (length s.near.pairs)) 2 _ _ c.extend_in.ensures.near)
+
+pub returns-else-low-self-clause-near : goal.returns-else-low-self-clause-near
+returns-else-low-self-clause-near g c =
+    near_in_row g.T.AggTree.near _ _ 2 _ _ (omega (arith, c.extend.ensures.cost))

@@ -1,8 +1,11 @@
 -- The pair stands in the row where the key belongs there, and else in the tree.
-use Rattle.std.proofs.Common.{◌≤◌, ◌∙◌, ◌++◌, ap, sym, subst, arith}
+use Rattle.std.proofs.Common.{◌≤◌, ◌<◌, ◌∙◌, ◌++◌, ap, sym, subst, arith, length, inl, inr}
+use Rattle.std.specs.Prelude.{nat_lt}
+use Rattle.std.proofs.lemmas.Bool.Decides.{nat_tests}
+use Rattle.stream_base.proofs.Filters.{cases_of}
 use Rattle.agg_laws.specs.Pairs.{inserted}
 use Rattle.partials.specs.Apart.{AreBelow, AreFrom}
-use Rattle.partials.proofs.RowFacts.{below_inserted, early_inserted, from_both, from_inserted, from_next, near_inserted}
+use Rattle.partials.proofs.RowFacts.{below_inserted, early_inserted, from_both, from_inserted, from_next, full_row, near_inserted}
 use Rattle.partials.proofs.partials.Partials.insert.Goals as goal
 
 pub invariant_of-self : goal.invariant_of-self
@@ -41,3 +44,19 @@ returns-else-is_near-clause-inserted g c =
     rw (← c.self.view_is)
     (ap (λ l. l ++ s.near.pairs) c.insert-else-is_near.ensures.inserts.inserted
     ∙ sym (early_inserted c.args.low c.args.partial (g.T.AggTree.table s.tree).pairs s.near.pairs (from_next c.args.low s.near.pairs (c.is_near.ensures.before c.if-is_near.false))))
+
+pub returns-then-is_near-clause-row : goal.returns-then-is_near-clause-row
+returns-then-is_near-clause-row g c = λ time from few. elim (cases_of (nat_lt (length c.self.inside.near.pairs) 256)) [
+  | inl free ↦ let l : length c.self.inside.near.pairs < 256 = grind (arith, nat_tests) in omega (arith, from, ap (λ v. v.edge) c.self.view_is, c.make_way-self-inside.ensures.stays l)
+  | inr full ↦
+      let l : 256 ≤ length c.self.inside.near.pairs = grind (arith, nat_tests) in
+      full_row c.make_way-self-inside.result time (g.T.AggTree.table c.make_way-self-inside.new.tree).pairs c.insert.new.self.pairs (invariant_of-self g c).from (omega (arith, c.insert.ensures.count, c.make_way-self-inside.ensures.full l)) few
+]
+
+pub returns-else-is_near-clause-row : goal.returns-else-is_near-clause-row
+returns-else-is_near-clause-row g c = λ time from few. elim (cases_of (nat_lt (length c.self.inside.near.pairs) 256)) [
+  | inl free ↦ let l : length c.self.inside.near.pairs < 256 = grind (arith, nat_tests) in omega (arith, from, ap (λ v. v.edge) c.self.view_is, c.max-self-inside.ensures, c.is_near.ensures.early c.if-is_near.false l)
+  | inr full ↦
+      let l : 256 ≤ length c.self.inside.near.pairs = grind (arith, nat_tests) in
+      full_row c.max-self-inside.result time (g.T.AggTree.table c.insert-else-is_near.new.self).pairs c.self.inside.near.pairs (invariant_of-self-else-is_near g c).from l few
+]

@@ -1,7 +1,8 @@
 -- The pair with the key is in the tree where the key is below the edge, and else in the row.
-use Rattle.std.proofs.Common.{◌∙◌, ◌++◌, ap, sym, subst, arith}
-use Rattle.partials.specs.Apart.{AreBelow, AreFrom}
-use Rattle.partials.proofs.RowFacts.{absent_before, absent_behind, below_replaced, from_replaced, replaced_inside, replaced_near, there_inside, there_near}
+use Rattle.std.proofs.Common.{◌∙◌, ◌++◌, ap, sym, subst, arith, length}
+use Rattle.agg_laws.specs.Pairs.{distance}
+use Rattle.partials.specs.Apart.{AreBelow, AreFrom, row_reach}
+use Rattle.partials.proofs.RowFacts.{absent_before, absent_behind, below_replaced, from_replaced, near_before_row, near_in_row, near_in_tree, replaced_inside, replaced_near, there_inside, there_near}
 use Rattle.partials.proofs.partials.Partials.set.Goals as goal
 
 pub set-requires : goal.set-requires
@@ -47,3 +48,16 @@ returns-else-low-self-clause-replaced g c =
     rw (← c.self.view_is)
     (ap (λ l. xs ++ l) c.set-else-low-self.ensures.replaces.replaced
     ∙ sym (replaced_near c.args.low c.args.partial xs s.near.pairs (absent_behind s.edge c.args.low xs c.if-low-self.false c.self.invariant.below)))
+
+pub returns-then-low-self-clause-near : goal.returns-then-low-self-clause-near
+returns-then-low-self-clause-near g c =
+    let t = g.T.AggTree in
+    let s = c.self.inside in
+    let xs = (t.table s.tree).pairs in
+    rw (← c.self.view_is)
+    (near_before_row t.near c.args.low xs s.near.pairs (t.reach s.tree) (row_reach (length s.near.pairs)) 0 _ _
+    (near_in_tree t.near (distance c.args.low xs) (t.reach s.tree) 0 _ _ c.args.steps.now _ _ c.set.ensures.near (omega arith)))
+
+pub returns-else-low-self-clause-near : goal.returns-else-low-self-clause-near
+returns-else-low-self-clause-near g c =
+    near_in_row g.T.AggTree.near _ _ 0 _ _ (omega arith)

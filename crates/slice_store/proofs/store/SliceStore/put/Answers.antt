@@ -1,8 +1,14 @@
 -- The slices that the tuple is near to become one with it.
-use Rattle.std.proofs.Common.{◌≡◌, ◌∙◌, ap, arith, refl, sym, subst, take, drop}
+use Rattle.std.proofs.Common.{◌≡◌, ◌≤◌, ◌+◌, ◌-◌, ◌∙◌, [], ap, arith, get_or, length, refl, sym, subst, take, drop}
 use Rattle.std.specs.Int.{w64}
 use Rattle.std.proofs.lemmas.Int.{to_z-of_z}
 use Rattle.stream_base.specs.declared.kept.Kept.{Kept}
+use Rattle.stream_base.specs.Model.Cuts.{has_cut}
+use Rattle.stream_base.specs.Model.Windows.{first_time}
+use Rattle.partials.specs.Apart.{SpendsNear}
+use Rattle.slice_lists.specs.Sides.{IsLastEntered}
+use Rattle.slice_partials.specs.Following.{refolded}
+use Rattle.slice_store.proofs.PutCosts.{near_put}
 use Rattle.slice_store.specs.Placing.{placed_in}
 use Rattle.slice_lists.specs.Slices.{kept_at}
 use Rattle.slice_lists.proofs.NearFacts.{IsEdit}
@@ -92,3 +98,17 @@ returns-clause-cost g c =
     edit_at c.args.defs.now s.marks.times s.marks.times s.marks.times s.runs.slices x c.up_to-at.result from to c.windows-windows.ensures.limits c.up_to-at.ensures.holds ((rw (← c.self.view_is) at c.requires).sliced) c.up_to-at.ensures.place refl refl (rw c.windows-windows.ensures.value at c.first_entered-from.ensures) (rw c.windows-windows.ensures.value at c.last_entered-to.ensures) in
     rw (← c.self.view_is)
     (omega (arith, c.enter.ensures.cost, near_joined c.args.defs.now.windows s.marks.times s.runs.slices x from to e))
+
+pub returns-clause-near : goal.returns-clause-near
+returns-clause-near g c =
+    let s = c.self.inside in
+    let from = c.first_entered-from.result in
+    let to = c.last_entered-to.result in
+    let x : Kept = kept_at c.args.pos c.args.time c.args.value in
+    let same : c.kept_at-x.result ≡ x = c.kept_at-x.ensures.kept ∙ ap (kept_at c.args.pos c.args.time) (to_z-of_z w64 c.args.value c.ranges.value) in
+    let last : IsLastEntered (has_cut c.args.defs.now.windows s.marks.times) s.runs.slices c.up_to-at.result c.args.time to = rw c.windows-windows.ensures.value at c.last_entered-to.ensures in
+    let e : IsEdit c.args.defs.now.windows s.marks.times s.runs.slices from to x =
+    edit_at c.args.defs.now s.marks.times s.marks.times s.marks.times s.runs.slices x c.up_to-at.result from to c.windows-windows.ensures.limits c.up_to-at.ensures.holds ((rw (← c.self.view_is) at c.requires).sliced) c.up_to-at.ensures.place refl refl (rw c.windows-windows.ensures.value at c.first_entered-from.ensures) last in
+    rw (← c.self.view_is)
+    (near_put g.T.AggTree.near c.args.defs.now.windows s.marks.times s.runs.slices x c.up_to-at.result from to s.partials.reach _ _ e c.up_to-at.ensures.place last
+    (subst (λ (y : Kept). to ≡ from + 1 → first_time (get_or s.runs.slices from []) ≤ y.time → SpendsNear g.T.AggTree.near (length s.runs.slices - to) s.partials.reach (2 + refolded y.time (get_or s.runs.slices from [])) c.args.steps.now c.enter.new.steps) same c.enter.ensures.near))
