@@ -27,7 +27,8 @@ pub trait AggStore {
             ≡ bundle_of (values_of (within low high (tuples_of (stored self.now)))) }
         ensures one_each { steps.new
             ≤ steps.old + length (runs_within low high (stored self.now).slices) }
-        ensures cost { steps.new ≤ steps.old + 64 * ((stored self.now).reach + 2) };
+        ensures cost { steps.new ≤ steps.old + 64 * ((stored self.now).reach + 2) }
+        ensures holds { IsStore (stored self.now) };
 
     /// How many slices there are.
     fn slice_count(&self) -> u64
