@@ -36,6 +36,11 @@ pub trait AggStore {
         ensures holds { IsStore (stored self.now) }
         ensures ends { All (λ run. last_time run ≤ TIME_MAX) (stored self.now).slices };
 
+    /// How many slices begin at a time or later, and before another.
+    fn slices_within(&self, low: u64, high: u64) -> u64
+        ensures count { result ≡ length (runs_within low high (stored self.now).slices) }
+        ensures holds { IsStore (stored self.now) };
+
     /// The first slice that begins at a time or later, `None` exactly where there is none.
     fn slice_from(&self, time: u64) -> Option<Slice>
         ensures first { result ≡ option_map slice_of
