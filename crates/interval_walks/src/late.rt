@@ -74,8 +74,7 @@ pub fn append_formers<S: AggStore, L>(
 )
     requires intervals { MayFold span.now (S.stored store.now).slices complete }
     requires spare { complete.count ≤ room into.old }
-    ensures told { length (tuples_of (S.stored store.now)) < 2 ^ 64
-        → into.new.items ≡ into.old.items
+    ensures told { into.new.items ≡ into.old.items
         ++ map (former_at func span.now.length (tuples_of (S.stored store.now)))
         (starts_from span.now.slide complete.first complete.count) }
     ensures adds { Adds complete.count into.old into.new }
@@ -104,8 +103,7 @@ fn append_some_formers<S: AggStore, L>(
 )
     requires intervals { MayFold span.now (S.stored store.now).slices complete }
     requires spare { complete.count ≤ room into.old }
-    ensures told { length (tuples_of (S.stored store.now)) < 2 ^ 64
-        → into.new.items ≡ into.old.items
+    ensures told { into.new.items ≡ into.old.items
         ++ map (former_at func span.now.length (tuples_of (S.stored store.now)))
         (starts_from span.now.slide complete.first complete.count) }
     ensures adds { Adds complete.count into.old into.new }
@@ -130,8 +128,7 @@ fn append_each_former<S: AggStore, L>(
 )
     requires intervals { MayFold span.now (S.stored store.now).slices complete }
     requires spare { complete.count ≤ room into.old }
-    ensures told { length (tuples_of (S.stored store.now)) < 2 ^ 64
-        → into.new.items ≡ into.old.items
+    ensures told { into.new.items ≡ into.old.items
         ++ map (former_at func span.now.length (tuples_of (S.stored store.now)))
         (starts_from span.now.slide complete.first complete.count) }
     ensures adds { Adds complete.count into.old into.new }
@@ -159,8 +156,7 @@ fn append_shared_formers<S: AggStore, L>(
     requires share { MayShare span.now (S.stored store.now).slices complete }
     requires holds { IsStore (S.stored store.now) }
     requires spare { complete.count ≤ room into.old }
-    ensures told { length (tuples_of (S.stored store.now)) < 2 ^ 64
-        → into.new.items ≡ into.old.items
+    ensures told { into.new.items ≡ into.old.items
         ++ map (former_at func span.now.length (tuples_of (S.stored store.now)))
         (starts_from span.now.slide complete.first complete.count) }
     ensures adds { Adds complete.count into.old into.new }
@@ -190,7 +186,7 @@ pub fn append_late<S: AggStore, L>(
     requires intervals { MayFold span.now (S.stored store.now).slices complete }
     requires formers { complete.count ≤ length formers.now }
     requires spare { complete.count ≤ room out.old }
-    ensures told { length (tuples_of (S.stored store.now)) < 2 ^ 64 → out.new.items ≡ out.old.items
+    ensures told { out.new.items ≡ out.old.items
         ++ told_late (told_at owner.entry.window owner.entry.key.now owner.entry.func
         span.now.length (tuples_of (S.stored store.now)))
         (starts_from span.now.slide complete.first complete.count) formers.now }
@@ -223,7 +219,7 @@ fn append_some_late<S: AggStore, L>(
     requires intervals { MayFold span.now (S.stored store.now).slices complete }
     requires formers { complete.count ≤ length formers.now }
     requires spare { complete.count ≤ room out.old }
-    ensures told { length (tuples_of (S.stored store.now)) < 2 ^ 64 → out.new.items ≡ out.old.items
+    ensures told { out.new.items ≡ out.old.items
         ++ told_late (told_at owner.entry.window owner.entry.key.now owner.entry.func
         span.now.length (tuples_of (S.stored store.now)))
         (starts_from span.now.slide complete.first complete.count) formers.now }
@@ -251,7 +247,7 @@ fn append_each_late<S: AggStore, L>(
     requires intervals { MayFold span.now (S.stored store.now).slices complete }
     requires formers { complete.count ≤ length formers.now }
     requires spare { complete.count ≤ room out.old }
-    ensures told { length (tuples_of (S.stored store.now)) < 2 ^ 64 → out.new.items ≡ out.old.items
+    ensures told { out.new.items ≡ out.old.items
         ++ told_late (told_at owner.entry.window owner.entry.key.now owner.entry.func
         span.now.length (tuples_of (S.stored store.now)))
         (starts_from span.now.slide complete.first complete.count) formers.now }
@@ -283,7 +279,7 @@ fn append_shared_late<S: AggStore, L>(
     requires share { MayShare span.now (S.stored store.now).slices complete }
     requires holds { IsStore (S.stored store.now) }
     requires spare { complete.count ≤ room out.old }
-    ensures told { length (tuples_of (S.stored store.now)) < 2 ^ 64 → out.new.items ≡ out.old.items
+    ensures told { out.new.items ≡ out.old.items
         ++ told_late (told_at owner.entry.window owner.entry.key.now owner.entry.func
         span.now.length (tuples_of (S.stored store.now)))
         (starts_from span.now.slide complete.first complete.count) formers.now }
@@ -311,6 +307,7 @@ fn fold_interval<S: AggStore, L>(span: &Span, store: &S, low: u64, steps: &mut S
     ensures one_each { steps.new ≤ steps.old
         + length (runs_within low (low + span.now.length) (S.stored store.now).slices) }
     ensures cost { steps.new ≤ steps.old + 64 * ((S.stored store.now).reach + 2) }
+    ensures holds { IsStore (S.stored store.now) }
 {
     store.fold(low, low + span.length, steps)
 }

@@ -17,7 +17,7 @@ mod owner;
 mod served;
 mod span;
 
-pub use due::{count_due, count_slices, tell_due};
+pub use due::{count_due, tell_due};
 pub use held::Held;
 pub use late::{Complete, append_formers, append_late, complete_at};
 pub use next::end_from;
