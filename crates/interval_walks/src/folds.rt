@@ -17,6 +17,9 @@ use aggregates::Bundle;
 /// How many intervals are folded together at most.
 pub const MOST: usize = 64;
 
+/// How many have places in the smaller of two arrays.
+pub const FEW: usize = 16;
+
 // How many slices may begin in them, for each.
 const SLICES_EACH: u64 = 32;
 

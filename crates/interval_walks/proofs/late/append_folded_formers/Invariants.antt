@@ -3,7 +3,7 @@ use Rattle.std.proofs.Common.{◌≡◌, ◌+◌, ◌++◌, map, vec_len}
 use Rattle.std.specs.Prelude.{vec_capacity}
 use Rattle.agg_store.specs.Stored.{tuples_of}
 use Rattle.interval_walks.specs.Told.{former_at, starts_from}
-use Rattle.interval_walks.proofs.late.append_shared_formers.Given as goal
+use Rattle.interval_walks.proofs.late.append_folded_formers.Given as goal
 
 abbrev pub invariant-loop-k : goal.invariant-loop-k
 invariant-loop-k g l = record {

@@ -4,7 +4,7 @@ use Rattle.agg_store.specs.Stored.{tuples_of}
 use Rattle.interval_walks.specs.Told.{former_at}
 use Rattle.interval_walks.proofs.ShareFacts.{read_at}
 use Rattle.interval_walks.proofs.ToldFacts.{former_more}
-use Rattle.interval_walks.proofs.late.append_shared_formers.Goals as goal
+use Rattle.interval_walks.proofs.late.append_folded_formers.Goals as goal
 
 pub loop-k-preserved : goal.loop-k-preserved
 loop-k-preserved g c =

@@ -4,7 +4,7 @@ use Rattle.agg_store.specs.Stored.{tuples_of}
 use Rattle.interval_walks.specs.Told.{again_or_new, told_at}
 use Rattle.interval_walks.proofs.ShareFacts.{read_at}
 use Rattle.interval_walks.proofs.ToldFacts.{late_more}
-use Rattle.interval_walks.proofs.late.append_shared_late.Goals as goal
+use Rattle.interval_walks.proofs.late.append_folded_late.Goals as goal
 
 pub loop-k-preserved : goal.loop-k-preserved
 loop-k-preserved g c =
