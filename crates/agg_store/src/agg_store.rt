@@ -27,13 +27,19 @@ pub trait AggStore {
             ≡ bundle_of (values_of (within low high (tuples_of (stored self.now)))) }
         ensures one_each { steps.new
             ≤ steps.old + length (runs_within low high (stored self.now).slices) }
-        ensures cost { steps.new ≤ steps.old + 64 * ((stored self.now).reach + 2) };
+        ensures cost { steps.new ≤ steps.old + 64 * ((stored self.now).reach + 2) }
+        ensures holds { IsStore (stored self.now) };
 
     /// How many slices there are.
     fn slice_count(&self) -> u64
         ensures count { result ≡ length (stored self.now).slices }
         ensures holds { IsStore (stored self.now) }
         ensures ends { All (λ run. last_time run ≤ TIME_MAX) (stored self.now).slices };
+
+    /// How many slices begin at a time or later, and before another.
+    fn slices_within(&self, low: u64, high: u64) -> u64
+        ensures count { result ≡ length (runs_within low high (stored self.now).slices) }
+        ensures holds { IsStore (stored self.now) };
 
     /// The first slice that begins at a time or later, `None` exactly where there is none.
     fn slice_from(&self, time: u64) -> Option<Slice>

@@ -33,7 +33,7 @@ use Rattle.key_parts.specs.Moves.{SettlesUpTo}
 use Rattle.key_parts.specs.Work.{change_work}
 use Rattle.context_parts.specs.MarksStand.{DoStandBetween, IsMarksAt}
 use Rattle.context_parts.proofs.Edges.{AreEdged}
-use Rattle.context_parts.proofs.Rest.{HoldsRest, is_window, open_alike, open_few, open_selects, rest_is_kept}
+use Rattle.context_parts.proofs.Rest.{HoldsRest, is_window, open_alike, open_selects, rest_is_kept}
 use Rattle.context_parts.proofs.Settling.{settles_up_to}
 
 pub stretches_are : (kind : Kind) (kept : List Kept) (marks : List ℕ) → kind ≡ Marks → instances_of kind kept marks ≡ stretches marks kept
@@ -51,8 +51,8 @@ pub marks_work : (kind : Kind) (reach : ℕ) → kind ≡ Marks → change_work 
 marks_work kind reach e = ap (λ k. change_work k reach) e
 
 -- ---- what the store holds
-pub stretches_held : (d : Definitions) (window : ℕ) (at : IsMarksAt d window) (m : Moment) (n : ℕ) (s : Stored) → HoldsRest d m n s → (time : ℕ) → m.water - d.lateness ≤ time → length m.kept < 2 ^ 64 → HoldsStretches time m.marks m.kept s
-stretches_held d window at m n s h time late few =
+pub stretches_held : (d : Definitions) (window : ℕ) (at : IsMarksAt d window) (m : Moment) (n : ℕ) (s : Stored) → HoldsRest d m n s → (time : ℕ) → m.water - d.lateness ≤ time → HoldsStretches time m.marks m.kept s
+stretches_held d window at m n s h time late =
     let w = window_at d window in
     let c = is_window d window at.within in
     let e = no_events (window_at d window).kind at.kind in
@@ -61,7 +61,6 @@ stretches_held d window at m n s h time late few =
       chosen =
           subst (λ l. All (λ i. within i.low i.high l ≡ i.chosen) (stretches_after time m.marks m.kept)) (sym h.tuples)
           (subst (All (λ i. within i.low i.high (drop n m.kept) ≡ i.chosen)) is (open_selects d m n h.may_leave w c e time late));
-      few = subst (All (λ i. length i.chosen < 2 ^ 64)) is (open_few d m n h.may_leave w c e time late few);
     }
 
 -- ---- the intervals lie apart, and between edges
@@ -161,7 +160,6 @@ left_held d window at m n s may time late h =
     let is = stretches_alike d window at m n may time late in
     record {
       chosen = subst (All (λ i. within i.low i.high (tuples_of s) ≡ i.chosen)) is h.chosen;
-      few = subst (All (λ i. length i.chosen < 2 ^ 64)) is h.few;
     }
 
 -- ---- up to which time tuples are settled

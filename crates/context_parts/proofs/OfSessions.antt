@@ -22,7 +22,7 @@ use Rattle.context_windows.specs.Aligned.{IsOfSessions}
 use Rattle.context_windows.specs.Spanned.{Follows, HoldsSessions, IsSession, IsSessionAt, Spanned, gap_at, gap_of, sessions_after, window_at}
 use Rattle.context_windows.proofs.Following.{session_within}
 use Rattle.key_parts.specs.Work.{change_work}
-use Rattle.context_parts.proofs.Rest.{HoldsRest, is_window, left_over, open_alike, open_few, open_selects, rest_is_kept, rest_windows}
+use Rattle.context_parts.proofs.Rest.{HoldsRest, is_window, left_over, open_alike, open_selects, rest_is_kept, rest_windows}
 
 pub sessions_are : (kind : Kind) (kept : List Kept) (marks : List ℕ) → IsSession kind → instances_of kind kept marks ≡ sessions (gap_of kind) kept
 unfolding instances_of
@@ -59,14 +59,13 @@ told_once gap time water spans = by (stands water (joined_span gap time (near_of
 -- ---- what the store holds and where its slices part
 module _ (d : Definitions) (window : ℕ) (at : IsSessionAt d window) where
   module _ (m : Moment) (n : ℕ) (s : Stored) (h : HoldsRest d m n s) where
-    pub sessions_held : (time : ℕ) → m.water - d.lateness ≤ time → length m.kept < 2 ^ 64 → HoldsSessions (gap_at d window) time m.kept s
-    sessions_held time late few =
+    pub sessions_held : (time : ℕ) → m.water - d.lateness ≤ time → HoldsSessions (gap_at d window) time m.kept s
+    sessions_held time late =
         let is : filter (λ (i : Instance). nat_lt time i.high) (instances_of (window_at d window).kind m.kept m.marks) ≡ sessions_after (gap_at d window) time m.kept = ap (filter (λ (i : Instance). nat_lt time i.high)) (sessions_are (window_at d window).kind m.kept m.marks at.session) in
         record {
           chosen =
               subst (λ l. All (λ i. within i.low i.high l ≡ i.chosen) (sessions_after (gap_at d window) time m.kept)) (sym h.tuples)
               (subst (All (λ i. within i.low i.high (drop n m.kept) ≡ i.chosen)) is (open_selects d m n h.may_leave (window_at d window) (is_window d window at.within) (no_events (window_at d window).kind at.session) time late));
-          few = subst (All (λ i. length i.chosen < 2 ^ 64)) is (open_few d m n h.may_leave (window_at d window) (is_window d window at.within) (no_events (window_at d window).kind at.session) time late few);
         }
 
     pub of_sessions : IsOfSessions d.windows (window_at d window) m.kept s

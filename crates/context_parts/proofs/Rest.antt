@@ -16,7 +16,7 @@ use Rattle.stream_base.specs.Limits.{Definitions, IsKindWithin}
 use Rattle.stream_base.specs.Model.Changes.{Moment}
 use Rattle.stream_base.specs.Model.Journal.{put_in_order}
 use Rattle.stream_base.specs.Model.Slices.{is_events, is_settled, is_settled_in}
-use Rattle.stream_base.specs.Model.Windows.{Instance, instances_of, is_within, within}
+use Rattle.stream_base.specs.Model.Windows.{Instance, instances_of, within}
 use Rattle.window_laws.specs.After.{with_tuple}
 use Rattle.window_laws.specs.Positions.{AreKept, HaveDistinctPositions}
 use Rattle.window_laws.specs.Settled.{MayLeave}
@@ -27,7 +27,7 @@ use Rattle.window_laws.proofs.LeaveFacts.{EndBy, firsts_leave}
 use Rattle.run_laws.proofs.RunFacts.{put_behind, put_first}
 use Rattle.window_laws.proofs.SettledFacts.{all_member, settled_by_times}
 use Rattle.agg_store.specs.Stored.{IsSliced, Stored, tuples_of}
-use Rattle.window_spans.proofs.Parts.{fewer_pass, filter_alike}
+use Rattle.window_spans.proofs.Parts.{filter_alike}
 use Rattle.context_windows.specs.Aligned.{IsOfWindows}
 use Rattle.context_windows.specs.Spanned.{window_at}
 use Rattle.key_parts.specs.Held.{IsHeld}
@@ -84,13 +84,6 @@ module _ (d : Definitions) (m : Moment) (n : ℕ) (may : MayLeave d m n) (w : De
       (All-filter (λ (i : Instance). nat_lt time i.high) (λ i. within i.low i.high (drop n m.kept) ≡ i.chosen) (instances_of w.kind (drop n m.kept) m.marks)
       (All-weaker (λ (i : Instance). i.chosen ≡ within i.low i.high (drop n m.kept)) (λ i. within i.low i.high (drop n m.kept) ≡ i.chosen) (λ i f. sym f) (instances_of w.kind (drop n m.kept) m.marks)
       (spans_hold_selections w.kind (drop n m.kept) m.marks is_within_limits e (rest_is_kept n m.kept may.kept).in_order)))
-
-  pub open_few : length m.kept < 2 ^ 64 → All (λ i. length i.chosen < 2 ^ 64) (filter (λ (i : Instance). nat_lt time i.high) (instances_of w.kind m.kept m.marks))
-  open_few few =
-      All-weaker (λ i. within i.low i.high (drop n m.kept) ≡ i.chosen) (λ i. length i.chosen < 2 ^ 64)
-      (λ i f. let g : length i.chosen ≡ length (within i.low i.high (drop n m.kept)) = ap length (sym f) in
-      omega (arith, g, fewer_pass (is_within i.low i.high) (drop n m.kept), length-drop n m.kept))
-      (filter (λ (i : Instance). nat_lt time i.high) (instances_of w.kind m.kept m.marks)) open_selects
 
 -- ---- the window
 pub is_window : (d : Definitions) (window : ℕ) → window < length d.windows → Contains d.windows (window_at d window)
@@ -151,18 +144,3 @@ module _ (d : Definitions) (m : Moment) (n : ℕ) (before : Stored) (x : Kept) (
 -- ---- a mark comes
 pub rest_marked : (d : Definitions) (m : Moment) (n : ℕ) (before : Stored) (time : ℕ) (after : Stored) → IsMarkStep d m n before time after → HoldsRest d m n after
 rest_marked d m n before time after p = record { may_leave = p.held.may_leave; tuples = p.tuples ∙ p.held.tuples; sliced = p.sliced }
-
--- ---- how many tuples there are
-pub few_kept : (m : Moment) (next : ℕ) → AreLists m next → length m.kept < 2 ^ 64
-few_kept m next l = omega (arith, l.few, l.most)
-
-put_length : (kept : List Kept) (x : Kept) → length (put_in_order kept x) ≡ length kept + 1
-put_length [] x = refl
-put_length (y ∷ ys) x = by (cases_Bool (nat_lt x.time y.time)) (put_length ys x)
-  where
-    by : (nat_lt x.time y.time ≡ true) ⊎ (nat_lt x.time y.time ≡ false) → length (put_in_order ys x) ≡ length ys + 1 → length (put_in_order (y ∷ ys) x) ≡ length (y ∷ ys) + 1
-    by (inl e) h = ap length (put_first y ys x e) ∙ omega arith
-    by (inr e) h = ap length (put_behind y ys x e) ∙ omega arith
-
-pub few_with : (m : Moment) (x : Kept) → AreLists m x.position → length (put_in_order m.kept x) < 2 ^ 64
-few_with m x l = omega (arith, l.few, l.most, put_length m.kept x)

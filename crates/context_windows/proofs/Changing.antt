@@ -156,7 +156,6 @@ module _ (window : ℕ) (def : Def) (key : List ℕ) (m : Moment) (x : Kept) (s 
       let it : IsHeld span store j = record {
         span = sym over;
         chosen = All-contains (λ (i : Instance). within i.low i.high (tuples_of store) ≡ i.chosen) (sessions_after (gap_of def.kind) x.time (put_in_order m.kept x)) j held.chosen one_after;
-        few = All-contains (λ (i : Instance). length i.chosen < 2 ^ 64) (sessions_after (gap_of def.kind) x.time (put_in_order m.kept x)) j held.few one_after;
       } in
       let goes : retractions key m (with_tuple m x) (window, def) ≡ gone_of window key water span (option_to_list first ++ option_to_list second) =
       known.goes
@@ -183,7 +182,6 @@ held_all gap time kept store h (i ∷ is) c = (
   record {
     span = refl;
     chosen = All-contains (λ (i : Instance). within i.low i.high (tuples_of store) ≡ i.chosen) (sessions_after gap time kept) i h.chosen (c i (Contains-head i is));
-    few = All-contains (λ (i : Instance). length i.chosen < 2 ^ 64) (sessions_after gap time kept) i h.few (c i (Contains-head i is));
   },
   held_all gap time kept store h is (λ k d. c k (Contains-tail i is k d)),
 )

@@ -29,7 +29,7 @@ use Rattle.window_spans.specs.Held.{IsHeld}
 use Rattle.window_spans.specs.Parted.{back_of, come_if, front_of, gone_if, head_before, part_if}
 use Rattle.window_spans.specs.Spans.{is_same_span, near_of, span_of}
 use Rattle.window_spans.specs.Telling.{as_standing, come_of, told_as}
-use Rattle.window_spans.proofs.Parts.{fewer_pass, filter_twice}
+use Rattle.window_spans.proofs.Parts.{filter_twice}
 use Rattle.context_windows.specs.Marked.{AreEnoughFrom, FollowsMarks, HoldsStretches, Marked, RemembersHolder, holder_in, marks_window, parted_of, stretches_after}
 use Rattle.context_windows.specs.Spanned.{changes_of}
 use Rattle.context_windows.proofs.Enough.{enough_with}
@@ -207,18 +207,11 @@ module _ (marks : List ℕ) (kept : List Kept) (time : ℕ) (s : Marked) (f : Fo
     held_part : (a b : ℕ) → p.low ≤ a → b ≤ p.high → within a b (tuples_of store) ≡ within a b kept
     held_part a b l h = sym (within_twice p.low p.high a b l h (tuples_of store)) ∙ ap (within a b) whole.chosen ∙ within_twice p.low p.high a b l h kept
 
-    few_part : (a b : ℕ) → p.low ≤ a → b ≤ p.high → length (within a b kept) < 2 ^ 64
-    few_part a b l h =
-        let n : length (within a b (within p.low p.high kept)) ≤ length (within p.low p.high kept) = fewer_pass (is_within a b) (within p.low p.high kept) in
-        let m : length (within a b (within p.low p.high kept)) ≡ length (within a b kept) = ap length (within_twice p.low p.high a b l h kept) in
-        let k : length (within p.low p.high kept) < 2 ^ 64 = whole.few in
-        omega arith
-
     filled_part : (a b : ℕ) → p.low ≤ a → b ≤ p.high → (filled : Bool) → filled ≡ nat_lt 0 (length (within a b (tuples_of store))) → filled ≡ is_selecting (interval a b kept)
     filled_part a b l h filled e = e ∙ ap (λ ys. nat_lt 0 (length ys)) (held_part a b l h)
 
     is_part : (a b : ℕ) → p.low ≤ a → b ≤ p.high → IsHeld (record { low = a; high = b }) store (interval a b kept)
-    is_part a b l h = record { span = refl; chosen = held_part a b l h; few = few_part a b l h }
+    is_part a b l h = record { span = refl; chosen = held_part a b l h }
 
     abbrev front_is : (front : Span) → front ≡ front_of time span → front ≡ record { low = p.low; high = time }
     front_is front g = g ∙ ap (front_of time) (parted_some span e).span

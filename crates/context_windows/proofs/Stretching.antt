@@ -124,7 +124,6 @@ held_each time marks kept store h i c l =
     record {
       span = refl;
       chosen = All-contains (λ (i : Instance). within i.low i.high (tuples_of store) ≡ i.chosen) (stretches_after time marks kept) i h.chosen d;
-      few = All-contains (λ (i : Instance). length i.chosen < 2 ^ 64) (stretches_after time marks kept) i h.few d;
     }
 
 held_list : (store : Stored) (is : List Instance) → ((i : Instance) → Contains is i → IsHeld (span_of i) store i) → AreHeld (map span_of is) store is

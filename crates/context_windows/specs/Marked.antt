@@ -102,10 +102,9 @@ pub record FollowsMarks (marks : List ℕ) (kept : List Kept) (s : Marked) : Typ
   pub known : AreEnoughFrom s.forgotten s.marks marks
   pub spans : s.spans ≡ map span_of (stretches_after s.forgotten marks kept)
 
--- in each interval that ends after a time the store holds exactly the tuples that it selects, and can count them
+-- in each interval that ends after a time the store holds exactly the tuples that it selects
 pub record HoldsStretches (time : ℕ) (marks : List ℕ) (kept : List Kept) (store : Stored) : Type 0 where
   pub chosen : All (λ i. within i.low i.high (tuples_of store) ≡ i.chosen) (stretches_after time marks kept)
-  pub few : All (λ i. length i.chosen < 2 ^ 64) (stretches_after time marks kept)
 
 -- the interval that holds a time, if it has a tuple and stands
 abbrev pub holder_standing : ℕ → ℕ → List ℕ → List Kept → List Instance

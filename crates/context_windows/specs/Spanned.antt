@@ -78,10 +78,9 @@ pub record Follows (gap : ℕ) (kept : List Kept) (s : Spanned) : Type 0 where
   pub in_order : TimesDoNotFall kept
   pub spans : s.spans ≡ map span_of (sessions_after gap s.forgotten kept)
 
--- in each session that ends after a time the store holds exactly the tuples that it selects, and can count them
+-- in each session that ends after a time the store holds exactly the tuples that it selects
 pub record HoldsSessions (gap time : ℕ) (kept : List Kept) (store : Stored) : Type 0 where
   pub chosen : All (λ i. within i.low i.high (tuples_of store) ≡ i.chosen) (sessions_after gap time kept)
-  pub few : All (λ i. length i.chosen < 2 ^ 64) (sessions_after gap time kept)
 
 -- the sessions that stand of those less than the gap away from a time
 abbrev pub near_standing : ℕ → ℕ → ℕ → List Kept → List Instance

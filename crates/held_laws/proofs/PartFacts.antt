@@ -11,12 +11,11 @@ use Rattle.stream_base.specs.declared.limits.TheConstants.{FINAL, JOURNAL_MAX}
 use Rattle.stream_base.specs.Laws.{TimesDoNotFall}
 use Rattle.stream_base.specs.Limits.{Definitions, IsKindWithin}
 use Rattle.stream_base.specs.Model.Changes.{Moment}
-use Rattle.stream_base.specs.Model.Windows.{Instance, instances_of, is_within, sessions, stretches, within}
+use Rattle.stream_base.specs.Model.Windows.{Instance, instances_of, sessions, stretches, within}
 use Rattle.window_laws.specs.Positions.{AreKept}
 use Rattle.run_laws.specs.Runs.{IsAligned}
 use Rattle.window_laws.proofs.InstanceFacts.{sessions_select, spans_hold_selections}
 use Rattle.agg_store.specs.Stored.{IsStore, Stored, tuples_of}
-use Rattle.window_spans.proofs.Parts.{fewer_pass}
 use Rattle.context_windows.specs.Aligned.{IsOfSessions, IsOfWindows}
 use Rattle.context_windows.specs.Spanned.{HoldsSessions, IsSession}
 use Rattle.context_windows.specs.Marked.{HoldsStretches, IsEdge}
@@ -38,9 +37,6 @@ module _ (d : Definitions) (m : Moment) (n : ℕ) (s : Stored) (h : IsHeld d m n
   held_within : (is : List Instance) → All (λ (i : Instance). i.chosen ≡ within i.low i.high (drop n m.kept)) is → All (λ (i : Instance). within i.low i.high (tuples_of s) ≡ i.chosen) is
   held_within is a = All-weaker (λ (i : Instance). i.chosen ≡ within i.low i.high (drop n m.kept)) (λ i. within i.low i.high (tuples_of s) ≡ i.chosen) (λ i e. ap (within i.low i.high) h.tuples ∙ sym e) is a
 
-  few_within : (next : ℕ) → AreLists m next → (is : List Instance) → All (λ (i : Instance). i.chosen ≡ within i.low i.high (drop n m.kept)) is → All (λ (i : Instance). length i.chosen < 2 ^ 64) is
-  few_within next l is a = All-weaker (λ (i : Instance). i.chosen ≡ within i.low i.high (drop n m.kept)) (λ i. length i.chosen < 2 ^ 64) (λ i e. omega (arith, ap length e, fewer_pass (is_within i.low i.high) (drop n m.kept), few_left next l)) is a
-
   of_windows : IsOfWindows d.windows s
   of_windows = record {
     kinds = (h.may_leave).kinds;
@@ -55,7 +51,6 @@ holds_sessions d m n next s w gap time h l c e =
     let a : All (λ (i : Instance). i.chosen ≡ within i.low i.high (drop n m.kept)) (sessions gap (drop n m.kept)) = sessions_select gap (drop n m.kept) k.0 (kept d m n s h).in_order in
     record {
       chosen = All-filter (λ i. nat_lt time i.high) (λ i. within i.low i.high (tuples_of s) ≡ i.chosen) (sessions gap (drop n m.kept)) (held_within d m n s h (sessions gap (drop n m.kept)) a);
-      few = All-filter (λ i. nat_lt time i.high) (λ i. length i.chosen < 2 ^ 64) (sessions gap (drop n m.kept)) (few_within d m n s h next l (sessions gap (drop n m.kept)) a);
     }
 
 pub holds_stretches : (d : Definitions) (m : Moment) (n next : ℕ) (s : Stored) (time : ℕ) → IsHeld d m n s → AreLists m next → HoldsStretches time m.marks (drop n m.kept) s
@@ -64,7 +59,6 @@ holds_stretches d m n next s time h l =
     let a : All (λ (i : Instance). i.chosen ≡ within i.low i.high (drop n m.kept)) (stretches m.marks (drop n m.kept)) = spans_hold_selections Marks (drop n m.kept) m.marks tt refl (kept d m n s h).in_order in
     record {
       chosen = All-filter (λ i. nat_lt time i.high) (λ i. within i.low i.high (tuples_of s) ≡ i.chosen) (stretches m.marks (drop n m.kept)) (held_within d m n s h (stretches m.marks (drop n m.kept)) a);
-      few = All-filter (λ i. nat_lt time i.high) (λ i. length i.chosen < 2 ^ 64) (stretches m.marks (drop n m.kept)) (few_within d m n s h next l (stretches m.marks (drop n m.kept)) a);
     }
 
 pub few_held : (d : Definitions) (m : Moment) (n next : ℕ) (s : Stored) → IsHeld d m n s → AreLists m next → length (tuples_of s) < 2 ^ 64

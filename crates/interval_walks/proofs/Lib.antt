@@ -1,5 +1,6 @@
 pub mod Counts
 pub mod HeldFacts
+pub mod JoinedFacts
 pub mod NextFacts
 pub mod Ranges
 pub mod ServedFacts

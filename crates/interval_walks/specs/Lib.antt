@@ -2,4 +2,5 @@ pub mod Folds
 pub mod Spans
 pub mod Held
 pub mod Told
+pub mod Joined
 pub mod Walks

@@ -11,7 +11,7 @@ ghost use Rattle.interval_walks.specs.Spans.{last_end};
 ghost use Rattle.interval_walks.specs.Walks.{MayWalk, StartsAt};
 
 use crate::held::Held;
-use crate::next::{next_due, next_slice};
+use crate::next::next_due;
 use crate::owner::Owner;
 use crate::span::Span;
 use agg_laws::{AggQueue, Steps};
@@ -40,7 +40,7 @@ pub fn tell_due<Q: AggQueue<Bundle>, S: AggStore, L>(
         ≤ room out.old }
     ensures told { HoldsFrom from (S.stored store.now) held.old
         → (held.old).to ≤ from + span.now.length
-        → length (tuples_of (S.stored store.now)) < 2 ^ 64 → out.new.items ≡ out.old.items
+        → out.new.items ≡ out.old.items
         ++ map (new_at owner.entry.window owner.entry.key.now owner.entry.func span.now.length
         (tuples_of (S.stored store.now)))
         (due_from span.now.length span.now.slide (tuples_of (S.stored store.now)) from new) }
@@ -89,7 +89,7 @@ fn tell_one<Q: AggQueue<Bundle>, S: AggStore, L>(
     requires spare { 1 ≤ room out.old }
     ensures told { HoldsFrom low (S.stored store.now) held.old
         → (held.old).to ≤ low + span.now.length
-        → length (tuples_of (S.stored store.now)) < 2 ^ 64 → out.new.items ≡ out.old.items
+        → out.new.items ≡ out.old.items
         ++ new_at owner.entry.window owner.entry.key.now owner.entry.func span.now.length
         (tuples_of (S.stored store.now)) low ∷ [] }
     ensures held { HoldsFrom low (S.stored store.now) held.old
@@ -121,19 +121,6 @@ pub fn count_due<S: AggStore>(store: &S, span: &Span, from: u64, new: u64) -> u6
     while let Some(low) = next_due(store, span, start, new) {
         count += 1;
         start = low + span.slide;
-    }
-    count
-}
-
-/// How many slices begin in an interval.
-pub fn count_slices<S: AggStore>(store: &S, from: u64, to: u64) -> u64
-    ensures { result ≡ length (runs_within from to (S.stored store.now).slices) }
-{
-    let mut count = 0;
-    let mut at = from;
-    while let Some(slice) = next_slice(store, at, to) {
-        count += 1;
-        at = slice.high + 1;
     }
     count
 }

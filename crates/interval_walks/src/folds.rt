@@ -9,7 +9,6 @@ ghost use Rattle.interval_walks.specs.Folds.{AreFolds, AreHeads, MayShare, slice
 ghost use Rattle.interval_walks.specs.Walks.{MayFold};
 
 use crate::late::Complete;
-use crate::next::next_slice;
 use crate::span::Span;
 use agg_laws::{Monoid, Steps};
 use agg_store::AggStore;
@@ -17,6 +16,9 @@ use aggregates::Bundle;
 
 /// How many intervals are folded together at most.
 pub const MOST: usize = 64;
+
+/// How many have places in the smaller of two arrays.
+pub const FEW: usize = 16;
 
 // How many slices may begin in them, for each.
 const SLICES_EACH: u64 = 32;
@@ -37,25 +39,7 @@ pub fn may_share<S: AggStore>(span: &Span, store: &S, complete: Complete) -> boo
         return false;
     }
     let most = SLICES_EACH * complete.count;
-    are_few(store, first, last + span.length, most)
-}
-
-// Whether at most so many slices begin in an interval.
-fn are_few<S: AggStore>(store: &S, from: u64, to: u64, most: u64) -> bool
-    ensures few { result ≡ true
-        ↔ (length (runs_within from to (S.stored store.now).slices) ≤ most) }
-    ensures holds { IsStore (S.stored store.now) }
-{
-    let mut left = most;
-    let mut at = from;
-    while let Some(slice) = next_slice(store, at, to) {
-        if left == 0 {
-            return false;
-        }
-        left -= 1;
-        at = slice.high + 1;
-    }
-    true
+    store.slices_within(first, last + span.length) <= most
 }
 
 /// Folds each of the intervals: what begins before the first one's end, from the newest start down,

@@ -11,7 +11,7 @@ ghost use Rattle.interval_walks.specs.Folds.{IsShared, MayShare, slices_under};
 ghost use Rattle.interval_walks.specs.Told.{again_or_new, complete_starts, ended, former_at, starts_from, told_at, told_late};
 ghost use Rattle.interval_walks.specs.Walks.{MayFold, StartsAt};
 
-use crate::folds::{MOST, fold_together, may_share};
+use crate::folds::{FEW, MOST, fold_together, may_share};
 use crate::owner::{Owner, former};
 use crate::span::Span;
 use agg_laws::{Monoid, Steps};
@@ -74,8 +74,7 @@ pub fn append_formers<S: AggStore, L>(
 )
     requires intervals { MayFold span.now (S.stored store.now).slices complete }
     requires spare { complete.count ≤ room into.old }
-    ensures told { length (tuples_of (S.stored store.now)) < 2 ^ 64
-        → into.new.items ≡ into.old.items
+    ensures told { into.new.items ≡ into.old.items
         ++ map (former_at func span.now.length (tuples_of (S.stored store.now)))
         (starts_from span.now.slide complete.first complete.count) }
     ensures adds { Adds complete.count into.old into.new }
@@ -104,8 +103,7 @@ fn append_some_formers<S: AggStore, L>(
 )
     requires intervals { MayFold span.now (S.stored store.now).slices complete }
     requires spare { complete.count ≤ room into.old }
-    ensures told { length (tuples_of (S.stored store.now)) < 2 ^ 64
-        → into.new.items ≡ into.old.items
+    ensures told { into.new.items ≡ into.old.items
         ++ map (former_at func span.now.length (tuples_of (S.stored store.now)))
         (starts_from span.now.slide complete.first complete.count) }
     ensures adds { Adds complete.count into.old into.new }
@@ -130,8 +128,7 @@ fn append_each_former<S: AggStore, L>(
 )
     requires intervals { MayFold span.now (S.stored store.now).slices complete }
     requires spare { complete.count ≤ room into.old }
-    ensures told { length (tuples_of (S.stored store.now)) < 2 ^ 64
-        → into.new.items ≡ into.old.items
+    ensures told { into.new.items ≡ into.old.items
         ++ map (former_at func span.now.length (tuples_of (S.stored store.now)))
         (starts_from span.now.slide complete.first complete.count) }
     ensures adds { Adds complete.count into.old into.new }
@@ -159,8 +156,7 @@ fn append_shared_formers<S: AggStore, L>(
     requires share { MayShare span.now (S.stored store.now).slices complete }
     requires holds { IsStore (S.stored store.now) }
     requires spare { complete.count ≤ room into.old }
-    ensures told { length (tuples_of (S.stored store.now)) < 2 ^ 64
-        → into.new.items ≡ into.old.items
+    ensures told { into.new.items ≡ into.old.items
         ++ map (former_at func span.now.length (tuples_of (S.stored store.now)))
         (starts_from span.now.slide complete.first complete.count) }
     ensures adds { Adds complete.count into.old into.new }
@@ -168,8 +164,39 @@ fn append_shared_formers<S: AggStore, L>(
         + length (slices_under span.now (S.stored store.now).slices complete)
         + 4 * complete.count }
 {
-    let mut folds = [Bundle::unit(); MOST];
-    fold_together(span, store, complete, &mut folds, steps);
+    if complete.count <= FEW as u64 {
+        let mut folds = [Bundle::unit(); FEW];
+        append_folded_formers(func, span, store, complete, &mut folds, into, steps);
+    } else {
+        let mut folds = [Bundle::unit(); MOST];
+        append_folded_formers(func, span, store, complete, &mut folds, into, steps);
+    }
+}
+
+// The same, with places for so many folds at least.
+fn append_folded_formers<S: AggStore, L>(
+    func: Func,
+    span: &Span,
+    store: &S,
+    complete: Complete,
+    folds: &mut [Bundle],
+    into: &mut Vec<Option<Former>>,
+    steps: &mut Steps<L>,
+)
+    requires intervals { MayFold span.now (S.stored store.now).slices complete }
+    requires share { MayShare span.now (S.stored store.now).slices complete }
+    requires holds { IsStore (S.stored store.now) }
+    requires places { complete.count ≤ length folds.old }
+    requires spare { complete.count ≤ room into.old }
+    ensures told { into.new.items ≡ into.old.items
+        ++ map (former_at func span.now.length (tuples_of (S.stored store.now)))
+        (starts_from span.now.slide complete.first complete.count) }
+    ensures adds { Adds complete.count into.old into.new }
+    ensures cost { steps.new ≤ steps.old
+        + length (slices_under span.now (S.stored store.now).slices complete)
+        + 4 * complete.count }
+{
+    fold_together(span, store, complete, folds, steps);
     let folded = &folds[..];
     for k in 0..complete.count {
         into.push_reserved(former(func, &folded[k as usize]));
@@ -190,7 +217,7 @@ pub fn append_late<S: AggStore, L>(
     requires intervals { MayFold span.now (S.stored store.now).slices complete }
     requires formers { complete.count ≤ length formers.now }
     requires spare { complete.count ≤ room out.old }
-    ensures told { length (tuples_of (S.stored store.now)) < 2 ^ 64 → out.new.items ≡ out.old.items
+    ensures told { out.new.items ≡ out.old.items
         ++ told_late (told_at owner.entry.window owner.entry.key.now owner.entry.func
         span.now.length (tuples_of (S.stored store.now)))
         (starts_from span.now.slide complete.first complete.count) formers.now }
@@ -223,7 +250,7 @@ fn append_some_late<S: AggStore, L>(
     requires intervals { MayFold span.now (S.stored store.now).slices complete }
     requires formers { complete.count ≤ length formers.now }
     requires spare { complete.count ≤ room out.old }
-    ensures told { length (tuples_of (S.stored store.now)) < 2 ^ 64 → out.new.items ≡ out.old.items
+    ensures told { out.new.items ≡ out.old.items
         ++ told_late (told_at owner.entry.window owner.entry.key.now owner.entry.func
         span.now.length (tuples_of (S.stored store.now)))
         (starts_from span.now.slide complete.first complete.count) formers.now }
@@ -251,7 +278,7 @@ fn append_each_late<S: AggStore, L>(
     requires intervals { MayFold span.now (S.stored store.now).slices complete }
     requires formers { complete.count ≤ length formers.now }
     requires spare { complete.count ≤ room out.old }
-    ensures told { length (tuples_of (S.stored store.now)) < 2 ^ 64 → out.new.items ≡ out.old.items
+    ensures told { out.new.items ≡ out.old.items
         ++ told_late (told_at owner.entry.window owner.entry.key.now owner.entry.func
         span.now.length (tuples_of (S.stored store.now)))
         (starts_from span.now.slide complete.first complete.count) formers.now }
@@ -283,7 +310,7 @@ fn append_shared_late<S: AggStore, L>(
     requires share { MayShare span.now (S.stored store.now).slices complete }
     requires holds { IsStore (S.stored store.now) }
     requires spare { complete.count ≤ room out.old }
-    ensures told { length (tuples_of (S.stored store.now)) < 2 ^ 64 → out.new.items ≡ out.old.items
+    ensures told { out.new.items ≡ out.old.items
         ++ told_late (told_at owner.entry.window owner.entry.key.now owner.entry.func
         span.now.length (tuples_of (S.stored store.now)))
         (starts_from span.now.slide complete.first complete.count) formers.now }
@@ -292,8 +319,46 @@ fn append_shared_late<S: AggStore, L>(
         + length (slices_under span.now (S.stored store.now).slices complete)
         + 4 * complete.count }
 {
-    let mut folds = [Bundle::unit(); MOST];
-    fold_together(span, store, complete, &mut folds, steps);
+    if complete.count <= FEW as u64 {
+        let mut folds = [Bundle::unit(); FEW];
+        append_folded_late(
+            owner, span, store, complete, formers, &mut folds, out, steps,
+        );
+    } else {
+        let mut folds = [Bundle::unit(); MOST];
+        append_folded_late(
+            owner, span, store, complete, formers, &mut folds, out, steps,
+        );
+    }
+}
+
+// The same, with places for so many folds at least.
+fn append_folded_late<S: AggStore, L>(
+    owner: Owner,
+    span: &Span,
+    store: &S,
+    complete: Complete,
+    formers: &[Option<Former>],
+    folds: &mut [Bundle],
+    out: &mut Vec<Change>,
+    steps: &mut Steps<L>,
+)
+    requires intervals { MayFold span.now (S.stored store.now).slices complete }
+    requires formers { complete.count ≤ length formers.now }
+    requires share { MayShare span.now (S.stored store.now).slices complete }
+    requires holds { IsStore (S.stored store.now) }
+    requires places { complete.count ≤ length folds.old }
+    requires spare { complete.count ≤ room out.old }
+    ensures told { out.new.items ≡ out.old.items
+        ++ told_late (told_at owner.entry.window owner.entry.key.now owner.entry.func
+        span.now.length (tuples_of (S.stored store.now)))
+        (starts_from span.now.slide complete.first complete.count) formers.now }
+    ensures adds { Adds complete.count out.old out.new }
+    ensures cost { steps.new ≤ steps.old
+        + length (slices_under span.now (S.stored store.now).slices complete)
+        + 4 * complete.count }
+{
+    fold_together(span, store, complete, folds, steps);
     let folded = &folds[..];
     for k in 0..complete.count {
         let low = (complete.first + k) * span.slide;
@@ -311,6 +376,7 @@ fn fold_interval<S: AggStore, L>(span: &Span, store: &S, low: u64, steps: &mut S
     ensures one_each { steps.new ≤ steps.old
         + length (runs_within low (low + span.now.length) (S.stored store.now).slices) }
     ensures cost { steps.new ≤ steps.old + 64 * ((S.stored store.now).reach + 2) }
+    ensures holds { IsStore (S.stored store.now) }
 {
     store.fold(low, low + span.length, steps)
 }

@@ -11,14 +11,16 @@
 mod due;
 mod folds;
 mod held;
+mod joined;
 mod late;
 mod next;
 mod owner;
 mod served;
 mod span;
 
-pub use due::{count_due, count_slices, tell_due};
+pub use due::{count_due, tell_due};
 pub use held::Held;
+pub use joined::{append_joined, is_order_free};
 pub use late::{Complete, append_formers, append_late, complete_at};
 pub use next::end_from;
 pub use owner::Owner;

@@ -26,6 +26,7 @@ use Rattle.key_parts.specs.Held.{IsHeld}
 use Rattle.key_parts.specs.Moves.{AreLists, Comes, IsMarkStep, IsPurge, IsPutStep}
 use Rattle.key_parts.specs.Moves.Comes.{Enters, Leaves}
 use Rattle.held_laws.proofs.AlikeFacts.{rest_kept}
+use Rattle.held_laws.proofs.PartFacts.{few_held}
 
 -- ---- runs that are parted in one way are so in a weaker way
 module _ (near apart near_too apart_too : ℕ → ℕ → Type 0) (inside : (a b : ℕ) → near a b → near_too a b) (between : (a b : ℕ) → apart a b → apart_too a b) where
@@ -60,6 +61,7 @@ store_held d m n next s h lists values marks = record {
     ordered = subst AreInOrder (sym h.sliced) (runs_rise d.windows s.marks (tuples_of s) (h.may_leave).kinds (subst TimesDoNotFall (sym h.tuples) (rest_kept d m n h.may_leave).in_order));
     in_time = subst (All (λ (x : Kept). x.time ≤ TIME_MAX)) (sym h.tuples) (All-drop (λ (x : Kept). x.time ≤ TIME_MAX) n m.kept lists.times);
     values = values;
+    counted = few_held d m n next s h lists;
   };
   marks = marks;
 }

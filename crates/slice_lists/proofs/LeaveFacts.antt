@@ -5,7 +5,7 @@ use Rattle.std.specs.Int.{w64}
 use Rattle.std.specs.List.{All, filter, list_any}
 use Rattle.std.specs.List.Sorted.{IsStrictlyIncreasing}
 use Rattle.std.proofs.lemmas.Bool.{and_from, and_left, and_right, cases_lt, false≢true, le-leb, le-ltb, leb-false, lt-leb, lt-ltb, or_parts}
-use Rattle.std.proofs.lemmas.List.{get_or_default, get_or-drop, get_or-take, length-drop, length-take, take-append-drop}
+use Rattle.std.proofs.lemmas.List.{get_or_default, get_or-drop, get_or-take, length-append, length-drop, length-take, take-append-drop}
 use Rattle.std.proofs.lemmas.List.Concat.{flat_map-append}
 use Rattle.std.proofs.lemmas.List.Elements.{All-head, All-tail, All-weaker, filter-append}
 use Rattle.std.proofs.lemmas.List.Folds.{list_any_at, list_any_none}
@@ -95,6 +95,7 @@ module _ (runs : List (List Kept)) (time count : ℕ) (h : IsPlaceOf first_time 
       ordered = order_from runs count s.ordered;
       in_time = (All-split (λ (x : Kept). x.time ≤ TIME_MAX) (joined (take count runs)) (joined (drop count runs)) (subst (All (λ (x : Kept). x.time ≤ TIME_MAX)) joined_halves s.in_time)).1;
       values = (All-split (λ (x : Kept). FitsSigned w64 x.value) (joined (take count runs)) (joined (drop count runs)) (subst (All (λ (x : Kept). FitsSigned w64 x.value)) joined_halves s.values)).1;
+      counted = omega (arith, ap length joined_halves, length-append (joined (take count runs)) (joined (drop count runs)), s.counted);
     }
 
 -- ---- the marks that are left

@@ -1,5 +1,5 @@
 -- Slices after an edit: their tuples, and how they show.
-use Rattle.std.proofs.Common.{◌≡◌, ◌∙◌, ℕ, zero, suc, ◌+◌, ◌-◌, ◌<◌, ◌≤◌, true, false, max, List, [], ◌∷◌, ◌++◌, length, get_or, take, drop, map, ap, sym, refl, subst, arith, inl, inr}
+use Rattle.std.proofs.Common.{◌≡◌, ◌∙◌, ℕ, zero, suc, ◌+◌, ◌-◌, ◌^◌, ◌<◌, ◌≤◌, true, false, max, List, [], ◌∷◌, ◌++◌, length, get_or, take, drop, map, ap, sym, refl, subst, arith, inl, inr}
 use Rattle.std.specs.Prelude.{◌⊎◌, nat_lt, FitsSigned}
 use Rattle.std.specs.Int.{w64}
 use Rattle.std.specs.List.{All}
@@ -163,11 +163,12 @@ entered_number runs bounds from to x le few o e =
     omega (arith, ap (λ (s : Slice). s.number) (entered_one runs bounds from to x le few o e), put_length (joined (slices_between from to runs)) x, entered_within runs from to x le)
 
 -- with a tuple within the limits they still hold
-pub entered_hold : (runs : List (List Kept)) (from to : ℕ) (x : Kept) → from ≤ to → AreSlices runs → AreInOrder (entered_at from to x runs) → x.time ≤ TIME_MAX → FitsSigned w64 x.value → AreSlices (entered_at from to x runs)
-entered_hold runs from to x le h o time value = record {
+pub entered_hold : (runs : List (List Kept)) (from to : ℕ) (x : Kept) → from ≤ to → AreSlices runs → AreInOrder (entered_at from to x runs) → x.time ≤ TIME_MAX → FitsSigned w64 x.value → length (joined runs) + 1 < 2 ^ 64 → AreSlices (entered_at from to x runs)
+entered_hold runs from to x le h o time value room = record {
   ordered = o;
   in_time = subst (All (λ (y : Kept). y.time ≤ TIME_MAX)) (entered_tuples runs from to x le o) (All_put (λ (y : Kept). y.time ≤ TIME_MAX) (joined runs) x h.in_time time);
   values = subst (All (λ (y : Kept). FitsSigned w64 y.value)) (entered_tuples runs from to x le o) (All_put (λ (y : Kept). FitsSigned w64 y.value) (joined runs) x h.values value);
+  counted = omega (arith, ap length (entered_tuples runs from to x le o), put_length (joined runs) x, room);
 }
 
 -- the first times rise from slice to slice

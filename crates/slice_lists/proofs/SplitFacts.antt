@@ -153,6 +153,7 @@ module _ (runs : List (List Kept)) (at time : ℕ) (l : at < length runs) where
       ordered = split_order (take at runs) run front back (drop (suc at) runs) time (subst AreInOrder (in_parts runs at l) h.ordered) whole m n (filter_has (λ (x : Kept). nat_lt x.time time) (λ x. x.time < time) (λ x e. ltb-true x.time time e) run) (filter_has (λ (x : Kept). nat_le time x.time) (λ x. time ≤ x.time) (λ x e. leb-true time x.time e) run);
       in_time = subst (All (λ (x : Kept). x.time ≤ TIME_MAX)) split_tuples h.in_time;
       values = subst (All (λ (x : Kept). FitsSigned w64 x.value)) split_tuples h.values;
+      counted = omega (arith, ap length split_tuples, h.counted);
     }
       where
         filter_has : (p : Kept → Bool) (P : Kept → Type 0) → ((x : Kept) → p x ≡ true → P x) → (xs : List Kept) → All P (filter p xs)

@@ -1,5 +1,5 @@
 -- Slices as lists of tuples, and how one shows.
-use Rattle.std.specs.Prelude.{◌≡◌, ◌≤◌, ◌<◌, ◌+◌, ◌-◌, ◌++◌, ℕ, ℤ, List, [], ◌∷◌, length, take, drop, map, suc, filter, slice_index_or, nat_lt, nat_le, All, FitsSigned}
+use Rattle.std.specs.Prelude.{◌≡◌, ◌≤◌, ◌<◌, ◌+◌, ◌-◌, ◌^◌, ◌++◌, ℕ, ℤ, List, [], ◌∷◌, length, take, drop, map, suc, filter, slice_index_or, nat_lt, nat_le, All, FitsSigned}
 use Rattle.std.specs.Int.{w64}
 use Rattle.std.specs.List.{flat_map}
 use Rattle.stream_base.specs.declared.kept.Kept.{Kept}
@@ -21,11 +21,12 @@ values_of tuples = map (λ x. x.value) tuples
 abbrev pub slice_of : List Kept → Slice
 slice_of run = record { low = first_time run; high = last_time run; number = length run }
 
--- what holds of the slices of every store: times don't fall inside a slice and rise from one to the next, none is above the greatest time, and each value is a number of 64 bits
+-- what holds of the slices of every store: times don't fall inside a slice and rise from one to the next, none is above the greatest time, each value is a number of 64 bits, and 64 bits count the tuples
 pub record AreSlices (slices : List (List Kept)) : Type 0 where
   pub ordered : AreInOrder slices
   pub in_time : All (λ x. x.time ≤ TIME_MAX) (joined slices)
   pub values : All (λ x. FitsSigned w64 x.value) (joined slices)
+  pub counted : length (joined slices) < 2 ^ 64
 
 -- slices as lists of tuples, and for how many more tuples there is room
 pub record Sliced : Type 0 where

@@ -217,6 +217,12 @@ impl<T: AggTree<Bundle>> AggStore for SliceStore<T> {
         self.runs.len() as u64
     }
 
+    fn slices_within(&self, low: u64, high: u64) -> u64 {
+        let begun = self.runs.before(low);
+        let ended = self.runs.before(high);
+        ended.saturating_sub(begun) as u64
+    }
+
     fn slice_from(&self, time: u64) -> Option<Slice> {
         let at = self.runs.before(time);
         if at < self.runs.len() {

@@ -91,7 +91,7 @@ module _ (window : ℕ) (key : List ℕ) (def : Def) (time water : ℕ) (gone be
       let t : is_within low (low + length_of def.kind) x ≡ true = (λ i. nat_le low (h.at i) && nat_lt (h.at i) (low + length_of def.kind)) ∙ (λ i. le-leb low time m.2 i && lt-ltb time (low + length_of def.kind) m.3 i) in
       ap (within low (low + length_of def.kind)) h.put
       ∙ put_within low (low + length_of def.kind) before x (nd_split (λ (x : Kept). x.time) gone before h.ordered).1 t
-      ∙ ap (λ l. put_in_order l x) (sym (nothing_dropped low (low + length_of def.kind) gone before (apart_at def.kind time water low gone (h.found).apart c)))
+      ∙ ap (λ l. put_in_order l x) (sym (nothing_dropped low (low + length_of def.kind) gone before (apart_at def.kind time water low gone h.apart c)))
       ∙ sym (put_within low (low + length_of def.kind) (gone ++ before) x h.ordered t)
 
   again : (b : Bool) (row : _) (former : Former) → again_or_new (cond b (Some former) None) row ≡ cond b (Again row former) (New row)

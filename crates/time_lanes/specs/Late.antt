@@ -1,5 +1,5 @@
 -- What a late tuple finds of the intervals that hold it, and what it changes.
-use Rattle.std.specs.Prelude.{◌≡◌, ◌<◌, ◌+◌, ◌^◌, ℕ, List, [], ◌++◌, Option, map, length, All}
+use Rattle.std.specs.Prelude.{◌≡◌, ◌+◌, ℕ, List, [], ◌++◌, Option, map, All}
 use Rattle.stream_base.specs.declared.def.Def.{Def}
 use Rattle.stream_base.specs.declared.former.Former.{Former}
 use Rattle.stream_base.specs.declared.kept.Kept.{Kept}
@@ -26,15 +26,10 @@ AreApartAt kind time gone =
     All (λ low. within low (low + length_of kind) gone ≡ [])
     (starts_holding (length_of kind) (slide_of kind) time)
 
--- what a tuple at a time finds: those of its key are some that were dropped, in no interval that holds the time, and then those that the store holds
-pub record IsFound (kind : Kind) (time : ℕ) (gone : List Kept) (s : Stored) : Type 0 where
-  pub apart : AreApartAt kind time gone
-  pub few : length (tuples_of s) < 2 ^ 64
-
 -- what a tuple left that has been put: the store holds it in its place among those before, and what stood is told of those
 pub record IsLate (def : Def) (time water : ℕ) (gone before : List Kept) (x : Kept) (formers : List (Option Former)) (s : Stored) : Type 0 where
   pub at : x.time ≡ time
   pub put : tuples_of s ≡ put_in_order before x
   pub ordered : TimesDoNotFall (gone ++ before)
-  pub found : IsFound def.kind time gone s
+  pub apart : AreApartAt def.kind time gone
   pub stood : formers ≡ formers_of def time water (gone ++ before)

@@ -1,5 +1,5 @@
 -- What a move of the watermark completes, and what a lane takes up for it.
-use Rattle.std.specs.Prelude.{◌≡◌, ◌<◌, ◌+◌, ◌-◌, ◌*◌, ◌^◌, ℕ, List, [], max, length}
+use Rattle.std.specs.Prelude.{◌≡◌, ◌<◌, ◌+◌, ◌-◌, ◌*◌, ℕ, List, [], max}
 use Rattle.stream_base.specs.declared.kept.Kept.{Kept}
 use Rattle.stream_base.specs.declared.kind.Kind.{Kind}
 use Rattle.stream_base.specs.Model.Changes.{Moment}
@@ -7,7 +7,7 @@ use Rattle.stream_base.specs.Model.Windows.{within}
 use Rattle.window_laws.specs.Late.{length_of, slide_of}
 use Rattle.run_laws.specs.Runs.{runs_within}
 use Rattle.window_laws.specs.Walk.{due_from, next_start_of}
-use Rattle.agg_store.specs.Stored.{Stored, tuples_of}
+use Rattle.agg_store.specs.Stored.{Stored}
 use Rattle.time_lanes.specs.Lane.{Knows, Laned, fresh_to}
 use Rattle.interval_walks.specs.Spans.{last_end_of}
 
@@ -47,4 +47,3 @@ AreApartAbove kind time gone =
 pub record MayMove (kind : Kind) (old : ℕ) (gone : List Kept) (s : Stored) (lane : Laned) : Type 0 where
   pub knows : Knows kind old s lane
   pub apart : AreApartAbove kind old gone
-  pub few : length (tuples_of s) < 2 ^ 64

@@ -15,7 +15,7 @@ ghost use Rattle.window_laws.specs.Walk.{next_start_of};
 ghost use Rattle.agg_store.specs.Stored.{IsSliced, Stored, tuples_of};
 ghost use Rattle.time_lanes.specs.Calls.{AppendsWithin, IsServedUnder, MayComeTo, MayFollow, MayHold};
 ghost use Rattle.time_lanes.specs.Lane.{HasMoreRoom, HoldsTheSame, IsRefreshed, IsSameUpTo, Knows, KnowsAll};
-ghost use Rattle.time_lanes.specs.Late.{IsFound, IsLate, complete_holding, formers_of};
+ghost use Rattle.time_lanes.specs.Late.{AreApartAt, IsLate, complete_holding, formers_of};
 ghost use Rattle.time_lanes.specs.Shared.{IsSharedAt};
 ghost use Rattle.time_lanes.specs.Moves.{MayMove, completed_starts, moment, slices_between, slices_due, slices_in_last};
 ghost use Rattle.interval_walks.specs.Spans.{IsWindowAt, is_served, last_end_of};
@@ -24,8 +24,8 @@ use agg_laws::{AggQueue, Steps};
 use agg_store::AggStore;
 use aggregates::Bundle;
 use interval_walks::{
-    Held, Owner, Served, Span, append_formers, append_late, complete_at, count_due, count_slices,
-    end_from, serve, tell_due, window_at,
+    Held, Owner, Served, Span, append_formers, append_late, complete_at, count_due, end_from,
+    serve, tell_due, window_at,
 };
 use std::alloc::Global;
 use std::marker::Model;
@@ -97,7 +97,7 @@ impl<Q: AggQueue<Bundle>> Lane<Q> {
             start.max(self.held.to())
         };
         self.held
-            .reserve(count_slices(store, from, span.last_end(new)))?;
+            .reserve(store.slices_within(from, span.last_end(new)))?;
         Ok(count_due(store, &span, start, new))
     }
 
@@ -211,7 +211,7 @@ impl<Q: AggQueue<Bundle>> Lane<Q> {
             → length (complete_holding def.kind time water)
             ≤ room into.old }
         ensures formers { (def : Def) (gone : List Kept) → IsWindowAt defs.now.windows window def
-            → IsFound def.kind time gone (S.stored store.now) → into.new.items
+            → AreApartAt def.kind time gone → into.new.items
             ≡ into.old.items ++ formers_of def time water (gone ++ tuples_of (S.stored store.now)) }
         ensures number { (def : Def) → IsWindowAt defs.now.windows window def → vec_len into.new
             ≡ vec_len into.old + length (complete_holding def.kind time water) }

@@ -32,7 +32,6 @@ use Rattle.stream_base.proofs.Filters.{filter_none}
 use Rattle.run_laws.proofs.Order.{nd_head, nd_tail}
 use Rattle.window_laws.proofs.SettledFacts.{all_member}
 use Rattle.agg_store.specs.Stored.{Stored, tuples_of}
-use Rattle.slice_lists.proofs.SliceEdits.{put_length}
 use Rattle.interval_walks.specs.Told.{former_at}
 use Rattle.time_lanes.specs.Late.{IsLate, complete_holding, formers_of}
 use Rattle.time_lanes.specs.Moves.{moment}
@@ -41,7 +40,7 @@ use Rattle.key_parts.specs.Moves.{AreLists, Comes, IsPutStep, IsStored}
 use Rattle.key_parts.specs.Moves.Comes.{Enters, Leaves}
 use Rattle.key_parts.specs.Work.{change_work, row_work}
 use Rattle.time_parts.specs.Lanes.{IsTimedAt, kind_at}
-use Rattle.time_parts.proofs.WindowFacts.{apart_at, few_without, member_at, timed_at}
+use Rattle.time_parts.proofs.WindowFacts.{apart_at, member_at, timed_at}
 
 -- ---- a tuple comes
 timed_counts_not : (kind : Kind) → is_timed kind ≡ true → is_events kind ≡ false
@@ -59,12 +58,6 @@ pub taken_in : (d : Definitions) (window n : ℕ) (before : Stored) (x : Kept) (
 taken_in d window n before x more after t (Enters some stored) = (stored, refl)
 taken_in d window n before x more after t (Leaves all none) =
     absurd (false≢true (sym (counts_not d window t) ∙ all_member (λ (w : Def). is_events w.kind) d.windows (window_at d window) all (member_at d window t)))
-
--- a key has few tuples
-pub few_held : (m : Moment) (n next : ℕ) (s : Stored) → AreLists m next → tuples_of s ≡ drop n m.kept → length (tuples_of s) < 2 ^ 64
-few_held m n next s h e =
-    let l : length (tuples_of s) ≡ length (drop n m.kept) = ap length e in
-    omega (arith, few_without n m.kept, h.few, h.most)
 
 -- ---- a mark comes
 marks_aside : (kind : Kind) (kept : List Kept) (marks others : List ℕ) (water : ℕ) → is_timed kind ≡ true → standing_of kind kept marks water ≡ standing_of kind kept others water
@@ -155,16 +148,10 @@ pub is_late : (d : Definitions) (window : ℕ) (m : Moment) (n : ℕ) (before : 
 is_late d window m n before x more after formers water t step is told =
     let stored = (taken_in d window n before x more after t step.comes).0 in
     let put : tuples_of after ≡ put_in_order (drop n m.kept) x = stored.tuples ∙ ap (λ l. put_in_order l x) step.held.tuples in
-    let l : length (tuples_of after) ≡ length (put_in_order (drop n m.kept) x) = ap length put in
-    let f : length m.kept ≤ x.position = (step.lists).few in
-    let k : x.position < JOURNAL_MAX = step.next in
     record {
       at = refl;
       put = put;
       ordered = subst TimesDoNotFall (sym (take-append-drop n m.kept)) (step.held.may_leave.kept).in_order;
-      found = record {
-        apart = apart_at d window m n t step.held.may_leave x.time step.in_time;
-        few = omega (arith, l, put_length (drop n m.kept) x, few_without n m.kept);
-      };
+      apart = apart_at d window m n t step.held.may_leave x.time step.in_time;
       stood = told ∙ (λ i. formers_of (window_at d window) x.time (is i) (sym (take-append-drop n m.kept) i));
     }

@@ -85,9 +85,6 @@ kept_without n kept h = record {
   distinct = apart_without n kept h.distinct;
 }
 
-pub few_without : (n : ℕ) (kept : List Kept) → length (drop n kept) ≤ length kept
-few_without n kept = omega (arith, length-drop n kept)
-
 -- ---- what has left
 module _ (d : Definitions) (window : ℕ) (m : Moment) (n : ℕ) (t : IsTimedAt d window) (may : MayLeave d m n) where
   span : IsSpan (length_of (kind_at d window)) (slide_of (kind_at d window))

@@ -1,5 +1,5 @@
 -- What of a store of slices is asked where instances are told from it.
-use Rattle.std.specs.Prelude.{◌≡◌, ◌<◌, ◌^◌, List, [], ◌∷◌, length, All}
+use Rattle.std.specs.Prelude.{◌≡◌, List, [], ◌∷◌, All}
 use Rattle.stream_base.specs.declared.kept.Kept.{Kept}
 use Rattle.stream_base.specs.Model.Windows.{Instance, within}
 use Rattle.run_laws.specs.Runs.{IsAligned}
@@ -15,11 +15,10 @@ pub record IsAlignedWith (slices : List (List Kept)) (s : Span) : Type 0 where
 abbrev pub AreAlignedWith : List (List Kept) → List Span → Type 0
 AreAlignedWith slices spans = All (IsAlignedWith slices) spans
 
--- the store holds exactly the tuples that an instance over this span selects, and can count them
+-- the store holds exactly the tuples that an instance over this span selects
 pub record IsHeld (s : Span) (store : Stored) (i : Instance) : Type 0 where
   pub span : span_of i ≡ s
   pub chosen : within i.low i.high (tuples_of store) ≡ i.chosen
-  pub few : length i.chosen < 2 ^ 64
 
 -- the same of each of some spans and its instance
 abbrev pub AreHeld : List Span → Stored → List Instance → Type 0

@@ -1,5 +1,5 @@
 -- What is told so far, with the intervals that are left, is all; so are the slices that are taken up.
-use Rattle.std.proofs.Common.{◌≡◌, ◌≤◌, ◌<◌, ◌+◌, ◌-◌, ◌*◌, ◌^◌, ◌++◌, ℕ, length, map, max, vec_len}
+use Rattle.std.proofs.Common.{◌≡◌, ◌≤◌, ◌+◌, ◌-◌, ◌*◌, ◌++◌, ℕ, length, map, max, vec_len}
 use Rattle.std.specs.Prelude.{vec_capacity}
 use Rattle.stream_base.specs.declared.limits.TheConstants.{FINAL}
 use Rattle.run_laws.specs.Runs.{runs_within}
@@ -12,7 +12,7 @@ use Rattle.interval_walks.proofs.due.tell_due.Given as goal
 
 abbrev pub invariant-loop-low : goal.invariant-loop-low
 invariant-loop-low g l = record {
-  told : HoldsFrom l.from (g.S.AggStore.stored l.store) l.initial.held → l.initial.held.to ≤ l.from + l.span.length → length (tuples_of (g.S.AggStore.stored l.store)) < 2 ^ 64
+  told : HoldsFrom l.from (g.S.AggStore.stored l.store) l.initial.held → l.initial.held.to ≤ l.from + l.span.length
       → l.out.items ++ map (new_at l.owner.window l.owner.key.now l.owner.func l.span.length (tuples_of (g.S.AggStore.stored l.store))) (due_from l.span.length l.span.slide (tuples_of (g.S.AggStore.stored l.store)) l.start l.new)
       ≡ l.initial.out.items ++ map (new_at l.owner.window l.owner.key.now l.owner.func l.span.length (tuples_of (g.S.AggStore.stored l.store))) (due_from l.span.length l.span.slide (tuples_of (g.S.AggStore.stored l.store)) l.from l.new);
   held : HoldsFrom l.from (g.S.AggStore.stored l.store) l.initial.held → HoldsFrom l.start (g.S.AggStore.stored l.store) l.held;

@@ -18,8 +18,8 @@ loop-k-preserved g c =
     let low = (c.args.complete.first + c.loop-k.k) * slide in
     let h = c.loop-k.invariant in
     record {
-      told = λ few.
-          former_more (former_at c.args.func c.args.span.now.length tuples) c.args.into.now.items c.loop-k.into.items c.push_reserved.new.self.items slide c.args.complete.first c.loop-k.k low c.former.result refl (h.told few) (c.former.ensures tuples low (low + c.args.span.now.length) c.fold_interval-folded.ensures.value few) c.push_reserved.ensures.items;
+      told =
+          former_more (former_at c.args.func c.args.span.now.length tuples) c.args.into.now.items c.loop-k.into.items c.push_reserved.new.self.items slide c.args.complete.first c.loop-k.k low c.former.result refl h.told (c.former.ensures tuples low (low + c.args.span.now.length) c.fold_interval-folded.ensures.value c.fold_interval-folded.ensures.holds.slices.counted) c.push_reserved.ensures.items;
       number = omega (arith, c.push_reserved.ensures.len, h.number);
       capacity = c.push_reserved.ensures.capacity ∙ h.capacity;
       alone = λ one.

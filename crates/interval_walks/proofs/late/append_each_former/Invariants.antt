@@ -1,5 +1,5 @@
 -- What stood of the intervals so far is told.
-use Rattle.std.proofs.Common.{◌≡◌, ◌≤◌, ◌<◌, ◌+◌, ◌*◌, ◌^◌, ◌++◌, length, map, vec_len}
+use Rattle.std.proofs.Common.{◌≡◌, ◌≤◌, ◌+◌, ◌*◌, ◌++◌, length, map, vec_len}
 use Rattle.std.specs.Prelude.{vec_capacity}
 use Rattle.agg_store.specs.Stored.{tuples_of}
 use Rattle.interval_walks.specs.Folds.{slices_under}
@@ -8,8 +8,7 @@ use Rattle.interval_walks.proofs.late.append_each_former.Given as goal
 
 abbrev pub invariant-loop-k : goal.invariant-loop-k
 invariant-loop-k g l = record {
-  told : length (tuples_of (g.S.AggStore.stored l.store)) < 2 ^ 64
-      → l.into.items ≡ l.initial.into.items ++ map (former_at l.func l.span.length (tuples_of (g.S.AggStore.stored l.store))) (starts_from l.span.slide l.complete.first l.k);
+  told : l.into.items ≡ l.initial.into.items ++ map (former_at l.func l.span.length (tuples_of (g.S.AggStore.stored l.store))) (starts_from l.span.slide l.complete.first l.k);
   number : vec_len l.into ≡ vec_len l.initial.into + l.k;
   capacity : vec_capacity l.into ≡ vec_capacity l.initial.into;
   alone : l.complete.count ≤ 1 → l.steps ≤ l.initial.steps + length (slices_under l.span (g.S.AggStore.stored l.store).slices l.complete) * l.k;

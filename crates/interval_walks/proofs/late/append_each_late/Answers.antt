@@ -14,10 +14,10 @@ loop-k-preserved g c =
     let low = (c.args.complete.first + c.loop-k.k) * slide in
     let h = c.loop-k.invariant in
     record {
-      told = λ few.
+      told =
           let former = get_or c.args.formers.now c.loop-k.k None in
-          late_more (told_at c.args.owner.window c.args.owner.key.now c.args.owner.func c.args.span.now.length tuples) c.args.out.now.items c.loop-k.out.items c.push_reserved.new.self.items slide c.args.complete.first c.loop-k.k low c.args.formers.now former None c.told.result refl (omega (arith, c.requires.formers, c.loop-k-test.true)) (h.told few) refl
-          (c.told.ensures ∙ ap (again_or_new former) (c.row-row.ensures tuples c.fold_interval-folded.ensures.value few)) c.push_reserved.ensures.items;
+          late_more (told_at c.args.owner.window c.args.owner.key.now c.args.owner.func c.args.span.now.length tuples) c.args.out.now.items c.loop-k.out.items c.push_reserved.new.self.items slide c.args.complete.first c.loop-k.k low c.args.formers.now former None c.told.result refl (omega (arith, c.requires.formers, c.loop-k-test.true)) h.told refl
+          (c.told.ensures ∙ ap (again_or_new former) (c.row-row.ensures tuples c.fold_interval-folded.ensures.value c.fold_interval-folded.ensures.holds.slices.counted)) c.push_reserved.ensures.items;
       number = omega (arith, c.push_reserved.ensures.len, h.number);
       capacity = c.push_reserved.ensures.capacity ∙ h.capacity;
       alone = λ one.

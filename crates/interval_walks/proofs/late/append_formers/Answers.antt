@@ -16,7 +16,7 @@ loop-done-preserved g c =
     let n = c.min.result in
     let h = c.loop-done.invariant in
     record {
-      told = λ few. formers_add (former_at c.args.func span.length tuples) c.args.into.now.items c.loop-done.into.items c.append_some_formers.new.into.items span.slide first done n (h.told few) (c.append_some_formers.ensures.told few);
+      told = formers_add (former_at c.args.func span.length tuples) c.args.into.now.items c.loop-done.into.items c.append_some_formers.new.into.items span.slide first done n h.told c.append_some_formers.ensures.told;
       number = omega (arith, c.append_some_formers.ensures.adds.number, h.number);
       capacity = c.append_some_formers.ensures.adds.capacity ∙ h.capacity;
       within = omega arith;

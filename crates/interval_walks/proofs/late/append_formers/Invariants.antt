@@ -1,5 +1,5 @@
 -- What stood of the groups so far is told.
-use Rattle.std.proofs.Common.{◌≡◌, ◌≤◌, ◌<◌, ◌+◌, ◌-◌, ◌*◌, ◌^◌, ◌++◌, length, map, vec_len}
+use Rattle.std.proofs.Common.{◌≡◌, ◌≤◌, ◌+◌, ◌-◌, ◌*◌, ◌++◌, map, vec_len}
 use Rattle.std.specs.Prelude.{◌⊎◌, vec_capacity}
 use Rattle.agg_store.specs.Stored.{tuples_of}
 use Rattle.interval_walks.specs.Folds.{IsShared}
@@ -8,8 +8,7 @@ use Rattle.interval_walks.proofs.late.append_formers.Given as goal
 
 abbrev pub invariant-loop-done : goal.invariant-loop-done
 invariant-loop-done g l = record {
-  told : length (tuples_of (g.S.AggStore.stored l.store)) < 2 ^ 64
-      → l.into.items ≡ l.initial.into.items ++ map (former_at l.func l.span.length (tuples_of (g.S.AggStore.stored l.store))) (starts_from l.span.slide l.complete.first l.done);
+  told : l.into.items ≡ l.initial.into.items ++ map (former_at l.func l.span.length (tuples_of (g.S.AggStore.stored l.store))) (starts_from l.span.slide l.complete.first l.done);
   number : vec_len l.into ≡ vec_len l.initial.into + l.done;
   capacity : vec_capacity l.into ≡ vec_capacity l.initial.into;
   within : l.done ≤ l.complete.count;

@@ -25,7 +25,7 @@ loop-done-preserved g c =
     let n = c.min.result in
     let h = c.loop-done.invariant in
     record {
-      told = λ few. late_add (told_at c.args.owner.window c.args.owner.key.now c.args.owner.func span.length tuples) c.args.out.now.items c.loop-done.out.items c.append_some_late.new.out.items span.slide first done n c.args.formers.now (omega (arith, c.requires.formers, h.within)) (h.told few) (c.append_some_late.ensures.told few ∙ ap (λ l. c.loop-done.out.items ++ told_late (told_at c.args.owner.window c.args.owner.key.now c.args.owner.func span.length tuples) (starts_from span.slide (first + done) n) l) (rest_of c.args.formers.now done));
+      told = late_add (told_at c.args.owner.window c.args.owner.key.now c.args.owner.func span.length tuples) c.args.out.now.items c.loop-done.out.items c.append_some_late.new.out.items span.slide first done n c.args.formers.now (omega (arith, c.requires.formers, h.within)) h.told (c.append_some_late.ensures.told ∙ ap (λ l. c.loop-done.out.items ++ told_late (told_at c.args.owner.window c.args.owner.key.now c.args.owner.func span.length tuples) (starts_from span.slide (first + done) n) l) (rest_of c.args.formers.now done));
       number = omega (arith, c.append_some_late.ensures.adds.number, h.number);
       capacity = c.append_some_late.ensures.adds.capacity ∙ h.capacity;
       within = omega arith;

@@ -1,5 +1,5 @@
 -- The groups so far are told.
-use Rattle.std.proofs.Common.{◌≡◌, ◌≤◌, ◌<◌, ◌+◌, ◌-◌, ◌*◌, ◌^◌, ◌++◌, length, vec_len}
+use Rattle.std.proofs.Common.{◌≡◌, ◌≤◌, ◌+◌, ◌-◌, ◌*◌, ◌++◌, vec_len}
 use Rattle.std.specs.Prelude.{◌⊎◌, vec_capacity}
 use Rattle.agg_store.specs.Stored.{tuples_of}
 use Rattle.interval_walks.specs.Folds.{IsShared}
@@ -8,8 +8,7 @@ use Rattle.interval_walks.proofs.late.append_late.Given as goal
 
 abbrev pub invariant-loop-done : goal.invariant-loop-done
 invariant-loop-done g l = record {
-  told : length (tuples_of (g.S.AggStore.stored l.store)) < 2 ^ 64
-      → l.out.items ≡ l.initial.out.items ++ told_late (told_at l.owner.window l.owner.key.now l.owner.func l.span.length (tuples_of (g.S.AggStore.stored l.store))) (starts_from l.span.slide l.complete.first l.done) l.formers;
+  told : l.out.items ≡ l.initial.out.items ++ told_late (told_at l.owner.window l.owner.key.now l.owner.func l.span.length (tuples_of (g.S.AggStore.stored l.store))) (starts_from l.span.slide l.complete.first l.done) l.formers;
   number : vec_len l.out ≡ vec_len l.initial.out + l.done;
   capacity : vec_capacity l.out ≡ vec_capacity l.initial.out;
   within : l.done ≤ l.complete.count;

@@ -4,7 +4,7 @@ use Rattle.context_windows.specs.Marked.{RemembersHolder, asked_at}
 use Rattle.context_windows.specs.Spanned.{window_at}
 use Rattle.context_parts.proofs.Edges.{asked_edged, edged_aligned, marks_held, parts_at_edges}
 use Rattle.context_parts.proofs.OfMarks.{spans_edged, stretches_held}
-use Rattle.context_parts.proofs.Rest.{few_kept, rest_held, rest_windows}
+use Rattle.context_parts.proofs.Rest.{rest_held, rest_windows}
 use Rattle.context_parts.proofs.mark_part.MarkPartKeyPart.before.Goals as goal
 
 pub before-requires-clause-aligned : goal.before-requires-clause-aligned
@@ -23,7 +23,7 @@ returns-clause-asked g c = λ m n s.
     let w = window_at d c.args.window in
     let late : m.water - d.lateness ≤ c.args.time = omega (arith, s.water_is, c.requires.accepted.accepted) in
     let open_ : c.args.self.now.windows.forgotten ≤ c.args.time = omega (arith, s.stood.bounded, late) in
-    let held = stretches_held d c.args.window s.stood.marks m n (g.S.AggStore.stored c.args.store.now) (rest_held d m n (g.S.AggStore.stored c.args.store.now) s.held) c.args.time late (few_kept m s.lists.0 s.lists.1) in
+    let held = stretches_held d c.args.window s.stood.marks m n (g.S.AggStore.stored c.args.store.now) (rest_held d m n (g.S.AggStore.stored c.args.store.now) s.held) c.args.time late in
     record {
       remembers = subst (λ f. RemembersHolder f c.args.time m.water m.marks m.kept c.before-2.new.self) c.func_at-func.ensures
           (subst (λ water. RemembersHolder c.func_at-func.result c.args.time water m.marks m.kept c.before-2.new.self) (sym s.water_is) (c.before-2.ensures.remembers m.marks m.kept s.stood.follows open_ held));

@@ -7,7 +7,7 @@ use Rattle.context_windows.specs.Marked.{marks_window, parted_of, with_parts}
 use Rattle.context_windows.specs.Spanned.{changes_of, window_at}
 use Rattle.context_parts.proofs.Edges.{edged_aligned, marks_marked, parts_at_edges, parts_edged}
 use Rattle.context_parts.proofs.OfMarks.{left_held, marks_window_is, spans_edged, stretches_held}
-use Rattle.context_parts.proofs.Rest.{few_kept, rest_marked, rest_windows}
+use Rattle.context_parts.proofs.Rest.{rest_marked, rest_windows}
 use Rattle.context_parts.proofs.mark_part.MarkPartKeyPart.mark.Goals as goal
 
 pub mark-requires-clause-aligned : goal.mark-requires-clause-aligned
@@ -26,7 +26,7 @@ returns-clause-stands g c = λ m n before t.
     let d = c.args.defs.now in
     let late : m.water - d.lateness ≤ c.args.time = omega (arith, t.step.in_time) in
     let open_ : c.args.self.now.windows.forgotten ≤ c.args.time = omega (arith, t.stood.bounded, late) in
-    let held = stretches_held d c.args.window t.stood.marks m n (g.S.AggStore.stored c.args.store.now) (rest_marked d m n before c.args.time (g.S.AggStore.stored c.args.store.now) t.step) c.args.time late (few_kept m t.step.lists.0 t.step.lists.1) in
+    let held = stretches_held d c.args.window t.stood.marks m n (g.S.AggStore.stored c.args.store.now) (rest_marked d m n before c.args.time (g.S.AggStore.stored c.args.store.now) t.step) c.args.time late in
     record {
       marks = t.stood.marks;
       follows = c.drop_needless.ensures.follows (insert_key nat_cmp m.marks c.args.time) m.kept (c.mark.ensures.follows m.marks m.kept t.stood.follows open_ held);
@@ -40,6 +40,6 @@ returns-clause-changes g c = λ m n before t.
     let w = window_at d c.args.window in
     let late : m.water - d.lateness ≤ c.args.time = omega (arith, t.step.in_time) in
     let open_ : c.args.self.now.windows.forgotten ≤ c.args.time = omega (arith, t.stood.bounded, late) in
-    let held = stretches_held d c.args.window t.stood.marks m n (g.S.AggStore.stored c.args.store.now) (rest_marked d m n before c.args.time (g.S.AggStore.stored c.args.store.now) t.step) c.args.time late (few_kept m t.step.lists.0 t.step.lists.1) in
+    let held = stretches_held d c.args.window t.stood.marks m n (g.S.AggStore.stored c.args.store.now) (rest_marked d m n before c.args.time (g.S.AggStore.stored c.args.store.now) t.step) c.args.time late in
     c.mark.ensures.changes m t.stood.follows open_ t.water_is held
     ∙ ap (λ def. c.args.out.now.items ++ changes_of c.args.key.now m (with_mark m c.args.time) (c.args.window, def)) (ap marks_window c.func_at-func.ensures ∙ marks_window_is w t.stood.marks.kind)

@@ -7,7 +7,7 @@ use Rattle.key_windows.specs.Calls.{kept_at}
 use Rattle.context_windows.proofs.Enough.{holder_alike}
 use Rattle.context_parts.proofs.Edges.{edged_aligned, entered_edged, marks_with, parts_at_edges}
 use Rattle.context_parts.proofs.OfMarks.{marks_window_is, marks_work, no_events, spans_edged, stretches_held}
-use Rattle.context_parts.proofs.Rest.{few_with, is_window, left_with, rest_windows, rest_with}
+use Rattle.context_parts.proofs.Rest.{is_window, left_with, rest_windows, rest_with}
 use Rattle.context_parts.proofs.mark_part.MarkPartKeyPart.put.Goals as goal
 
 pub put-requires-clause-aligned : goal.put-requires-clause-aligned
@@ -54,7 +54,7 @@ returns-clause-changes g c = λ m n before more t.
     let remembers : RemembersHolder c.func_at-func.result c.args.time c.args.water m.marks m.kept p =
     subst (λ f. RemembersHolder f c.args.time c.args.water m.marks m.kept p) (sym c.func_at-func.ensures) (subst (λ water. RemembersHolder w.func c.args.time water m.marks m.kept p) t.water_is t.asked.remembers) in
     c.put.ensures.changes m x t.stood.follows open_ refl t.water_is remembers
-    (stretches_held d c.args.window at (with_tuple m x) n (g.S.AggStore.stored c.args.store.now) rest c.args.time late (few_with m x t.step.lists))
+    (stretches_held d c.args.window at (with_tuple m x) n (g.S.AggStore.stored c.args.store.now) rest c.args.time late)
     ∙ ap (λ def. c.args.out.now.items ++ changes_of c.args.key.now m (with_tuple m x) (c.args.window, def)) (ap marks_window c.func_at-func.ensures ∙ marks_window_is w at.kind)
 
 pub returns-clause-owed : goal.returns-clause-owed

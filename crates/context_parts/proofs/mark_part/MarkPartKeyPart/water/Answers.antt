@@ -6,7 +6,7 @@ use Rattle.context_windows.specs.Marked.{marks_window}
 use Rattle.context_windows.specs.Spanned.{window_at}
 use Rattle.context_parts.proofs.Edges.{due_edged, edged_aligned, marks_held, parts_at_edges}
 use Rattle.context_parts.proofs.OfMarks.{marks_window_is, spans_edged, stretches_held}
-use Rattle.context_parts.proofs.Rest.{few_kept, rest_held, rest_windows}
+use Rattle.context_parts.proofs.Rest.{rest_held, rest_windows}
 use Rattle.context_parts.proofs.mark_part.MarkPartKeyPart.water.Goals as goal
 
 pub water-requires-clause-aligned : goal.water-requires-clause-aligned
@@ -26,5 +26,5 @@ returns-clause-changes g c = λ m n s.
     let late : m.water - d.lateness ≤ c.args.old = omega (arith, s.water_is) in
     let open_ : c.args.self.now.windows.forgotten ≤ c.args.old = omega (arith, s.stood.bounded, late) in
     c.water.ensures.changes m s.stood.follows open_ s.water_is
-    (stretches_held d c.args.window s.stood.marks m n (g.S.AggStore.stored c.args.store.now) (rest_held d m n (g.S.AggStore.stored c.args.store.now) s.held) c.args.old late (few_kept m s.lists.0 s.lists.1))
+    (stretches_held d c.args.window s.stood.marks m n (g.S.AggStore.stored c.args.store.now) (rest_held d m n (g.S.AggStore.stored c.args.store.now) s.held) c.args.old late)
     ∙ ap (λ def. c.args.out.now.items ++ completions c.args.key.now m c.args.new (c.args.window, def)) (ap marks_window c.func_at-func.ensures ∙ marks_window_is w s.stood.marks.kind)

@@ -7,7 +7,7 @@ use Rattle.context_windows.proofs.Aligning.{told_aligned}
 use Rattle.key_windows.specs.Calls.{kept_at}
 use Rattle.window_laws.specs.After.{with_tuple}
 use Rattle.context_parts.proofs.OfSessions.{no_events, of_sessions, session_work, sessions_held, told_once}
-use Rattle.context_parts.proofs.Rest.{few_with, is_window, left_with, rest_with}
+use Rattle.context_parts.proofs.Rest.{is_window, left_with, rest_with}
 use Rattle.context_parts.proofs.session_part.SessionPartKeyPart.put.Goals as goal
 
 pub put-requires-clause-aligned : goal.put-requires-clause-aligned
@@ -47,7 +47,7 @@ returns-clause-changes g c = λ m n before more t.
     let rest = rest_with d m n before x more (g.S.AggStore.stored c.args.store.now) w (is_window d c.args.window at.within) (no_events w.kind at.session) t.step in
     c.put.ensures.changes m x t.stood.follows open_ refl t.water_is
     (subst (λ water. Remembers w c.args.time water m.kept c.args.self.now.sessions) t.water_is t.asked.remembers)
-    (sessions_held d c.args.window at (with_tuple m x) n (g.S.AggStore.stored c.args.store.now) rest c.args.time late (few_with m x t.step.lists))
+    (sessions_held d c.args.window at (with_tuple m x) n (g.S.AggStore.stored c.args.store.now) rest c.args.time late)
 
 pub returns-clause-cost : goal.returns-clause-cost
 returns-clause-cost g c =

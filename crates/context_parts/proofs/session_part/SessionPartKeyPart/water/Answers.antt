@@ -3,7 +3,7 @@ use Rattle.std.proofs.Common.{◌≤◌, ◌-◌, arith}
 use Rattle.context_windows.specs.Spanned.{window_at}
 use Rattle.context_windows.proofs.Aligning.{due_aligned}
 use Rattle.context_parts.proofs.OfSessions.{of_sessions, sessions_held}
-use Rattle.context_parts.proofs.Rest.{few_kept, rest_held}
+use Rattle.context_parts.proofs.Rest.{rest_held}
 use Rattle.context_parts.proofs.session_part.SessionPartKeyPart.water.Goals as goal
 
 pub water-requires-clause-aligned : goal.water-requires-clause-aligned
@@ -19,4 +19,4 @@ returns-clause-changes g c = λ m n s.
     let late : m.water - d.lateness ≤ c.args.old = omega (arith, s.water_is) in
     let open_ : c.args.self.now.sessions.forgotten ≤ c.args.old = omega (arith, s.stood.bounded, late) in
     c.water.ensures.changes m s.stood.follows open_ s.water_is
-    (sessions_held d c.args.window s.stood.session m n (g.S.AggStore.stored c.args.store.now) (rest_held d m n (g.S.AggStore.stored c.args.store.now) s.held) c.args.old late (few_kept m s.lists.0 s.lists.1))
+    (sessions_held d c.args.window s.stood.session m n (g.S.AggStore.stored c.args.store.now) (rest_held d m n (g.S.AggStore.stored c.args.store.now) s.held) c.args.old late)

@@ -23,9 +23,11 @@ invariant_of-self c =
     let ordered : AreInOrder (entered_at c.args.from c.args.to c.args.x runs) = rw (← c.self.view_is) at c.requires.ordered in
     let slices : c.enter_bounds.new.bounds.items ≡ map slice_of (entered_at c.args.from c.args.to c.args.x runs) =
     c.enter_bounds.ensures.items ∙ entered_all runs a.bounds.items c.args.from c.args.to c.args.x c.requires.order c.requires.few c.self.invariant.parted.hold.ordered c.self.invariant.parted.shown in
+    let room = rw (← c.self.view_is) at c.requires.room in
     record {
       parted = kept_again (entered_at c.args.from c.args.to c.args.x runs) c.enter_bounds.new.bounds.items c.put.new.self.tuples
-          (entered_hold runs c.args.from c.args.to c.args.x c.requires.order c.self.invariant.parted.hold ordered c.requires.time c.requires.value)
+          (entered_hold runs c.args.from c.args.to c.args.x c.requires.order c.self.invariant.parted.hold ordered c.requires.time c.requires.value
+          (omega (arith, ap length c.self.invariant.parted.together, c.self.invariant.counted, room)))
           slices
           (c.put.ensures.tuples ∙ ap (λ l. put_in_order l c.args.x) (sym c.self.invariant.parted.together) ∙ entered_tuples runs c.args.from c.args.to c.args.x c.requires.order ordered);
       counted = omega (arith, ap length c.put.ensures.tuples, put_length a.tuples.tuples c.args.x, c.self.invariant.counted);

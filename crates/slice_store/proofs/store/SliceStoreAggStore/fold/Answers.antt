@@ -15,3 +15,6 @@ pub returns-clause-one_each : goal.returns-clause-one_each
 returns-clause-one_each g c =
     rw (← c.self.view_is)
     (omega (arith, c.fold_range.ensures.work.one_each, fold_length c.args.low c.args.high c.self.inside.runs.slices _ c.self.invariant.partials))
+
+pub returns-clause-holds : goal.returns-clause-holds
+returns-clause-holds g c = rw (← c.self.view_is) (record { slices = c.self.invariant.holds; marks = c.self.invariant.rising })

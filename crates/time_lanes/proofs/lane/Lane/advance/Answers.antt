@@ -42,7 +42,7 @@ returns-clause-changes g c = λ def gone marks stands may.
     let out = c.tell_due-told.new.out.items in
     subst (λ (e : Def). out ≡ c.args.out.now.items ++ completions c.args.key.now (moment (gone ++ tuples_of s) marks c.args.old) c.args.new (c.args.window, e)) (sym same)
     (move_changes c.args.window c.args.key.now d c.args.old c.args.new gone (tuples_of s) marks span.length span.slide c.next_start-start.result c.args.out.now.items out c.serve.ensures.timed (span_of_kind d.kind c.serve.ensures.timed c.serve.ensures.within) here.apart c.serve.ensures.length c.serve.ensures.slide c.next_start-start.ensures.start
-    (c.tell_due-told.ensures.told (subst (λ n. HoldsFrom n s c.self.inside.held) (sym c.next_start-start.ensures.start) held) (omega (arith, reached, last_at_most span.length span.slide span.within c.args.old, ends_above span.length span.slide span.within c.args.old, c.next_start-start.ensures.start)) here.few))
+    (c.tell_due-told.ensures.told (subst (λ n. HoldsFrom n s c.self.inside.held) (sym c.next_start-start.ensures.start) held) (omega (arith, reached, last_at_most span.length span.slide span.within c.args.old, ends_above span.length span.slide span.within c.args.old, c.next_start-start.ensures.start))))
 
 -- how far the slices go that are held in the end
 ends_at : (g : given.Over) (c : goal.After-pull g) → c.self.inside.held.to ≤ last_end c.serve.result.span.length c.serve.result.span.slide c.args.old → c.pull.new.self.to ≡ last_end c.serve.result.span.length c.serve.result.span.slide c.args.new

@@ -20,7 +20,7 @@ returns-clause-changes g c = λ def gone before marks x stands late.
     let out = c.append_late.new.out.items in
     subst (λ (e : Def). out ≡ c.args.out.now.items ++ emissions c.args.key.now (moment (gone ++ before) marks c.args.water) (with_tuple (moment (gone ++ before) marks c.args.water) x) (c.args.window, e)) (sym same)
     (lane_late c.args.window c.args.key.now d c.args.time c.args.water gone before marks x c.args.formers.now s c.serve.ensures.timed c.serve.ensures.within (span_of_kind d.kind c.serve.ensures.timed c.serve.ensures.within) here c.serve.result.span.length c.serve.result.span.slide c.complete_at-found.result.first c.complete_at-found.result.count c.args.out.now.items out c.serve.ensures.length c.serve.ensures.slide c.complete_at-found.ensures.starts
-    (c.append_late.ensures.told here.found.few))
+    c.append_late.ensures.told)
 
 pub returns-clause-shared : goal.returns-clause-shared
 returns-clause-shared g c = λ def stands.

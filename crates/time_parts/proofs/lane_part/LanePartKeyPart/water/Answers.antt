@@ -5,7 +5,7 @@ use Rattle.time_lanes.specs.Lane.{Knows, KnowsAll, Laned}
 use Rattle.time_lanes.specs.Moves.{MayMove}
 use Rattle.key_parts.specs.Calls.{window_at}
 use Rattle.time_parts.specs.Lanes.{Timed, kind_at, slices_completed, slices_of_last}
-use Rattle.time_parts.proofs.LaneFacts.{completed_of_all, few_held, timed_row}
+use Rattle.time_parts.proofs.LaneFacts.{completed_of_all, timed_row}
 use Rattle.time_parts.proofs.WindowFacts.{apart_above, stands_at, timed_at}
 use Rattle.time_parts.proofs.lane_part.LanePartKeyPart.water.Goals as goal
 
@@ -19,7 +19,6 @@ returns-clause-changes g c = λ m n at.
     let may : MayMove w.kind m.water gone s c.args.self.now.lane = record {
       knows = at.stood.knows;
       apart = apart_above d c.args.window m n t at.held.may_leave;
-      few = few_held m n at.lists.0 s at.lists.1 at.held.tuples;
     } in
     completed_of_all m n c.args.old (tuples_of s) at.water_is at.held.tuples w c.args.window c.args.key.now c.args.new c.args.out.now.items c.advance.new.out.items
     (c.advance.ensures.changes w gone m.marks (stands_at d c.args.window t)

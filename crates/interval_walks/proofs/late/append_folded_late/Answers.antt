@@ -4,7 +4,7 @@ use Rattle.agg_store.specs.Stored.{tuples_of}
 use Rattle.interval_walks.specs.Told.{again_or_new, told_at}
 use Rattle.interval_walks.proofs.ShareFacts.{read_at}
 use Rattle.interval_walks.proofs.ToldFacts.{late_more}
-use Rattle.interval_walks.proofs.late.append_shared_late.Goals as goal
+use Rattle.interval_walks.proofs.late.append_folded_late.Goals as goal
 
 pub loop-k-preserved : goal.loop-k-preserved
 loop-k-preserved g c =
@@ -14,10 +14,10 @@ loop-k-preserved g c =
     let value = read_at c.fold_together.new.folds c.loop-k.k c.index-folded-k.result (omega arith) ∙ c.fold_together.ensures.folds c.loop-k.k c.loop-k-test.true in
     let h = c.loop-k.invariant in
     record {
-      told = λ few.
+      told =
           let former = get_or c.args.formers.now c.loop-k.k None in
-          late_more (told_at c.args.owner.window c.args.owner.key.now c.args.owner.func c.args.span.now.length tuples) c.args.out.now.items c.loop-k.out.items c.push_reserved.new.self.items slide c.args.complete.first c.loop-k.k low c.args.formers.now former None c.told.result refl (omega (arith, c.requires.formers, c.loop-k-test.true)) (h.told few) refl
-          (c.told.ensures ∙ ap (again_or_new former) (c.row-row.ensures tuples (c.index-folded-k.is ∙ value) few)) c.push_reserved.ensures.items;
+          late_more (told_at c.args.owner.window c.args.owner.key.now c.args.owner.func c.args.span.now.length tuples) c.args.out.now.items c.loop-k.out.items c.push_reserved.new.self.items slide c.args.complete.first c.loop-k.k low c.args.formers.now former None c.told.result refl (omega (arith, c.requires.formers, c.loop-k-test.true)) h.told refl
+          (c.told.ensures ∙ ap (again_or_new former) (c.row-row.ensures tuples (c.index-folded-k.is ∙ value) c.requires.holds.slices.counted)) c.push_reserved.ensures.items;
       number = omega (arith, c.push_reserved.ensures.len, h.number);
       capacity = c.push_reserved.ensures.capacity ∙ h.capacity;
     }
