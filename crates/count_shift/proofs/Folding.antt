@@ -15,6 +15,7 @@ use Rattle.stream_base.specs.Model.Functions.{shown_of}
 use Rattle.stream_base.specs.Model.Windows.{ranks}
 use Rattle.aggregates.specs.Bundled.{Bundled, bundle_of, bundle_of_number, bundles_combined, empty_bundle}
 use Rattle.aggregates.proofs.Bundles.{total_of_bundles}
+use Rattle.count_shift.specs.Counting.{ranks_behind}
 use Rattle.count_shift.specs.Folded.{folded_onto}
 use Rattle.count_shift.proofs.Standing.{next_run, length_of_run}
 
@@ -71,17 +72,17 @@ pub run_without_at : (items : List Kept) (rank i n : ℕ) → rank < (i + 1) * n
 run_without_at items rank i n behind room = run_without items rank (i * n) n (omega (arith, next_run i n)) (omega (arith, next_run i n))
 
 -- the row of an instance that is all there, from what its run shows
-pub row_is : (window : ℕ) (key : List ℕ) (func : Func) (count : ℕ) (items : List Kept) (i : ℕ) (bundle : Bundled) (shown : Shown) → (i + 1) * count ≤ length items
+pub row_is : (gone window : ℕ) (key : List ℕ) (func : Func) (count : ℕ) (items : List Kept) (i : ℕ) (bundle : Bundled) (shown : Shown) → (i + 1) * count ≤ length items
     → bundle ≡ folded_onto empty_bundle (take (i * count + count - i * count) (drop (i * count) items)) → ((values : List ℤ) → bundle ≡ bundle_of values → shown ≡ shown_of func values)
-    → record { window = window; key = key; low = i * count; high = i * count + count; number = count; shown = shown } ≡ row_of window key func (ranks count items i)
-row_is window key func count items i bundle shown room folded shows =
+    → record { window = window; key = key; low = gone + i * count; high = gone + (i * count + count); number = count; shown = shown } ≡ row_of window key func (ranks_behind gone count items i)
+row_is gone window key func count items i bundle shown room folded shows =
     let all : i * count + count - i * count ≡ count = omega arith in
     let run : bundle ≡ bundle_of (map (λ x. x.value) (take count (drop (i * count) items))) = folded ∙ ap (λ n. folded_onto empty_bundle (take n (drop (i * count) items))) all ∙ folded_run (take count (drop (i * count) items)) in
     λ j. record {
       window = window;
       key = key;
-      low = i * count;
-      high = sym (next_run i count) j;
+      low = gone + i * count;
+      high = gone + sym (next_run i count) j;
       number = sym (length_of_run items i count room) j;
       shown = shows (map (λ x. x.value) (take count (drop (i * count) items))) run j;
     }

@@ -3,4 +3,5 @@ pub mod Standing
 pub mod Shift
 pub mod Folding
 pub mod Telling
+pub mod Behind
 pub mod Puts

@@ -1,5 +1,5 @@
 -- How many tuples have a time at or before another: where that parts a list whose times don't fall.
-use Rattle.std.proofs.Common.{◌≡◌, ◌≢◌, ◌∙◌, ℕ, zero, suc, ◌+◌, ◌-◌, ◌<◌, ◌≤◌, Bool, true, false, cond, List, [], ◌∷◌, ◌++◌, length, take, drop, get_or, ap, sym, subst, refl, arith, ⊎_elim}
+use Rattle.std.proofs.Common.{◌≡◌, ◌≢◌, ◌∙◌, ℕ, zero, suc, ◌+◌, ◌-◌, ◌*◌, ◌/◌, ◌<◌, ◌≤◌, Bool, true, false, cond, List, [], ◌∷◌, ◌++◌, length, take, drop, get_or, ap, sym, subst, refl, arith, ⊎_elim}
 use Rattle.std.specs.Prelude.{◌⊎◌, pos, nat_le, nat_lt, insert}
 use Rattle.std.specs.List.{All, position_or_len, remove}
 use Rattle.std.specs.List.Sorted.{IsPartitionPoint}
@@ -86,6 +86,14 @@ all_by kept time h last =
     parts_once kept time (length kept) (upper kept time)
     (record { within = omega arith; before = λ k d l. let a : (get_or kept k d).time ≤ (get_or kept (length kept - 1) d).time = h k (length kept - 1) d (omega arith) (omega arith) in let b = last d (omega arith) in omega (arith, a, b); behind = λ k d le l. absurd (omega arith) })
     (parts_at_upper kept time h)
+
+-- where the middle one comes behind a time no more than half have come by it
+pub half_at_most : (kept : List Kept) (time : ℕ) (x : Kept) → TimesDoNotFall kept → x ≡ get_or kept (length kept / 2) x → nat_le x.time time ≡ false → 2 * upper kept time ≤ length kept
+half_at_most kept time x h is late =
+    ⊎_elim
+    (λ lt. let there : (get_or kept (length kept / 2) x).time ≤ time = (parts_at_upper kept time h).before (length kept / 2) x lt in absurd (omega (arith, leb-false x.time time late, ap (λ (y : Kept). y.time) is)))
+    (λ le. omega arith)
+    (cases_lt (length kept / 2) (upper kept time))
 
 -- times don't fall in a part of the list
 pub times_behind : (kept : List Kept) (far : ℕ) → TimesDoNotFall kept → TimesDoNotFall (drop far kept)

@@ -1,5 +1,5 @@
 -- Windows of so many tuples: how far the watermark has come, and what one tuple changes.
-use Rattle.std.specs.Prelude.{◌≢◌, ◌<◌, ◌+◌, ◌-◌, ◌*◌, ◌/◌, ◌++◌, ℕ, ℤ, List, map, All, AllPairs, count_by, nat_le, if◌then◌else◌, slice_get}
+use Rattle.std.specs.Prelude.{◌≢◌, ◌<◌, ◌+◌, ◌-◌, ◌*◌, ◌/◌, ◌++◌, ℕ, ℤ, List, length, take, drop, map, All, AllPairs, count_by, nat_le, if◌then◌else◌, slice_get}
 use Rattle.std.specs.List.{range_with_len}
 use Rattle.std.specs.Option.{option_map_or}
 use Rattle.stream_base.specs.declared.change.Change.{Change}
@@ -13,7 +13,7 @@ use Rattle.stream_base.specs.declared.limits.TheConstants.{FINAL}
 use Rattle.stream_base.specs.Limits.{IsKindWithin}
 use Rattle.stream_base.specs.Model.Changes.{Moment, row_of, former_of}
 use Rattle.stream_base.specs.Model.Journal.{put_in_order}
-use Rattle.stream_base.specs.Model.Windows.{ranks}
+use Rattle.stream_base.specs.Model.Windows.{Instance, last_time, ranks}
 
 -- an instance may select so many tuples
 abbrev pub IsCount : ℕ → Type 0
@@ -81,6 +81,21 @@ abbrev pub again_of : ℕ → List ℕ → Func → ℕ → List Kept → List K
 again_of window key func count before kept i =
     Again (row_of window key func (ranks count kept i)) (former_of func (ranks count before i))
 
+-- the i-th run of so many tuples, where so many others that have left come before all of them
+abbrev pub ranks_behind : ℕ → ℕ → List Kept → ℕ → Instance
+ranks_behind gone count kept i =
+    let run = take count (drop (i * count) kept) in
+    record { low = gone + i * count; high = gone + (i + 1) * count; bound = last_time run; chosen = run }
+
+-- it is told as new
+abbrev pub new_behind : ℕ → ℕ → List ℕ → Func → ℕ → List Kept → ℕ → Change
+new_behind gone window key func count kept i = New (row_of window key func (ranks_behind gone count kept i))
+
+-- and told again, with what it was of the tuples before
+abbrev pub again_behind : ℕ → ℕ → List ℕ → Func → ℕ → List Kept → List Kept → ℕ → Change
+again_behind gone window key func count before kept i =
+    Again (row_of window key func (ranks_behind gone count kept i)) (former_of func (ranks count before i))
+
 -- the numbers from one up to another, which is not among them
 abbrev pub numbers : ℕ → ℕ → List ℕ
 numbers from to = range_with_len from (to - from)
@@ -102,3 +117,7 @@ told_by_move window key func count kept old new =
 abbrev pub next_filled : ℕ → List Kept → ℕ → ℕ
 next_filled count kept water =
     option_map_or (λ x. x.time) (slice_get kept (upper kept water / count * count + count - 1)) FINAL
+
+-- how many of the tuples have a time behind this one
+abbrev pub later : List Kept → ℕ → ℕ
+later kept time = length kept - upper kept time

@@ -1,51 +1,57 @@
 //! The tuples of a key for its events windows.
-ghost use Rattle.std.specs.Prelude.{◌≡◌, ◌≤◌, ◌<◌, ◌+◌, ◌-◌, ◌*◌, ◌/◌, ◌++◌, ℕ, List, [], length, slice_get, Some, OnOk, IfOk, vec_len};
+ghost use Rattle.std.specs.Prelude.{◌≡◌, ◌≤◌, ◌<◌, ◌+◌, ◌-◌, ◌*◌, ◌/◌, ◌++◌, ℕ, List, [], length, min, slice_get, Some, OnOk, IfOk, vec_len};
 ghost use Rattle.stream_base.specs.declared.func.Func.{Func};
 ghost use Rattle.stream_base.specs.declared.kept.Kept.{Kept};
 ghost use Rattle.stream_base.specs.Laws.{completions};
 ghost use Rattle.stream_base.specs.Model.Changes.{emissions, retractions};
 ghost use Rattle.stream_base.specs.Model.Journal.{put_in_order};
 ghost use Rattle.stream_base.specs.Vectors.{Adds, room};
-ghost use Rattle.count_shift.specs.Lane.{HasMoreRoom, HasRoom, TakesIn};
-ghost use Rattle.count_shift.specs.Counting.{IsCount, IsEvents, IsNextPosition, count_of, events, kept_at, moment, move_changes, next_filled, put_changes, upper};
+ghost use Rattle.count_shift.specs.Lane.{Follows, HasMoreRoom, HasRoom, IsPaidFor, LosesFirst, TakesIn};
+ghost use Rattle.count_shift.specs.Counting.{IsCount, IsEvents, IsNextPosition, count_of, events, kept_at, later, moment, move_changes, next_filled, put_changes, upper};
 
 use crate::events_window::EventsWindow;
-use crate::ranks::{upper, upper_after};
+use crate::ranks::{next_filled, reaches_half, upper, upper_after};
 use crate::shifted::Shifted;
 use agg_laws::Steps;
 use std::alloc::Global;
 use std::marker::Model;
-use stream_base::{Change, Def, FINAL, Kept, KeyText, Kind, NoMemory};
+use stream_base::{Change, Def, Kept, KeyText, Kind, NoMemory};
 
-/// All accepted tuples of one key, in event order, for an events window of it. Contracts see the
-/// tuples, and for how many more room is made.
+/// The accepted tuples of one key, in event order, for an events window of it, but for those of first
+/// instances that have left. Contracts see how many have left, the others, and for how many more
+/// there is room; a clause that speaks of all tuples of the key holds for all lists that the lane
+/// follows.
 #[derive(Debug, Drop)]
 pub struct CountLane {
+    gone: u64,
     items: Vec<Kept>,
 }
 
 impl Model for CountLane {
-    ghost use Rattle.std.specs.Prelude.{◌-◌, vec_len, vec_capacity};
-    ghost use Rattle.stream_base.specs.Laws.{TimesDoNotFall};
-    ghost use Rattle.count_shift.specs.Lane.{Laned};
+    ghost use Rattle.std.specs.Prelude.{◌+◌, ◌-◌, vec_len, vec_capacity};
+    ghost use Rattle.count_shift.specs.Lane.{IsLane, Laned, room_for};
 
     ghost Value = { Laned };
 
     ghost view = { λ l. record {
+      gone = l.gone;
       kept = l.items.items;
-      spare = vec_capacity l.items - vec_len l.items;
+      spare = room_for (vec_capacity l.items - vec_len l.items) (l.gone + vec_len l.items);
     } };
 
-    ghost invariant = { λ l. TimesDoNotFall l.items.items };
+    ghost invariant = { λ l. IsLane l.gone l.items.items };
 }
 
 impl CountLane {
     /// No tuple yet.
     pub fn new(alloc: Global) -> CountLane
         ensures empty { result.kept ≡ [] }
+        ensures none_gone { result.gone ≡ 0 }
+        ensures follows { (count time : ℕ) → Follows count time [] result }
         ensures first { (position : ℕ) → IsNextPosition result.kept position }
     {
         CountLane {
+            gone: 0,
             items: Vec::new(alloc),
         }
     }
@@ -57,12 +63,16 @@ impl CountLane {
         ensures same { HasMoreRoom self.old self.new }
         ensures room { OnOk result (HasRoom self.new) }
         ensures number { IfOk result (λ n. n ≡ put_changes count self.old.kept time water) }
-        ensures changes { (window : ℕ) (func : Func) (key marks : List ℕ) (x : Kept) → x.time ≡ time
-            → IsNextPosition self.old.kept x.position → IfOk result (λ n. n
-            ≡ length (emissions key (moment self.old.kept marks water)
-            (moment (put_in_order self.old.kept x) marks water) (window, events count func))) }
+        ensures changes { (window : ℕ) (func : Func) (key marks : List ℕ) (kept : List Kept) (x : Kept)
+            → x.time ≡ time → Follows count (min time water) kept self.old
+            → IsNextPosition kept x.position → IfOk result (λ n. n
+            ≡ length (emissions key (moment kept marks water)
+            (moment (put_in_order kept x) marks water) (window, events count func))) }
     {
         self.items.reserve(1)?;
+        if self.gone + self.items.len() as u64 == u64::MAX {
+            return Err(NoMemory); // No more tuples can be counted.
+        }
         if water < time {
             return Ok(0); // No instance that has the tuple stands.
         }
@@ -92,17 +102,29 @@ impl CountLane {
         requires room { HasRoom self.old }
         requires spare { put_changes (count_of (def.now).kind) self.old.kept time water
             ≤ room out.old }
-        ensures rank { result.from_rank ≡ upper self.old.kept time }
-        ensures stands { slice_get self.new.kept result.from_rank ≡ Some (kept_at pos time value) }
+        ensures rank { (kept : List Kept)
+            → Follows (count_of (def.now).kind) (min time water) kept self.old
+            → result.from_rank ≡ upper kept time }
+        ensures stands { slice_get self.new.kept (result.from_rank - self.old.gone)
+            ≡ Some (kept_at pos time value) }
         ensures takes { TakesIn (kept_at pos time value) self.old self.new }
+        ensures follows { (kept : List Kept) (from : ℕ) → from ≤ time
+            → Follows (count_of (def.now).kind) from kept self.old
+            → Follows (count_of (def.now).kind) from
+            (put_in_order kept (kept_at pos time value)) self.new }
         ensures next { (next : ℕ) → IsNextPosition self.old.kept pos → pos < next
             → IsNextPosition self.new.kept next }
-        ensures none_gone { (marks : List ℕ)
-            → retractions key.now (moment self.old.kept marks water)
-            (moment self.new.kept marks water) (window, def.now) ≡ [] }
-        ensures changes { (marks : List ℕ) → IsNextPosition self.old.kept pos → out.new.items
-            ≡ out.old.items ++ emissions key.now (moment self.old.kept marks water)
-            (moment self.new.kept marks water) (window, def.now) }
+        ensures none_gone { (kept : List Kept) (marks : List ℕ)
+            → Follows (count_of (def.now).kind) (min time water) kept self.old
+            → retractions key.now (moment kept marks water)
+            (moment (put_in_order kept (kept_at pos time value)) marks water)
+            (window, def.now) ≡ [] }
+        ensures changes { (kept : List Kept) (marks : List ℕ)
+            → Follows (count_of (def.now).kind) (min time water) kept self.old
+            → IsNextPosition kept pos → out.new.items
+            ≡ out.old.items ++ emissions key.now (moment kept marks water)
+            (moment (put_in_order kept (kept_at pos time value)) marks water)
+            (window, def.now) }
         ensures adds { Adds
             (put_changes (count_of (def.now).kind) self.old.kept time water) out.old out.new }
         ensures cost { steps.new
@@ -113,6 +135,7 @@ impl CountLane {
             key,
             func: def.func,
             count: count_of(&def.kind) as usize,
+            gone: self.gone,
         };
         let rank = upper(&self.items, time);
         let reached = upper(&self.items, water);
@@ -127,7 +150,7 @@ impl CountLane {
         window.append_again(&self.items, rank, rank / window.count, stood, out, steps);
         window.append_new(&self.items, stood, stand, out, steps);
         Shifted {
-            from_rank: rank as u64,
+            from_rank: self.gone + rank as u64,
         }
     }
 
@@ -135,8 +158,9 @@ impl CountLane {
     pub fn due(&self, count: u64, old: u64, new: u64) -> u64
         requires { IsCount count }
         ensures number { result ≡ move_changes count self.now.kept old new }
-        ensures rows { (window : ℕ) (func : Func) (key marks : List ℕ) → result
-            ≡ length (completions key (moment self.now.kept marks old) new
+        ensures rows { (window : ℕ) (func : Func) (key marks : List ℕ) (kept : List Kept)
+            → Follows count (min old new) kept self.now
+            → result ≡ length (completions key (moment kept marks old) new
             (window, events count func)) }
     {
         let stood = upper(&self.items, old) as u64 / count;
@@ -148,13 +172,10 @@ impl CountLane {
     /// the final time where there are too few: a move of the watermark to before it completes none.
     pub fn next_filled(&self, count: u64, water: u64) -> u64
         requires { IsCount count }
-        ensures { result ≡ next_filled count self.now.kept water }
+        ensures { (kept : List Kept) → Follows count water kept self.now
+            → result ≡ next_filled count kept water }
     {
-        let stand = upper(&self.items, water) as u64 / count * count;
-        match self.items.get((stand + count - 1) as usize) {
-            Some(x) => x.time,
-            None => FINAL,
-        }
+        next_filled(&self.items, count, water)
     }
 
     /// Appends exactly the instances that a move of the watermark completes, as new. `due` says how
@@ -172,8 +193,10 @@ impl CountLane {
         requires events { IsEvents (def.now).kind }
         requires spare { move_changes (count_of (def.now).kind) self.now.kept old new
             ≤ room out.old }
-        ensures changes { (marks : List ℕ) → out.new.items ≡ out.old.items
-            ++ completions key.now (moment self.now.kept marks old) new (window, def.now) }
+        ensures changes { (kept : List Kept) (marks : List ℕ)
+            → Follows (count_of (def.now).kind) (min old new) kept self.now
+            → out.new.items ≡ out.old.items
+            ++ completions key.now (moment kept marks old) new (window, def.now) }
         ensures adds { Adds
             (move_changes (count_of (def.now).kind) self.now.kept old new) out.old out.new }
         ensures cost { steps.new
@@ -184,10 +207,34 @@ impl CountLane {
             key,
             func: def.func,
             count: count_of(&def.kind) as usize,
+            gone: self.gone,
         };
         let stood = upper(&self.items, old) / window.count;
         let stand = upper(&self.items, new) / window.count;
         window.append_new(&self.items, stood, stand, out, steps);
+    }
+
+    /// Lets the tuples of first instances leave that lie at or before a time, if they are half of all
+    /// at least: then what it takes to move the others up is paid for by those that leave. No tuple
+    /// comes before that time any more, and nothing is asked of an earlier watermark.
+    pub fn drop_settled(&mut self, count: u64, time: u64)
+        requires { IsCount count }
+        ensures follows { (kept : List Kept) → Follows count time kept self.old
+            → Follows count time kept self.new }
+        ensures loses { LosesFirst self.old self.new }
+        ensures paid { IsPaidFor self.old self.new }
+        ensures few { length self.new.kept < 2 * (later self.new.kept time + count) }
+    {
+        if !reaches_half(&self.items, time) {
+            return;
+        }
+        let settled = upper(&self.items, time) as u64 / count * count;
+        let left = self.items.len() - settled as usize;
+        if left as u64 <= settled {
+            self.items.rotate_left(settled as usize);
+            self.items.truncate(left);
+            self.gone += settled;
+        }
     }
 }
 

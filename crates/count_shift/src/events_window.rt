@@ -1,32 +1,35 @@
 //! How instances of one events window are told.
-ghost use Rattle.std.specs.Prelude.{◌≡◌, ◌≤◌, ◌<◌, ◌+◌, ◌-◌, ◌*◌, ◌++◌, map, length};
+ghost use Rattle.std.specs.Prelude.{◌≡◌, ◌≤◌, ◌<◌, ◌+◌, ◌-◌, ◌*◌, ◌^◌, ◌++◌, map, length};
 ghost use Rattle.std.specs.List.{remove};
 ghost use Rattle.stream_base.specs.Model.Changes.{row_of, former_of};
 ghost use Rattle.stream_base.specs.Model.Windows.{ranks};
 ghost use Rattle.stream_base.specs.Vectors.{Adds, room};
-ghost use Rattle.count_shift.specs.Counting.{again_of, new_of, numbers};
+ghost use Rattle.count_shift.specs.Counting.{again_behind, new_behind, numbers, ranks_behind};
 
 use crate::fold::fold_onto;
 use agg_laws::{Monoid, Steps};
 use aggregates::Bundle;
 use stream_base::{Change, Former, Func, Kept, KeyText, Row};
 
-// One events window of one key: its place among the definitions, its function, and how many tuples
-// an instance selects.
+// One events window of one key: its place among the definitions, its function, how many tuples an
+// instance selects, and how many tuples that have left come before those at hand, all of them of
+// whole instances. Instances are numbered from those at hand on.
 #[derive(Clone, Copy)]
 pub struct EventsWindow<'a> {
     pub window: u32,
     pub key: &'a KeyText,
     pub func: Func,
     pub count: usize,
+    pub gone: u64,
 }
 
 impl EventsWindow<'_> {
     // The row of the i-th instance.
     pub fn row<L>(&self, items: &[Kept], i: usize, steps: &mut Steps<L>) -> Row
-        requires { (i + 1) * self.now.count ≤ length items.now }
+        requires filled { (i + 1) * self.now.count ≤ length items.now }
+        requires counted { self.now.gone + length items.now < 2 ^ 64 }
         ensures value { result ≡ row_of self.now.window self.now.key.now self.now.func
-            (ranks self.now.count items.now i) }
+            (ranks_behind self.now.gone self.now.count items.now i) }
         ensures cost { steps.new ≤ steps.old + self.now.count }
     {
         let low = i * self.count;
@@ -35,8 +38,8 @@ impl EventsWindow<'_> {
         Row {
             window: self.window,
             key: *self.key,
-            low: low as u64,
-            high: high as u64,
+            low: self.gone + low as u64,
+            high: self.gone + high as u64,
             number: self.count as u64,
             shown: folded.show(self.func),
         }
@@ -72,10 +75,11 @@ impl EventsWindow<'_> {
         steps: &mut Steps<L>,
     )
         requires filled { to * self.now.count ≤ length items.now }
+        requires counted { self.now.gone + length items.now < 2 ^ 64 }
         requires spare { to - from ≤ room out.old }
         ensures told { out.new.items ≡ out.old.items ++ map
-            (new_of self.now.window self.now.key.now self.now.func self.now.count items.now)
-            (numbers from to) }
+            (new_behind self.now.gone self.now.window self.now.key.now self.now.func self.now.count
+            items.now) (numbers from to) }
         ensures adds { Adds (to - from) out.old out.new }
         ensures cost { steps.new ≤ steps.old + self.now.count * (to - from) }
     {
@@ -98,10 +102,11 @@ impl EventsWindow<'_> {
     )
         requires behind { rank < (from + 1) * self.now.count }
         requires filled { to * self.now.count < length items.now }
+        requires counted { self.now.gone + length items.now < 2 ^ 64 }
         requires spare { to - from ≤ room out.old }
         ensures told { out.new.items ≡ out.old.items ++ map
-            (again_of self.now.window self.now.key.now self.now.func self.now.count
-            (remove items.now rank) items.now) (numbers from to) }
+            (again_behind self.now.gone self.now.window self.now.key.now self.now.func
+            self.now.count (remove items.now rank) items.now) (numbers from to) }
         ensures adds { Adds (to - from) out.old out.new }
         ensures cost { steps.new ≤ steps.old + 2 * self.now.count * (to - from) }
     {

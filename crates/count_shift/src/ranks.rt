@@ -1,10 +1,10 @@
 //! Ranks of times among tuples in event order.
-ghost use Rattle.std.specs.Prelude.{◌≡◌, ◌≤◌, ◌<◌, length, slice_index_or, true, false};
+ghost use Rattle.std.specs.Prelude.{◌≡◌, ◌≤◌, ◌<◌, ◌*◌, length, slice_index_or, true, false};
 ghost use Rattle.stream_base.specs.declared.kept.Kept.{Kept};
 ghost use Rattle.stream_base.specs.Laws.{TimesDoNotFall};
-ghost use Rattle.count_shift.specs.Counting.{upper, upper_after};
+ghost use Rattle.count_shift.specs.Counting.{IsCount, next_filled, upper, upper_after};
 
-use stream_base::Kept;
+use stream_base::{FINAL, Kept};
 
 // So many tuples at the end are searched by themselves: most searches lead there.
 const NEAR: usize = 64;
@@ -57,6 +57,17 @@ fn upper_by_halves(items: &[Kept], time: u64) -> usize
     items.partition_point(|x| x.time <= time)
 }
 
+// Whether more than half of the tuples may have a time at or before this one, as the middle one tells.
+pub fn reaches_half(items: &[Kept], time: u64) -> bool
+    requires { TimesDoNotFall items.now }
+    ensures { result ≡ false → 2 * upper items.now time ≤ length items.now }
+{
+    match items.get(items.len() / 2) {
+        Some(x) => x.time <= time,
+        None => false,
+    }
+}
+
 // How many have a time at or before the watermark when a tuple at a time has come, where so many have
 // had before.
 pub fn upper_after(items: &[Kept], reached: usize, time: u64, water: u64) -> u64
@@ -66,4 +77,18 @@ pub fn upper_after(items: &[Kept], reached: usize, time: u64, water: u64) -> u64
 {
     let reached = reached.min(items.len()) as u64;
     if time <= water { reached + 1 } else { reached }
+}
+
+// The time of the tuple that fills the next instance behind those that a watermark fills, and the
+// final time where there are too few.
+pub fn next_filled(items: &[Kept], count: u64, water: u64) -> u64
+    requires count { IsCount count }
+    requires ordered { TimesDoNotFall items.now }
+    ensures { result ≡ next_filled count items.now water }
+{
+    let stand = upper(items, water) as u64 / count * count;
+    match items.get((stand + count - 1) as usize) {
+        Some(x) => x.time,
+        None => FINAL,
+    }
 }

@@ -1,5 +1,5 @@
 -- Where the last tuple has a time at or before this one, all have.
-use Rattle.std.proofs.Common.{◌≤◌, ◌-◌, length, get_or, subst, arith}
+use Rattle.std.proofs.Common.{◌≤◌, ◌-◌, length, subst, arith}
 use Rattle.std.proofs.lemmas.Bool.{leb-true}
 use Rattle.std.proofs.lemmas.List.{get_or_default}
 use Rattle.stream_base.specs.declared.kept.Kept.{Kept}
