@@ -52,13 +52,14 @@ pub trait AggQueue<M: Monoid> {
         ensures value { result ≡ total M.empty M.op (items self.now) }
         ensures cost { steps.new ≤ steps.old + 1 };
 
-    /// Empties the queue.
+    /// Empties the queue, and leaves no credit.
     fn clear(&mut self)
         ensures empty { items self.new ≡ [] }
         ensures spare { spare self.old ≤ spare self.new }
-        ensures credit { credit self.new ≤ credit self.old };
+        ensures credit { credit self.new ≡ 0 };
 
-    /// How many items there are.
+    /// How many items there are: at least as many as steps are left on credit.
     fn len(&self) -> u64
-        ensures { result ≡ length (items self.now) };
+        ensures number { result ≡ length (items self.now) }
+        ensures credit { credit self.now ≤ length (items self.now) };
 }

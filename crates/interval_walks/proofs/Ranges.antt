@@ -1,9 +1,10 @@
 -- The slices that begin in an interval.
-use Rattle.std.proofs.Common.{◌≡◌, ◌∙◌, ℕ, ◌+◌, ◌<◌, ◌≤◌, Bool, true, false, cond, List, [], ◌∷◌, ◌++◌, length, ap, sym, refl, arith, inl, inr}
+use Rattle.std.proofs.Common.{◌≡◌, ◌∙◌, ℕ, ◌+◌, ◌<◌, ◌≤◌, Bool, true, false, cond, not, List, [], ◌∷◌, ◌++◌, length, ap, sym, refl, arith, inl, inr}
 use Rattle.std.specs.Prelude.{◌⊎◌, ◌&&◌, nat_le, nat_lt}
 use Rattle.std.specs.List.{All}
 use Rattle.std.proofs.lemmas.Bool.{and_from, and_left, and_right, cases_lt, le-leb, le-ltb, lt-leb, lt-ltb}
 use Rattle.std.proofs.lemmas.List.{length-append}
+use Rattle.std.proofs.lemmas.List.Filters.{length-filter_both}
 use Rattle.std.proofs.lemmas.List.Elements.{All-cons, All-nil, All-weaker}
 use Rattle.stream_base.specs.declared.kept.Kept.{Kept}
 use Rattle.stream_base.specs.Model.Windows.{first_time, last_time}
@@ -92,6 +93,10 @@ in_two a b c (run ∷ runs) l m o = by (in_two a b c runs l m o.2) (cases_lt (fi
 -- their numbers
 pub number_in_two : (a b c : ℕ) (runs : List (List Kept)) → a ≤ b → b ≤ c → AreInOrder runs → length (runs_within a c runs) ≡ length (runs_within a b runs) + length (runs_within b c runs)
 number_in_two a b c runs l m o = ap length (in_two a b c runs l m o) ∙ length-append (runs_within a b runs) (runs_within b c runs)
+
+-- they are among all
+pub fewer_within : (low high : ℕ) (runs : List (List Kept)) → length (runs_within low high runs) ≤ length runs
+fewer_within low high runs = omega (arith, length-filter_both (begins_in low high) (λ run. not (begins_in low high run)) (λ run. refl) runs)
 
 -- from later on there are no more
 pub fewer_from : (a b c : ℕ) (runs : List (List Kept)) → a ≤ b → AreInOrder runs → length (runs_within b c runs) ≤ length (runs_within a c runs)

@@ -64,10 +64,18 @@ impl<Q: AggQueue<Bundle>> Held<Q> {
         self.to
     }
 
-    /// Lets all slices go, without a step.
+    /// Changes nothing, and tells a proof that at most 5 steps are left on credit for each slice.
+    pub fn vouch(&self)
+        ensures { (self.now).credit ≤ 5 * length (self.now).partials }
+    {
+        self.queue.len();
+    }
+
+    /// Lets all slices go, without a step, and leaves no credit.
     pub fn clear(&mut self)
         ensures lets_go { LetsGo [] self.old self.new 0 0 }
         ensures to { (self.new).to ≡ 0 }
+        ensures credit { (self.new).credit ≡ 0 }
     {
         self.queue.clear();
         self.to = 0;

@@ -105,6 +105,18 @@ module _ (len slide : ℕ) (span : IsSpan len slide) where
     pub taken_where_none_missed : runs_within to (last_end len slide old) slices ≡ [] → length (runs_within (max (next_start len slide old) to) (last_end len slide new) slices) ≤ length (runs_within (last_end len slide old) (last_end len slide new) slices)
     taken_where_none_missed none = omega (arith, two_parts, fewer_from to (max (next_start len slide old) to) (last_end len slide old) slices (omega arith) o, ap length none)
 
+    -- those that are held and those that are taken up lie between the next start and the last end
+    pub held_and_taken : length (runs_within (next_start len slide old) to slices) + length (runs_within (max (next_start len slide old) to) (last_end len slide new) slices) ≤ length (runs_within (next_start len slide old) (last_end len slide new) slices)
+    held_and_taken = by (cases_lt (next_start len slide old) to)
+      where
+        by : (next_start len slide old < to) ⊎ (to ≤ next_start len slide old) → length (runs_within (next_start len slide old) to slices) + length (runs_within (max (next_start len slide old) to) (last_end len slide new) slices) ≤ length (runs_within (next_start len slide old) (last_end len slide new) slices)
+        by (inl l) =
+            let from : max (next_start len slide old) to ≡ to = omega arith in
+            omega (arith, ap (λ n. length (runs_within n (last_end len slide new) slices)) from, number_in_two (next_start len slide old) to (last_end len slide new) slices (omega arith) (omega (arith, reached, last_rises old new order)) o)
+        by (inr l) =
+            let from : max (next_start len slide old) to ≡ next_start len slide old = omega arith in
+            omega (arith, ap (λ n. length (runs_within n (last_end len slide new) slices)) from, ap length (none_turned (next_start len slide old) to slices l))
+
 -- ---- a window's numbers
 -- what a lane knows, of intervals of a length and a slide
 pub record KnowsAt (len slide water : ℕ) (s : Stored) (lane : Laned) : Type 0 where
@@ -132,6 +144,9 @@ module _ (kind : Kind) (len slide : ℕ) (l : len ≡ length_of kind) (m : slide
 
   pub between_is : (old new : ℕ) (slices : List (List Kept)) → length (runs_within (last_end len slide old) (last_end len slide new) slices) ≡ length (runs_within (last_end (length_of kind) (slide_of kind) old) (last_end (length_of kind) (slide_of kind) new) slices)
   between_is old new slices = λ i. length (runs_within (last_end (l i) (m i) old) (last_end (l i) (m i) new) slices)
+
+  pub until_is : (old new : ℕ) (slices : List (List Kept)) → length (runs_within (next_start len slide old) (last_end len slide new) slices) ≡ length (runs_within (next_start (length_of kind) (slide_of kind) old) (last_end (length_of kind) (slide_of kind) new) slices)
+  until_is old new slices = λ i. length (runs_within (next_start (l i) (m i) old) (last_end (l i) (m i) new) slices)
 
   pub in_last_is : (old : ℕ) (slices : List (List Kept)) → length (runs_within (last_end len slide old - len) (last_end len slide old) slices) ≡ length (runs_within (last_end (length_of kind) (slide_of kind) old - length_of kind) (last_end (length_of kind) (slide_of kind) old) slices)
   in_last_is old slices = λ i. length (runs_within (last_end (l i) (m i) old - l i) (last_end (l i) (m i) old) slices)

@@ -1,5 +1,5 @@
 -- What a lane is in contracts, and what it knows of the slices of its key.
-use Rattle.std.specs.Prelude.{◌≡◌, ◌≤◌, ℕ, Bool, false, List, [], if◌then◌else◌}
+use Rattle.std.specs.Prelude.{◌≡◌, ◌≤◌, ◌*◌, ℕ, Bool, false, List, [], length, if◌then◌else◌}
 use Rattle.stream_base.specs.declared.kind.Kind.{Kind}
 use Rattle.aggregates.specs.Bundled.{Bundled}
 use Rattle.window_laws.specs.Late.{length_of, slide_of}
@@ -55,13 +55,14 @@ pub record HoldsTheSame (old new : Laned) : Type 0 where
   pub spare : new.spare ≡ old.spare
   pub credit : new.credit ≡ old.credit
 
--- it let all go where one of the slices had changed, and lost no room by it
+-- it let all go where one of the slices had changed, and lost no room by it; at most five steps are left on credit for each slice that it holds
 pub record IsRefreshed (old new : Laned) : Type 0 where
   pub stale : new.stale ≡ false
   pub partials : new.partials ≡ fresh_partials old
   pub to : new.to ≡ fresh_to old
   pub spare : old.spare ≤ new.spare
   pub credit : new.credit ≤ old.credit
+  pub little : new.credit ≤ 5 * length new.partials
 
 -- the slices up to each end of an interval stay that lies at or before a time
 abbrev pub IsSameUpTo : Kind → ℕ → Stored → Stored → Type 0

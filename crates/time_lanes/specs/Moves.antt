@@ -37,6 +37,10 @@ abbrev pub slices_in_last : Kind → Stored → ℕ → List (List Kept)
 slices_in_last kind s water =
     runs_within (last_end_of kind water - length_of kind) (last_end_of kind water) s.slices
 
+-- the slices from the first interval on that is open at a watermark, up to the end of the last one that is complete at another
+abbrev pub slices_until : Kind → Stored → ℕ → ℕ → List (List Kept)
+slices_until kind s old new = runs_within (next_start_of kind old) (last_end_of kind new) s.slices
+
 -- none of the tuples that were dropped lies in an interval of the window that ends above a time
 abbrev pub AreApartAbove : Kind → ℕ → List Kept → Type 0
 AreApartAbove kind time gone =

@@ -17,7 +17,7 @@ ghost use Rattle.time_lanes.specs.Calls.{AppendsWithin, IsServedUnder, MayComeTo
 ghost use Rattle.time_lanes.specs.Lane.{HasMoreRoom, HoldsTheSame, IsRefreshed, IsSameUpTo, Knows, KnowsAll};
 ghost use Rattle.time_lanes.specs.Late.{AreApartAt, IsLate, complete_holding, formers_of};
 ghost use Rattle.time_lanes.specs.Shared.{IsSharedAt};
-ghost use Rattle.time_lanes.specs.Moves.{MayMove, completed_starts, moment, slices_between, slices_due, slices_in_last};
+ghost use Rattle.time_lanes.specs.Moves.{MayMove, completed_starts, moment, slices_between, slices_due, slices_in_last, slices_until};
 ghost use Rattle.interval_walks.specs.Spans.{IsWindowAt, is_served, last_end_of};
 
 use agg_laws::{AggQueue, Steps};
@@ -107,7 +107,9 @@ impl<Q: AggQueue<Bundle>> Lane<Q> {
     ///
     /// The work is bounded on credit by 10 steps for each slice of the intervals that end in the
     /// move, and 1 for each row; where the lane has missed slices of complete intervals, or was
-    /// touched, by 10 more for each slice of the last one of these.
+    /// touched, by 10 more for each slice of the last one of these. With no credit it is bounded by
+    /// 10 steps for each slice from the first interval that is open up to the end of the last one
+    /// that is complete in the end, and 1 for each row.
     pub fn advance<S: AggStore, L>(
         &mut self,
         defs: &Defs,
@@ -152,6 +154,10 @@ impl<Q: AggQueue<Bundle>> Lane<Q> {
             + 10 * (length (slices_between def.kind (S.stored store.now) old new)
             + length (slices_in_last def.kind (S.stored store.now) old))
             + length (completed_starts def.kind (tuples_of (S.stored store.now)) old new) }
+        ensures work { (def : Def) → IsWindowAt defs.now.windows window def
+            → Knows def.kind old (S.stored store.now) self.old → steps.new ≤ steps.old
+            + 10 * length (slices_until def.kind (S.stored store.now) old new)
+            + length (completed_starts def.kind (tuples_of (S.stored store.now)) old new) }
     {
         let Served { def, span } = serve(defs, window);
         let owner = Owner {
@@ -175,6 +181,7 @@ impl<Q: AggQueue<Bundle>> Lane<Q> {
             self.held.clear();
             self.stale = false;
         }
+        self.held.vouch();
     }
 
     /// How many changes `late` appends for a tuple at a time: one for each complete interval that

@@ -7,9 +7,10 @@ use Rattle.window_laws.specs.Walk.{due_from, next_start}
 use Rattle.agg_store.specs.Stored.{tuples_of}
 use Rattle.interval_walks.specs.Held.{HoldsFrom}
 use Rattle.time_lanes.specs.Lane.{Knows, KnowsAll, Laned, fresh_to}
-use Rattle.time_lanes.specs.Moves.{MayMove, completed_starts, moment, slices_between, slices_in_last}
+use Rattle.time_lanes.specs.Moves.{MayMove, completed_starts, moment, slices_between, slices_in_last, slices_until}
 use Rattle.interval_walks.specs.Spans.{IsEdge, last_end}
-use Rattle.time_lanes.proofs.AdvanceFacts.{begins, between_is, due_is, ends_above, fresh_at_most, goes_to, in_last_is, knows_at, knows_of, last_at_most, last_is_edge, last_rises, left_at_most, missed_at, move_changes, next_rises, none_missed_at, taken_at_most, taken_is, taken_where_none_missed}
+use Rattle.time_lanes.proofs.AdvanceFacts.{begins, between_is, due_is, ends_above, fresh_at_most, goes_to, held_and_taken, in_last_is, knows_at, knows_of, last_at_most, last_is_edge, last_rises, left_at_most, missed_at, move_changes, next_rises, none_missed_at, taken_at_most, taken_is, taken_where_none_missed, until_is}
+use Rattle.interval_walks.proofs.HeldFacts.{partials_length}
 use Rattle.interval_walks.proofs.ServedFacts.{same_window, span_of_kind}
 use Rattle.time_lanes.proofs.lane.Lane.advance.Given as given
 use Rattle.time_lanes.proofs.lane.Lane.advance.Goals as goal
@@ -88,20 +89,51 @@ returns-clause-knows_all g c = λ def stands.
       none_missed = none_missed_at d.kind span.length span.slide c.serve.ensures.length c.serve.ensures.slide c.args.new s.slices c.pull.new.self.to (omega (arith, c.pull.ensures.to, c.last_end.ensures.end));
     }
 
--- all steps, by the slices that are taken up
+-- all steps, by the slices that are taken up and by what is left on credit where the walk begins
+steps_of_walk : (g : given.Over) (c : goal.After-pull g)
+    → c.pull.new.steps + c.pull.new.self.credit ≤ c.args.steps.now + c.self.inside.held.credit + 10 * length (runs_within (max (next_start c.serve.result.span.length c.serve.result.span.slide c.args.old) c.self.inside.held.to) (last_end c.serve.result.span.length c.serve.result.span.slide c.args.new) (g.S.AggStore.stored c.args.store.now).slices)
+    + length (due_from c.serve.result.span.length c.serve.result.span.slide (tuples_of (g.S.AggStore.stored c.args.store.now)) c.next_start-start.result c.args.new)
+steps_of_walk g c =
+    let span = c.serve.result.span in
+    let s = (g.S.AggStore.stored c.args.store.now) in
+    let o = c.pull.ensures.holds.slices.ordered in
+    let same : length (runs_within (max c.next_start-start.result c.self.inside.held.to) (last_end span.length span.slide c.args.new) s.slices) ≡ length (runs_within (max (next_start span.length span.slide c.args.old) c.self.inside.held.to) (last_end span.length span.slide c.args.new) s.slices) = λ i. length (runs_within (max (c.next_start-start.ensures.start i) c.self.inside.held.to) (last_end span.length span.slide c.args.new) s.slices) in
+    let rises = next_rises span.length span.slide span.within c.args.old c.args.new c.requires.order in
+    let left = left_at_most s.slices o c.tell_due-told.result c.next_start-next.result c.tell_due-told.new.held.to c.shed.new.self.to _ c.last_end.result (omega (arith, rises, c.tell_due-told.ensures.within, c.next_start-start.ensures.start, c.next_start-next.ensures.start)) c.shed.ensures.to c.last_end.ensures.end in
+    omega (arith, left, same, c.tell_due-told.ensures.cost, c.shed.ensures.lets_go.cost, c.pull.ensures.cost)
+
+-- the same by the credit before
 all_steps : (g : given.Over) (c : goal.After-pull g)
     → c.pull.new.steps + c.pull.new.self.credit ≤ c.args.steps.now + c.args.self.now.credit + 10 * length (runs_within (max (next_start c.serve.result.span.length c.serve.result.span.slide c.args.old) (fresh_to c.args.self.now)) (last_end c.serve.result.span.length c.serve.result.span.slide c.args.new) (g.S.AggStore.stored c.args.store.now).slices)
     + length (due_from c.serve.result.span.length c.serve.result.span.slide (tuples_of (g.S.AggStore.stored c.args.store.now)) c.next_start-start.result c.args.new)
 all_steps g c =
     let span = c.serve.result.span in
     let s = (g.S.AggStore.stored c.args.store.now) in
-    let o = c.pull.ensures.holds.slices.ordered in
     let to = ap (λ (l : Laned). l.to) c.self.view_is ∙ c.refresh.ensures.to in
     let credit = ap (λ (l : Laned). l.credit) c.self.view_is in
-    let same : length (runs_within (max c.next_start-start.result c.self.inside.held.to) (last_end span.length span.slide c.args.new) s.slices) ≡ length (runs_within (max (next_start span.length span.slide c.args.old) (fresh_to c.args.self.now)) (last_end span.length span.slide c.args.new) s.slices) = λ i. length (runs_within (max (c.next_start-start.ensures.start i) (to i)) (last_end span.length span.slide c.args.new) s.slices) in
-    let rises = next_rises span.length span.slide span.within c.args.old c.args.new c.requires.order in
-    let left = left_at_most s.slices o c.tell_due-told.result c.next_start-next.result c.tell_due-told.new.held.to c.shed.new.self.to _ c.last_end.result (omega (arith, rises, c.tell_due-told.ensures.within, c.next_start-start.ensures.start, c.next_start-next.ensures.start)) c.shed.ensures.to c.last_end.ensures.end in
-    omega (arith, left, same, credit, c.refresh.ensures.credit, c.tell_due-told.ensures.cost, c.shed.ensures.lets_go.cost, c.pull.ensures.cost)
+    let same : length (runs_within (max (next_start span.length span.slide c.args.old) c.self.inside.held.to) (last_end span.length span.slide c.args.new) s.slices) ≡ length (runs_within (max (next_start span.length span.slide c.args.old) (fresh_to c.args.self.now)) (last_end span.length span.slide c.args.new) s.slices) = λ i. length (runs_within (max (next_start span.length span.slide c.args.old) (to i)) (last_end span.length span.slide c.args.new) s.slices) in
+    omega (arith, same, credit, c.refresh.ensures.credit, steps_of_walk g c)
+
+-- what is left on credit where the walk begins has been paid for by the slices that are held
+pub returns-clause-work : goal.returns-clause-work
+returns-clause-work g c = λ def stands knows.
+    let span = c.serve.result.span in
+    let d = c.serve.result.def in
+    let s = (g.S.AggStore.stored c.args.store.now) in
+    let same : def ≡ d = same_window c.args.defs.now.windows c.args.window def d stands c.serve.ensures.stands in
+    let k = knows_at d.kind span.length span.slide c.serve.ensures.length c.serve.ensures.slide c.args.old s c.args.self.now (subst (λ (e : Def). Knows e.kind c.args.old s c.args.self.now) same knows) in
+    let to = ap (λ (l : Laned). l.to) c.self.view_is ∙ c.refresh.ensures.to in
+    let partials = ap (λ (l : Laned). l.partials) c.self.view_is ∙ c.refresh.ensures.partials in
+    let credit = ap (λ (l : Laned). l.credit) c.self.view_is in
+    let held : HoldsFrom (next_start span.length span.slide c.args.old) s c.self.inside.held = begins span.length span.slide span.within c.args.old s c.args.self.now c.self.inside.held partials to k.held in
+    let number = ap length held ∙ partials_length (runs_within (next_start span.length span.slide c.args.old) c.self.inside.held.to s.slices) in
+    let reached = goes_to span.length span.slide span.within c.args.old s c.args.self.now c.self.inside.held partials to k.reached in
+    let taken = held_and_taken span.length span.slide span.within c.args.old c.args.new c.requires.order s.slices c.pull.ensures.holds.slices.ordered c.self.inside.held.to reached in
+    let until = until_is d.kind span.length span.slide c.serve.ensures.length c.serve.ensures.slide c.args.old c.args.new s.slices in
+    let due = due_is d.kind span.length span.slide c.serve.ensures.length c.serve.ensures.slide c.next_start-start.result c.args.old c.args.new (tuples_of s) c.next_start-start.ensures.start in
+    let left = ap (λ (l : Laned). length l.partials) c.self.view_is in
+    subst (λ (e : Def). c.pull.new.steps ≤ c.args.steps.now + 10 * length (slices_until e.kind s c.args.old c.args.new) + length (completed_starts e.kind (tuples_of s) c.args.old c.args.new)) (sym same)
+    (omega (arith, steps_of_walk g c, c.refresh.ensures.little, credit, left, number, taken, until, due))
 
 pub returns-clause-cost_touched : goal.returns-clause-cost_touched
 returns-clause-cost_touched g c = λ def stands knows.
