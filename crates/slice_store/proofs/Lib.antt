@@ -1,2 +1,2 @@
+pub mod PutCosts
 mod WithinTimes
-pub mod_PutCosts
