@@ -1,5 +1,5 @@
 -- What a late tuple changes of the complete intervals that hold it.
-use Rattle.std.proofs.Common.{◌≡◌, ◌∙◌, ℕ, zero, suc, ◌+◌, ◌<◌, ◌≤◌, Bool, true, false, cond, Option, None, Some, List, [], ◌∷◌, ◌++◌, length, get_or, map, ap, sym, refl, arith, inl, inr}
+use Rattle.std.proofs.Common.{◌≡◌, ◌∙◌, ℕ, ℤ, zero, suc, ◌+◌, ◌^◌, ◌<◌, ◌≤◌, Bool, true, false, cond, Option, None, Some, List, [], ◌∷◌, ◌++◌, length, get_or, map, ap, sym, refl, arith, inl, inr}
 use Rattle.std.specs.Prelude.{◌⊎◌, ◌&&◌, nat_le, nat_lt}
 use Rattle.std.specs.List.{All, Contains}
 use Rattle.std.proofs.lemmas.Bool.{cases_lt, le-leb, le-ltb, lt-ltb}
@@ -24,10 +24,12 @@ use Rattle.window_laws.proofs.LateFacts.{timed_late_emissions}
 use Rattle.run_laws.proofs.Order.{nd_split}
 use Rattle.run_laws.proofs.RunFacts.{put_behind, put_first}
 use Rattle.agg_store.specs.Stored.{Stored, tuples_of}
+use Rattle.interval_walks.specs.Joined.{is_order_free, joined_at}
 use Rattle.interval_walks.specs.Told.{again_or_new, complete_starts, former_at, former_if, starts_from, told_at, told_late}
 use Rattle.time_lanes.specs.Late.{AreApartAt, IsLate, complete_holding, formers_of}
 use Rattle.time_lanes.specs.Moves.{moment}
 use Rattle.interval_walks.specs.Spans.{IsSpan}
+use Rattle.interval_walks.proofs.JoinedFacts.{joined_is_told}
 
 told_of_map : (told : ℕ → Option Former → Change) (g : ℕ → Option Former) (lows : List ℕ) → told_late told lows (map g lows) ≡ map (λ low. told low (g low)) lows
 told_of_map told g [] = refl
@@ -80,19 +82,33 @@ put_within low high (y ∷ ys) x h t = by (put_within low high ys x (tail_falls 
         own true = ap (λ q. y ∷ q) rest ∙ sym (put_behind y (within low high ys) x (le-ltb x.time y.time l))
         own false = rest
 
+fewer_within : (low high : ℕ) (kept : List Kept) → length (within low high kept) ≤ length kept
+fewer_within low high [] = omega arith
+fewer_within low high (y ∷ ys) = by (is_within low high y) (fewer_within low high ys)
+  where
+    by : (b : Bool) → length (within low high ys) ≤ length ys → length (cond b (y ∷ within low high ys) (within low high ys)) ≤ length (y ∷ ys)
+    by true h = omega arith
+    by false h = omega arith
+
 -- ---- what a late tuple changes
 module _ (window : ℕ) (key : List ℕ) (def : Def) (time water : ℕ) (gone before : List Kept) (marks : List ℕ) (x : Kept) (formers : List (Option Former)) (s : Stored) (timed : is_timed def.kind ≡ true) (kind : IsKindWithin def.kind) (span : IsSpan (length_of def.kind) (slide_of def.kind)) (h : IsLate def time water gone before x formers s) where
   abbrev len : ℕ
   len = length_of def.kind
 
-  same_held : (low : ℕ) → Contains (complete_holding def.kind time water) low → within low (low + length_of def.kind) (tuples_of s) ≡ within low (low + length_of def.kind) (put_in_order (gone ++ before) x)
-  same_held low c =
+  holds_it : (low : ℕ) → Contains (complete_holding def.kind time water) low → is_within low (low + length_of def.kind) x ≡ true
+  holds_it low c =
       let m = starts_holding_members (length_of def.kind) (slide_of def.kind) span.moves span.overlaps time low (filter_members (λ low. nat_le (low + length_of def.kind) water) (starts_holding (length_of def.kind) (slide_of def.kind) time) low c).0 in
-      let t : is_within low (low + length_of def.kind) x ≡ true = (λ i. nat_le low (h.at i) && nat_lt (h.at i) (low + length_of def.kind)) ∙ (λ i. le-leb low time m.2 i && lt-ltb time (low + length_of def.kind) m.3 i) in
+      (λ i. nat_le low (h.at i) && nat_lt (h.at i) (low + length_of def.kind)) ∙ (λ i. le-leb low time m.2 i && lt-ltb time (low + length_of def.kind) m.3 i)
+
+  -- the tuple has been put among those that the interval held
+  held_with : (low : ℕ) → Contains (complete_holding def.kind time water) low → within low (low + length_of def.kind) (tuples_of s) ≡ put_in_order (within low (low + length_of def.kind) (gone ++ before)) x
+  held_with low c =
       ap (within low (low + length_of def.kind)) h.put
-      ∙ put_within low (low + length_of def.kind) before x (nd_split (λ (x : Kept). x.time) gone before h.ordered).1 t
+      ∙ put_within low (low + length_of def.kind) before x (nd_split (λ (x : Kept). x.time) gone before h.ordered).1 (holds_it low c)
       ∙ ap (λ l. put_in_order l x) (sym (nothing_dropped low (low + length_of def.kind) gone before (apart_at def.kind time water low gone h.apart c)))
-      ∙ sym (put_within low (low + length_of def.kind) (gone ++ before) x h.ordered t)
+
+  same_held : (low : ℕ) → Contains (complete_holding def.kind time water) low → within low (low + length_of def.kind) (tuples_of s) ≡ within low (low + length_of def.kind) (put_in_order (gone ++ before) x)
+  same_held low c = held_with low c ∙ sym (put_within low (low + length_of def.kind) (gone ++ before) x h.ordered (holds_it low c))
 
   again : (b : Bool) (row : _) (former : Former) → again_or_new (cond b (Some former) None) row ≡ cond b (Again row former) (New row)
   again true row former = refl
@@ -110,6 +126,20 @@ module _ (window : ℕ) (key : List ℕ) (def : Def) (time water : ℕ) (gone be
       ∙ map_same (λ low. told_at window key def.func (length_of def.kind) (tuples_of s) low (former_at def.func (length_of def.kind) (gone ++ before) low)) (late_change window key def.func (length_of def.kind) (gone ++ before) x) (complete_holding def.kind time water) one_change
       ∙ ap (λ t. map (late_change window key def.func (length_of def.kind) (gone ++ before) x) (complete_holding def.kind t water)) (sym h.at)
       ∙ sym (timed_late_emissions window key def (moment (gone ++ before) marks water) x timed kind)
+
+  -- where the order of values makes no difference, each is told by what stood of it
+  pub joined_told : is_order_free def.func ≡ true → length (tuples_of s) < 2 ^ 64 → told_late (joined_at window key def.func (length_of def.kind) x.value) (complete_holding def.kind time water) formers ≡ told_late (told_at window key def.func (length_of def.kind) (tuples_of s)) (complete_holding def.kind time water) formers
+  joined_told free few =
+      ap (told_late (joined_at window key def.func (length_of def.kind) x.value) (complete_holding def.kind time water)) h.stood
+      ∙ told_of_map (joined_at window key def.func (length_of def.kind) x.value) (former_at def.func (length_of def.kind) (gone ++ before)) (complete_holding def.kind time water)
+      ∙ map_same (λ low. joined_at window key def.func (length_of def.kind) x.value low (former_at def.func (length_of def.kind) (gone ++ before) low)) (λ low. told_at window key def.func (length_of def.kind) (tuples_of s) low (former_at def.func (length_of def.kind) (gone ++ before) low)) (complete_holding def.kind time water) one_joined
+      ∙ sym (told_of_map (told_at window key def.func (length_of def.kind) (tuples_of s)) (former_at def.func (length_of def.kind) (gone ++ before)) (complete_holding def.kind time water))
+      ∙ sym (ap (told_late (told_at window key def.func (length_of def.kind) (tuples_of s)) (complete_holding def.kind time water)) h.stood)
+    where
+      one_joined : (low : ℕ) → Contains (complete_holding def.kind time water) low → joined_at window key def.func (length_of def.kind) x.value low (former_at def.func (length_of def.kind) (gone ++ before) low) ≡ told_at window key def.func (length_of def.kind) (tuples_of s) low (former_at def.func (length_of def.kind) (gone ++ before) low)
+      one_joined low c =
+          joined_is_told window key def.func low (low + length_of def.kind) (within low (low + length_of def.kind) (gone ++ before)) (within low (low + length_of def.kind) (tuples_of s)) x free (held_with low c)
+          (omega (arith, few, fewer_within low (low + length_of def.kind) (tuples_of s)))
 
 pub late_number : (window : ℕ) (key : List ℕ) (def : Def) (time water : ℕ) (kept : List Kept) (marks : List ℕ) (x : Kept) → is_timed def.kind ≡ true → IsKindWithin def.kind → x.time ≡ time → length (complete_holding def.kind time water) ≡ length (emissions key (moment kept marks water) (with_tuple (moment kept marks water) x) (window, def))
 late_number window key def time water kept marks x timed kind at =
@@ -133,3 +163,13 @@ lane_late window key def time water gone before marks x formers s timed kind spa
     ∙ ap (λ q. old ++ told_late (told_at window key def.func length_is (tuples_of s)) q formers) (sym starts)
     ∙ (λ i. old ++ told_late (told_at window key def.func (l i) (tuples_of s)) (complete_starts (l i) (m i) time water) formers)
     ∙ ap (λ q. old ++ q) (late_told window key def time water gone before marks x formers s timed kind span h)
+
+-- the same, where each is told by what stood of it
+pub lane_joined : (window : ℕ) (key : List ℕ) (def : Def) (time water : ℕ) (gone before : List Kept) (marks : List ℕ) (x : Kept) (formers : List (Option Former)) (s : Stored) → is_timed def.kind ≡ true → IsKindWithin def.kind → IsSpan (length_of def.kind) (slide_of def.kind) → IsLate def time water gone before x formers s → is_order_free def.func ≡ true → length (tuples_of s) < 2 ^ 64
+    → (length_is slide_is first count : ℕ) (value : ℤ) (old after : List Change) → length_is ≡ length_of def.kind → slide_is ≡ slide_of def.kind → complete_starts length_is slide_is time water ≡ starts_from slide_is first count → value ≡ x.value → after ≡ old ++ told_late (joined_at window key def.func length_is value) (starts_from slide_is first count) formers
+    → after ≡ old ++ emissions key (moment (gone ++ before) marks water) (with_tuple (moment (gone ++ before) marks water) x) (window, def)
+lane_joined window key def time water gone before marks x formers s timed kind span h free few length_is slide_is first count value old after l m starts v e =
+    e
+    ∙ ap (λ q. old ++ told_late (joined_at window key def.func length_is value) q formers) (sym starts)
+    ∙ (λ i. old ++ told_late (joined_at window key def.func (l i) (v i)) (complete_starts (l i) (m i) time water) formers)
+    ∙ ap (λ q. old ++ q) (joined_told window key def time water gone before marks x formers s timed kind span h free few ∙ late_told window key def time water gone before marks x formers s timed kind span h)

@@ -24,8 +24,8 @@ use agg_laws::{AggQueue, Steps};
 use agg_store::AggStore;
 use aggregates::Bundle;
 use interval_walks::{
-    Held, Owner, Served, Span, append_formers, append_late, complete_at, count_due, end_from,
-    serve, tell_due, window_at,
+    Held, Owner, Served, Span, append_formers, append_joined, append_late, complete_at, count_due,
+    end_from, is_order_free, serve, tell_due, window_at,
 };
 use std::alloc::Global;
 use std::marker::Model;
@@ -235,7 +235,8 @@ impl<Q: AggQueue<Bundle>> Lane<Q> {
     /// Appends exactly the changes of a tuple that the store has just taken in: one for each
     /// complete interval that selects it, by their starts. It is new where the interval selects that
     /// tuple alone, and else an update with what stood, which `formers` told before. A tuple
-    /// retracts no interval.
+    /// retracts no interval. Where the order of values makes no difference, what stood and the
+    /// tuple's value tell all, and no slice is folded.
     pub fn late<S: AggStore, L>(
         &self,
         defs: &Defs,
@@ -243,6 +244,7 @@ impl<Q: AggQueue<Bundle>> Lane<Q> {
         store: &S,
         key: &KeyText,
         time: u64,
+        value: i64,
         water: u64,
         formers: &[Option<Former>],
         out: &mut Vec<Change>,
@@ -256,7 +258,7 @@ impl<Q: AggQueue<Bundle>> Lane<Q> {
             → length (complete_holding def.kind time water)
             ≤ room out.old }
         ensures changes { (def : Def) (gone before : List Kept) (marks : List ℕ) (x : Kept)
-            → IsWindowAt defs.now.windows window def
+            → IsWindowAt defs.now.windows window def → x.value ≡ value
             → IsLate def time water gone before x formers.now (S.stored store.now) → out.new.items
             ≡ out.old.items ++ emissions key.now (moment (gone ++ before) marks water)
             (with_tuple (moment (gone ++ before) marks water) x) (window, def) }
@@ -274,7 +276,13 @@ impl<Q: AggQueue<Bundle>> Lane<Q> {
             func: def.func,
         };
         let found = complete_at(&span, time, water);
-        append_late(owner, &span, store, found, formers, out, steps);
+        if is_order_free(def.func) {
+            // 64 bits count the tuples of a store.
+            store.slice_count();
+            append_joined(owner, &span, found, value, formers, out);
+        } else {
+            append_late(owner, &span, store, found, formers, out, steps);
+        }
     }
 
     /// When the first interval ends that holds a tuple and ends after a watermark, and the final time

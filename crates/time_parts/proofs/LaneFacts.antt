@@ -1,5 +1,5 @@
 -- What a lane meets where a tuple or a mark comes, where the watermark moves, and where slices leave.
-use Rattle.std.proofs.Common.{◌≡◌, ◌∙◌, ℕ, ◌+◌, ◌*◌, ◌<◌, ◌≤◌, ◌^◌, true, false, cond, Option, Some, List, [], ◌∷◌, ◌++◌, length, take, drop, map, ap, sym, refl, subst, arith, inl, inr}
+use Rattle.std.proofs.Common.{◌≡◌, ◌∙◌, ℕ, ◌+◌, ◌*◌, ◌<◌, ◌≤◌, true, false, cond, Option, Some, List, [], ◌∷◌, ◌++◌, length, take, drop, map, ap, sym, refl, subst, arith, inl, inr}
 use Rattle.std.specs.Prelude.{◌&&◌, ◌⊎◌, find, nat_le, nat_lt}
 use Rattle.std.specs.List.{filter}
 use Rattle.std.specs.List.Sorted.{IsNonDecreasingBy}
@@ -15,7 +15,7 @@ use Rattle.stream_base.specs.declared.def.Def.{Def}
 use Rattle.stream_base.specs.declared.kept.Kept.{Kept}
 use Rattle.stream_base.specs.declared.kind.Kind.{Kind}
 use Rattle.stream_base.specs.declared.kind.Kind.TheVariants.{Tumbling, Sliding, Session, Marks, Events}
-use Rattle.stream_base.specs.declared.limits.TheConstants.{FINAL, JOURNAL_MAX}
+use Rattle.stream_base.specs.declared.limits.TheConstants.{FINAL}
 use Rattle.stream_base.specs.Laws.{TimesDoNotFall, becomes_complete, completions, is_timed}
 use Rattle.stream_base.specs.Model.Changes.{Moment, emissions, retractions, row_of}
 use Rattle.stream_base.specs.Model.Journal.{put_in_order}
@@ -36,7 +36,7 @@ use Rattle.interval_walks.specs.Told.{former_at}
 use Rattle.time_lanes.specs.Late.{IsLate, complete_holding, formers_of}
 use Rattle.time_lanes.specs.Moves.{moment}
 use Rattle.key_parts.specs.Calls.{window_at}
-use Rattle.key_parts.specs.Moves.{AreLists, Comes, IsPutStep, IsStored}
+use Rattle.key_parts.specs.Moves.{Comes, IsPutStep, IsStored}
 use Rattle.key_parts.specs.Moves.Comes.{Enters, Leaves}
 use Rattle.key_parts.specs.Work.{change_work, row_work}
 use Rattle.time_parts.specs.Lanes.{IsTimedAt, kind_at}

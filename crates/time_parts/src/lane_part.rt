@@ -128,7 +128,9 @@ impl<Q: AggQueue<Bundle> + Drop> KeyPart for LanePart<Q> {
         steps: &mut Steps<L>,
     ) {
         let LanePart { lane, formers } = self;
-        lane.late(defs, window, store, key, time, water, formers, out, steps);
+        lane.late(
+            defs, window, store, key, time, value, water, formers, out, steps,
+        );
         lane.touched(time);
     }
 

@@ -1,5 +1,7 @@
 -- What is told are the changes of the tuple.
-use Rattle.std.proofs.Common.{◌≡◌, ◌+◌, ◌*◌, ◌++◌, sym, subst}
+use Rattle.std.proofs.Common.{◌≡◌, ◌∙◌, ◌+◌, ◌*◌, ◌++◌, sym, subst}
+use Rattle.std.specs.Int.{w64}
+use Rattle.std.proofs.lemmas.Int.{to_z-of_z}
 use Rattle.stream_base.specs.declared.def.Def.{Def}
 use Rattle.stream_base.specs.Model.Changes.{emissions}
 use Rattle.window_laws.specs.After.{with_tuple}
@@ -7,12 +9,24 @@ use Rattle.time_lanes.specs.Late.{IsLate}
 use Rattle.time_lanes.specs.Moves.{moment}
 use Rattle.time_lanes.specs.Shared.{IsSharedAt}
 use Rattle.time_lanes.proofs.SharedFacts.{shared_at}
-use Rattle.time_lanes.proofs.LateFacts.{lane_late}
+use Rattle.time_lanes.proofs.LateFacts.{lane_joined, lane_late}
 use Rattle.interval_walks.proofs.ServedFacts.{same_window, span_of_kind}
 use Rattle.time_lanes.proofs.lane.Lane.late.Goals as goal
 
-pub returns-clause-changes : goal.returns-clause-changes
-returns-clause-changes g c = λ def gone before marks x stands late.
+pub returns-then-is_order_free-clause-changes : goal.returns-then-is_order_free-clause-changes
+returns-then-is_order_free-clause-changes g c = λ def gone before marks x stands own late.
+    let d = c.serve.result.def in
+    let s = (g.S.AggStore.stored c.args.store.now) in
+    let same : def ≡ d = same_window c.args.defs.now.windows c.args.window def d stands c.serve.ensures.stands in
+    let here = subst (λ (e : Def). IsLate e c.args.time c.args.water gone before x c.args.formers.now s) same late in
+    let out = c.append_joined.new.out.items in
+    let free = sym c.is_order_free.ensures ∙ c.if-is_order_free.true in
+    subst (λ (e : Def). out ≡ c.args.out.now.items ++ emissions c.args.key.now (moment (gone ++ before) marks c.args.water) (with_tuple (moment (gone ++ before) marks c.args.water) x) (c.args.window, e)) (sym same)
+    (lane_joined c.args.window c.args.key.now d c.args.time c.args.water gone before marks x c.args.formers.now s c.serve.ensures.timed c.serve.ensures.within (span_of_kind d.kind c.serve.ensures.timed c.serve.ensures.within) here free c.slice_count.ensures.holds.slices.counted c.serve.result.span.length c.serve.result.span.slide c.complete_at-found.result.first c.complete_at-found.result.count _ c.args.out.now.items out c.serve.ensures.length c.serve.ensures.slide c.complete_at-found.ensures.starts (to_z-of_z w64 c.args.value c.ranges.value ∙ sym own)
+    c.append_joined.ensures.told)
+
+pub returns-else-is_order_free-clause-changes : goal.returns-else-is_order_free-clause-changes
+returns-else-is_order_free-clause-changes g c = λ def gone before marks x stands own late.
     let d = c.serve.result.def in
     let s = (g.S.AggStore.stored c.args.store.now) in
     let same : def ≡ d = same_window c.args.defs.now.windows c.args.window def d stands c.serve.ensures.stands in
@@ -22,8 +36,8 @@ returns-clause-changes g c = λ def gone before marks x stands late.
     (lane_late c.args.window c.args.key.now d c.args.time c.args.water gone before marks x c.args.formers.now s c.serve.ensures.timed c.serve.ensures.within (span_of_kind d.kind c.serve.ensures.timed c.serve.ensures.within) here c.serve.result.span.length c.serve.result.span.slide c.complete_at-found.result.first c.complete_at-found.result.count c.args.out.now.items out c.serve.ensures.length c.serve.ensures.slide c.complete_at-found.ensures.starts
     c.append_late.ensures.told)
 
-pub returns-clause-shared : goal.returns-clause-shared
-returns-clause-shared g c = λ def stands.
+pub returns-else-is_order_free-clause-shared : goal.returns-else-is_order_free-clause-shared
+returns-else-is_order_free-clause-shared g c = λ def stands.
     let d = c.serve.result.def in
     let s = (g.S.AggStore.stored c.args.store.now) in
     let same : def ≡ d = same_window c.args.defs.now.windows c.args.window def d stands c.serve.ensures.stands in

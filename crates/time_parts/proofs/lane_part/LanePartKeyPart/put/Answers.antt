@@ -1,5 +1,7 @@
 -- What stood before is told with the tuple; the lane goes on to know the slices before it.
 use Rattle.std.proofs.Common.{◌≡◌, ◌∙◌, ◌≤◌, ◌+◌, ◌-◌, ◌*◌, ap, sym, refl, take, drop, length, subst, arith, rules, vec_len}
+use Rattle.std.specs.Int.{w64}
+use Rattle.std.proofs.lemmas.Int.{to_z-of_z}
 use Rattle.stream_base.specs.declared.def.Def.{Def}
 use Rattle.time_lanes.specs.Lane.{Knows, KnowsAll, Laned}
 use Rattle.time_lanes.specs.Late.{complete_holding}
@@ -58,7 +60,7 @@ returns-clause-changes g c = λ m n before more takes.
     let x = kept_at c.args.pos c.args.time c.args.value in
     let told : c.deref.result.now ≡ c.args.self.now.formers = c.deref.ensures.value ∙ ap (λ (p : Timed). p.formers) c.self.view_is in
     changed_of_all m n c.args.water (drop n m.kept) takes.water_is refl w c.args.window c.args.key.now x c.args.out.now.items c.late.new.out.items (timed_at d c.args.window t) (within_at d c.args.window t takes.step.held.may_leave.kinds)
-    (c.late.ensures.changes w (take n m.kept) (drop n m.kept) m.marks x (stands_at d c.args.window t)
+    (c.late.ensures.changes w (take n m.kept) (drop n m.kept) m.marks x (stands_at d c.args.window t) (sym (to_z-of_z w64 c.args.value c.ranges.value))
     (is_late d c.args.window m n before x more (g.S.AggStore.stored c.args.store.now) c.deref.result.now c.args.water t takes.step takes.water_is (told ∙ takes.asked)))
 
 pub returns-clause-adds : goal.returns-clause-adds
