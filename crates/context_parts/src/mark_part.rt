@@ -66,6 +66,8 @@ impl KeyPart for MarkPart {
     ghost settles_at = { λ d window water p.
         start_after (water - d.lateness) p.windows.spans };
 
+    ghost is_lean = { λ d window water p. Unit {0} };
+
     ghost stands_with_room = { λ d window m n s more part same stood. stood };
 
     ghost ahead_with_room = { λ d window water s more part same ahead. ahead };
@@ -209,4 +211,6 @@ impl KeyPart for MarkPart {
         self.windows
             .drop_settled(water.saturating_sub(defs.lateness()));
     }
+
+    fn drop_needless(&mut self, defs: &Defs, window: u32, water: u64) {}
 }

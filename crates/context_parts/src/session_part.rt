@@ -55,6 +55,8 @@ impl KeyPart for SessionPart {
     ghost settles_at = { λ d window water p.
         start_after (water - d.lateness) p.sessions.spans };
 
+    ghost is_lean = { λ d window water p. Unit {0} };
+
     ghost stands_with_room = { λ d window m n s more part same stood. stood };
 
     ghost ahead_with_room = { λ d window water s more part same ahead. ahead };
@@ -189,4 +191,6 @@ impl KeyPart for SessionPart {
         self.sessions
             .drop_settled(water.saturating_sub(defs.lateness()));
     }
+
+    fn drop_needless(&mut self, defs: &Defs, window: u32, water: u64) {}
 }

@@ -17,7 +17,7 @@ use Rattle.stream_base.specs.Model.Changes.{row_of, former_of, emissions}
 use Rattle.stream_base.specs.Model.Journal.{put_in_order}
 use Rattle.stream_base.specs.Model.Windows.{last_time, ranks}
 use Rattle.count_shift.specs.Counting.{IsEvents, IsNextPosition, again_behind, again_of, count_of, later, moment, move_changes, new_behind, new_of, next_filled, put_changes, ranks_behind, upper, upper_after}
-use Rattle.count_shift.specs.Lane.{Follows, Laned, TakesIn}
+use Rattle.count_shift.specs.Lane.{Follows, HasMoreRoom, Laned, TakesIn}
 use Rattle.count_shift.proofs.Upper.{PartsAt, parts_at_upper, parts_once, put_at_upper, times_behind, times_of_put, upper_put, upper_rises}
 use Rattle.count_shift.proofs.Shift.{count_is_within, put_changes_are, move_changes_are}
 
@@ -107,6 +107,15 @@ follows_put count from kept x old new le f t = record {
       ∙ ap (λ g. drop g (put_in_order kept x)) (sym t.gone);
   whole = subst (λ g. g / count * count ≡ g) (sym t.gone) f.whole;
   early = omega (arith, t.gone, f.early, upper_put kept x from);
+}
+
+-- and with more room
+pub follows_with_room : (count time : ℕ) (kept : List Kept) (old new : Laned) → HasMoreRoom old new → Follows count time kept old → Follows count time kept new
+follows_with_room count time kept old new same f = record {
+  ordered = f.ordered;
+  stay = same.kept ∙ f.stay ∙ ap (λ g. drop g kept) (sym same.gone);
+  whole = subst (λ g. g / count * count ≡ g) (sym same.gone) f.whole;
+  early = omega (arith, same.gone, f.early);
 }
 
 module _ (count from : ℕ) (kept : List Kept) (lane : Laned) (f : Follows count from kept lane) where

@@ -79,6 +79,9 @@ pub trait KeyPart: Drop {
     /// Before this time tuples are settled in the window at a watermark, and from it on they aren't.
     ghost settles_at: { Definitions → ℕ → ℕ → Self → ℕ };
 
+    /// Of what nothing can need any more at a watermark it keeps little.
+    ghost is_lean: { Definitions → ℕ → ℕ → Self → Type 0 };
+
     /// No tuple and no mark yet.
     fn fresh(alloc: Global, defs: &Defs, window: u32) -> Self
         requires within { window < length (defs.now).windows }
@@ -166,6 +169,7 @@ pub trait KeyPart: Drop {
         ensures adds { AddsAtMost (put_room defs.now window time water self.old)
             out.old out.new }
         ensures owed { owed self.old ≤ vec_len out.new - vec_len out.old }
+        ensures lean { is_lean defs.now window water self.new }
         ensures cost { Spends (change_work (window_at defs.now window).kind
             (S.stored store.now).reach * (vec_len out.new - vec_len out.old))
             steps.old steps.new (credit self.old) (credit self.new) }
@@ -333,6 +337,16 @@ pub trait KeyPart: Drop {
             → LosesSettled stands defs.now window water time self.old m n before more after
             → is_ahead defs.now window water before self.old
             → is_ahead defs.now window water after self.new };
+
+    /// Lets leave what nothing can need any more at a watermark, where there is much of it.
+    fn drop_needless(&mut self, defs: &Defs, window: u32, water: u64)
+        requires { (m : Moment) × (n : ℕ) × (s : Stored) × stands defs.now window m n s self.old }
+        ensures lean { is_lean defs.now window water self.new }
+        ensures stands { (m : Moment) (n : ℕ) (s : Stored) → m.water ≡ water
+            → stands defs.now window m n s self.old → stands defs.now window m n s self.new }
+        ensures credit { credit self.new ≡ credit self.old }
+        ensures ahead { (w : ℕ) (s : Stored) → is_ahead defs.now window w s self.old
+            → is_ahead defs.now window w s self.new };
 
     /// What it stands for has nothing to do with the room of the store.
     ghost stands_with_room: { (d : Definitions) (window : ℕ) (m : Moment) (n : ℕ)

@@ -43,3 +43,8 @@ module _ {P : Type 0} (stands : Standing P) (d : Definitions) where
   pub record IsRid (is_ahead : BeingAhead P) (settles_at : ℕ → P → ℕ) (water i : ℕ) (old new : P) : Type 0 where
     pub stands_on : (m : Moment) (n time : ℕ) (before : Stored) (more : ℕ) (after : Stored) → LosesSettled stands d i water time old m n before more after → time ≤ settles_at i old → stands d i m more after new
     pub ahead : (m : Moment) (n time : ℕ) (before : Stored) (more : ℕ) (after : Stored) → LosesSettled stands d i water time old m n before more after → is_ahead d i water before old → is_ahead d i water after new
+
+  -- the part let leave what nothing can need any more
+  pub record IsLeaner (is_lean : ℕ → P → Type 0) (water i : ℕ) (old new : P) : Type 0 where
+    pub lean : is_lean i new
+    pub stands_on : (m : Moment) (n : ℕ) (s : Stored) → m.water ≡ water → stands d i m n s old → stands d i m n s new

@@ -3,7 +3,7 @@ ghost use Rattle.std.specs.Prelude.{◌≡◌, ◌≤◌, ◌+◌, ◌-◌, ◌*
 ghost use Rattle.stream_base.specs.declared.kept.Kept.{Kept};
 ghost use Rattle.slice_lists.specs.Touched.{marks_left, slices_from};
 ghost use Rattle.key_windows.specs.Calls.{moment};
-ghost use Rattle.key_slicer.specs.Parts.{AllAhead, HasFewMarks, all_credit};
+ghost use Rattle.key_slicer.specs.Parts.{AllAhead, EachPart, HasFewMarks, all_credit};
 ghost use Rattle.key_slicer.specs.States.{Fits, MayPurge, StandsFor};
 
 use crate::key_state::{KeyState, first_time};
@@ -15,9 +15,36 @@ use stream_base::Defs;
 
 impl<T: AggTree<Bundle>, P: KeyPart> KeyState<T, P> {
     // Lets the slices leave that are settled under the watermark, and what the parts need no more.
-    // Marks that nothing needs leave with them, or else once they are more than the others: then
-    // what it takes to move the others up is paid for by those that leave.
+    // Marks that nothing needs leave with the slices, or else once they are more than the others:
+    // then what it takes to move the others up is paid for by those that leave.
     pub fn purge<L>(&mut self, defs: &Defs, water: u64, steps: &mut Steps<L>)
+        requires { MayPurge P.stands defs.now water self.old.next self.old.store
+            self.old.parts.list.items }
+        ensures key { self.new.key ≡ self.old.key }
+        ensures next { self.new.next ≡ self.old.next }
+        ensures fits { (kept : List Kept) (marks : List ℕ) → StandsFor P.stands defs.now
+            (moment kept marks water) self.old.next self.old.store self.old.parts.list.items
+            → Fits P.stands defs.now kept marks
+            water self.new.next self.new.store self.new.parts.list.items }
+        ensures reach { self.new.store.reach ≤ self.old.store.reach }
+        ensures work { steps.new ≤ steps.old + 64 * (self.old.store.reach + 2)
+            * (length self.old.store.slices - length self.new.store.slices) }
+        ensures credit { all_credit P.credit self.new.parts.list.items
+            ≤ all_credit P.credit self.old.parts.list.items }
+        ensures ahead { AllAhead P.is_ahead defs.now water self.old.store self.old.parts.list.items
+            → AllAhead P.is_ahead defs.now water self.new.store self.new.parts.list.items }
+        ensures marks { HasFewMarks (λ i part. P.settles_at defs.now i water part)
+            (water - (defs.now).lateness) self.old.parts.list.items self.new.store }
+        ensures lean { EachPart (λ i part. P.is_lean defs.now i water part)
+            self.new.parts.list.items }
+    {
+        self.drop_settled(defs, water, steps);
+        self.parts.drop_needless(defs, water);
+    }
+
+    // Lets the slices leave that are settled under the watermark, and with them what the parts need
+    // no more that has ended.
+    fn drop_settled<L>(&mut self, defs: &Defs, water: u64, steps: &mut Steps<L>)
         requires { MayPurge P.stands defs.now water self.old.next self.old.store
             self.old.parts.list.items }
         ensures key { self.new.key ≡ self.old.key }

@@ -77,4 +77,23 @@ impl<P: KeyPart> Parts<P> {
             self.list[window as usize].drop_settled(defs, window, water);
         }
     }
+
+    // Lets leave in each part what nothing can need any more at a watermark, where there is much of it.
+    pub fn drop_needless(&mut self, defs: &Defs, water: u64)
+        requires { (m : Moment) × (n : ℕ) × (s : Stored)
+            × AreStanding P.stands defs.now m n s self.old.list.items }
+        ensures lean { EachPart (λ i part. P.is_lean defs.now i water part) self.new.list.items }
+        ensures stands { (m : Moment) (n : ℕ) (s : Stored) → m.water ≡ water
+            → AreStanding P.stands defs.now m n s self.old.list.items
+            → AreStanding P.stands defs.now m n s self.new.list.items }
+        ensures credit { all_credit P.credit self.new.list.items
+            ≤ all_credit P.credit self.old.list.items }
+        ensures ahead { (w : ℕ) (s : Stored)
+            → AllAhead P.is_ahead defs.now w s self.old.list.items
+            → AllAhead P.is_ahead defs.now w s self.new.list.items }
+    {
+        for window in 0..window_count(defs) {
+            self.list[window as usize].drop_needless(defs, window, water);
+        }
+    }
 }

@@ -1,5 +1,5 @@
 -- What a mark changes of a window of event counts, and when its next instance is filled.
-use Rattle.std.proofs.Common.{◌≡◌, ◌∙◌, ℕ, ◌+◌, ◌-◌, ◌*◌, ◌/◌, ◌<◌, ◌≤◌, true, List, [], ◌++◌, ap, sym, refl}
+use Rattle.std.proofs.Common.{◌≡◌, ◌∙◌, ℕ, ◌+◌, ◌-◌, ◌*◌, ◌/◌, ◌<◌, ◌≤◌, true, List, [], ◌++◌, ap, arith, sym, subst, refl}
 use Rattle.std.specs.Prelude.{nat_le, slice_get}
 use Rattle.std.specs.List.{All}
 use Rattle.std.specs.Option.{option_map_or}
@@ -7,6 +7,7 @@ use Rattle.std.proofs.lemmas.Bool.{false≢true}
 use Rattle.std.proofs.lemmas.List.Elements.{All-contains}
 use Rattle.std.proofs.lemmas.List.Sums.{length-filter}
 use Rattle.stream_base.specs.Limits.{Definitions, IsKindWithin}
+use Rattle.stream_base.specs.declared.change.Change.{Change}
 use Rattle.stream_base.specs.declared.def.Def.{Def}
 use Rattle.stream_base.specs.declared.kept.Kept.{Kept}
 use Rattle.stream_base.specs.declared.kind.Kind.{Kind}
@@ -14,17 +15,21 @@ use Rattle.stream_base.specs.declared.kind.Kind.TheVariants.{Tumbling, Sliding, 
 use Rattle.stream_base.specs.declared.limits.TheConstants.{FINAL}
 use Rattle.stream_base.specs.Laws.{TimesDoNotFall}
 use Rattle.stream_base.specs.Model.Changes.{Moment, emissions, retractions}
+use Rattle.stream_base.specs.Model.Journal.{put_in_order}
 use Rattle.stream_base.specs.Model.Slices.{is_events}
 use Rattle.stream_base.specs.Model.Windows.{Instance, instances_of, standing_of}
-use Rattle.window_laws.specs.After.{with_mark}
+use Rattle.window_laws.specs.After.{with_mark, with_tuple}
 use Rattle.window_laws.specs.Due.{first_open}
 use Rattle.window_laws.specs.Counts as whole
 use Rattle.window_laws.proofs.NextFacts.{next_of_counts}
-use Rattle.count_shift.specs.Counting.{count_of, next_filled, upper}
+use Rattle.count_shift.specs.Counting.{IsNextPosition, count_of, moment, next_filled, upper}
+use Rattle.count_shift.specs.Lane.{Follows, HasMoreRoom, Laned}
+use Rattle.count_shift.proofs.Behind.{follows_later, follows_with_room}
 use Rattle.interval_walks.proofs.WalkFacts.{one_time_more}
 use Rattle.key_parts.specs.Calls.{window_at}
 use Rattle.key_parts.specs.Work.{change_work, row_work}
-use Rattle.time_parts.specs.Counted.{CountsAt}
+use Rattle.key_parts.specs.Moves.{AreLists}
+use Rattle.time_parts.specs.Counted.{Counts, CountsAt}
 use Rattle.time_parts.specs.Lanes.{kind_at}
 use Rattle.time_parts.proofs.DueFacts.{counts_early}
 use Rattle.time_parts.proofs.LaneFacts.{nothing_changes}
@@ -67,6 +72,46 @@ counted_row (Session gap) reach t = absurd (false≢true t)
 counted_row Marks reach t = absurd (false≢true t)
 counted_row (Events count) reach t = refl
 
+-- ---- the tuples of its lane
+-- it has those that come behind the watermark minus the lateness, and at later times
+pub follows_from : (d : Definitions) (window : ℕ) (m : Moment) (lane now : Laned) (count time : ℕ) → lane ≡ now → count ≡ count_of (kind_at d window) → m.water - d.lateness ≤ time → Counts d window m now → Follows count time m.kept lane
+follows_from d window m lane now count time is counts le stood =
+    subst (λ l. Follows count time m.kept l) (sym is)
+    (subst (λ k. Follows k time m.kept now) (sym counts) (follows_later (count_of (kind_at d window)) (m.water - d.lateness) time m.kept now le stood.follows))
+
+pub counts_with_room : (d : Definitions) (window : ℕ) (m : Moment) (old new : Laned) → HasMoreRoom old new → Counts d window m old → Counts d window m new
+counts_with_room d window m old new same stood = record { counts = stood.counts; follows = follows_with_room (count_of (kind_at d window)) (m.water - d.lateness) m.kept old new same stood.follows }
+
+-- and where those leave that no tuple shifts
+pub counts_without : (d : Definitions) (window : ℕ) (m : Moment) (old new : Laned) (count time : ℕ) → count ≡ count_of (kind_at d window) → time ≡ m.water - d.lateness → ((kept : List Kept) → Follows count time kept old → Follows count time kept new) → Counts d window m old → Counts d window m new
+counts_without d window m old new count time counts at on stood = record {
+  counts = stood.counts;
+  follows = subst (λ t. Follows (count_of (kind_at d window)) t m.kept new) at
+      (subst (λ k. Follows k time m.kept new) counts (on m.kept (subst (λ k. Follows k time m.kept old) (sym counts) (subst (λ t. Follows (count_of (kind_at d window)) t m.kept old) (sym at) stood.follows))));
+}
+
+-- and one tuple more
+pub counts_put : (d : Definitions) (window : ℕ) (m : Moment) (x : Kept) (old new : Laned) (count : ℕ) → count ≡ count_of (kind_at d window) → m.water ≤ x.time + d.lateness
+    → ((kept : List Kept) (from : ℕ) → from ≤ x.time → Follows count from kept old → Follows count from (put_in_order kept x) new) → Counts d window m old → Counts d window (with_tuple m x) new
+counts_put d window m x old new count counts in_time on stood = record {
+  counts = stood.counts;
+  follows = subst (λ k. Follows k (m.water - d.lateness) (put_in_order m.kept x) new) counts (on m.kept (m.water - d.lateness) (omega arith) (subst (λ k. Follows k (m.water - d.lateness) m.kept old) (sym counts) stood.follows));
+}
+
+-- its tuples have positions of their own
+pub next_of_lists : (m : Moment) (next : ℕ) → AreLists m next → IsNextPosition m.kept next
+next_of_lists m next lists = record { own = lists.kept.distinct; newest = lists.below }
+
+-- what a tuple changes: nothing goes
+pub told_by_put : (window : ℕ) (key : List ℕ) (w def : Def) (m : Moment) (x : Kept) (water : ℕ) (out all : List Change) → m.water ≡ water → def ≡ w
+    → retractions key (moment m.kept m.marks water) (moment (put_in_order m.kept x) m.marks water) (window, def) ≡ []
+    → all ≡ out ++ emissions key (moment m.kept m.marks water) (moment (put_in_order m.kept x) m.marks water) (window, def)
+    → all ≡ out ++ (retractions key m (with_tuple m x) (window, w) ++ emissions key m (with_tuple m x) (window, w))
+told_by_put window key w def m x water out all at is none told =
+    told
+    ∙ ap (λ r. out ++ (r ++ emissions key (moment m.kept m.marks water) (moment (put_in_order m.kept x) m.marks water) (window, def))) (sym none)
+    ∙ (λ j. out ++ (retractions key (moment m.kept m.marks (sym at j)) (moment (put_in_order m.kept x) m.marks (sym at j)) (window, is j) ++ emissions key (moment m.kept m.marks (sym at j)) (moment (put_in_order m.kept x) m.marks (sym at j)) (window, is j)))
+
 -- ---- a mark comes
 marks_aside : (kind : Kind) (kept : List Kept) (marks others : List ℕ) (water : ℕ) → is_events kind ≡ true → standing_of kind kept marks water ≡ standing_of kind kept others water
 unfolding instances_of
@@ -88,9 +133,9 @@ next_is_open count w m e some order =
     (sym (one_time_more (upper m.kept m.water / count) count) ∙ ap (λ u. (u / count + 1) * count) same)
     ∙ sym (next_of_counts count w m e some order)
 
-pub filled_is_open : (w : Def) (m : Moment) (kept : List Kept) (water count end : ℕ) → is_events w.kind ≡ true → IsKindWithin w.kind → TimesDoNotFall m.kept → count ≡ count_of w.kind → kept ≡ m.kept → m.water ≡ water → end ≡ next_filled count kept water → end ≡ first_open m w
-filled_is_open w m kept water count end t k order counts is at ends =
-    ends ∙ (λ i. next_filled (counts i) (is i) (sym at i)) ∙ next_is_open (count_of w.kind) w m (counts_so_many w.kind t) (some_events w.kind t k) order
+pub filled_is_open : (w : Def) (m : Moment) (water count end : ℕ) → is_events w.kind ≡ true → IsKindWithin w.kind → TimesDoNotFall m.kept → count ≡ count_of w.kind → m.water ≡ water → end ≡ next_filled count m.kept water → end ≡ first_open m w
+filled_is_open w m water count end t k order counts at ends =
+    ends ∙ (λ i. next_filled (counts i) m.kept (sym at i)) ∙ next_is_open (count_of w.kind) w m (counts_so_many w.kind t) (some_events w.kind t k) order
 
 -- each instance is filled before the final time
 pub filled_early : (w : Def) (m : Moment) → is_events w.kind ≡ true → IsKindWithin w.kind → All (λ x. x.time < FINAL) m.kept → All (λ (i : Instance). i.bound < FINAL) (instances_of w.kind m.kept m.marks)

@@ -15,8 +15,8 @@ use std::alloc::Global;
 use std::marker::Model;
 use stream_base::{Change, Def, Defs, FINAL, KeyText, Kind, NoMemory};
 
-/// The part of a window of event counts: all tuples of its key, since the store holds those alone
-/// that other windows need.
+/// The part of a window of event counts: the tuples of its key, since the store holds those alone
+/// that other windows need, but for whole instances that no tuple shifts any more.
 #[derive(Drop)]
 pub struct CountPart {
     lane: CountLane,
@@ -54,7 +54,7 @@ fn count_of(kind: &Kind) -> u64
 impl KeyPart for CountPart {
     ghost use Rattle.std.proofs.Common.{◌≤◌, zero-le};
     ghost use Rattle.stream_base.specs.declared.limits.TheConstants.{FINAL};
-    ghost use Rattle.time_parts.specs.Counted.{Counts, CountsAt, counts_on, fill_room, shift_room};
+    ghost use Rattle.time_parts.specs.Counted.{Counts, CountsAt, KeepsFew, counts_on, fill_room, shift_room};
 
     ghost is_for = { CountsAt };
 
@@ -86,12 +86,14 @@ impl KeyPart for CountPart {
 
     ghost settles_at = { λ d window water p. FINAL };
 
+    ghost is_lean = { KeepsFew };
+
     ghost stands_with_room = { λ d window m n s more part same stood. stood };
 
     ghost ahead_with_room = { λ d window water s more part same ahead. ahead };
 
     ghost waits = { λ d window key m n s part new at rises none.
-        counts_on d window m new part at.stood };
+        counts_on d window m new part at.stood rises };
 
     ghost complete_in_time = { λ d window water. zero-le };
 
@@ -138,6 +140,8 @@ impl KeyPart for CountPart {
         let def = window_at(defs, window);
         self.lane
             .put(window, &def, key, pos, time, value, water, out, steps);
+        let settled_by = water.saturating_sub(defs.lateness());
+        self.lane.drop_settled(count_of(&def.kind), settled_by);
     }
 
     fn reserve_mark(
@@ -205,4 +209,10 @@ impl KeyPart for CountPart {
     }
 
     fn drop_settled(&mut self, defs: &Defs, window: u32, water: u64) {}
+
+    fn drop_needless(&mut self, defs: &Defs, window: u32, water: u64) {
+        let count = count_of(&window_at(defs, window).kind);
+        let settled_by = water.saturating_sub(defs.lateness());
+        self.lane.drop_settled(count, settled_by);
+    }
 }

@@ -66,6 +66,8 @@ impl<Q: AggQueue<Bundle> + Drop> KeyPart for LanePart<Q> {
 
     ghost settles_at = { λ d window water p. open_from d window water };
 
+    ghost is_lean = { λ d window water p. Unit {0} };
+
     ghost stands_with_room = { λ d window m n s more part same stood.
         serves_with_room d window m s more part.lane same stood };
 
@@ -196,4 +198,6 @@ impl<Q: AggQueue<Bundle> + Drop> KeyPart for LanePart<Q> {
     }
 
     fn drop_settled(&mut self, defs: &Defs, window: u32, water: u64) {}
+
+    fn drop_needless(&mut self, defs: &Defs, window: u32, water: u64) {}
 }

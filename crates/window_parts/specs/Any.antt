@@ -14,7 +14,7 @@ use Rattle.key_parts.specs.Calls.{StandsAt, window_at}
 use Rattle.context_parts.specs.MarksStand.{DoStandBetween, RemembersHolderAt, do_stand_between_on}
 use Rattle.context_parts.specs.SessionsStand.{AreAsked, DoStand, do_stand_on}
 use Rattle.time_parts.specs.Lanes.{CanMove, HasTold, MissesNone, Serves, late_room, misses_with_room, open_from, rows_due, serves_on, serves_with_room}
-use Rattle.time_parts.specs.Counted.{Counts, counts_on, fill_room, shift_room}
+use Rattle.time_parts.specs.Counted.{Counts, KeepsFew, counts_on, fill_room, shift_room}
 use Rattle.window_parts.specs.declared.window_part.WindowPart.{WindowPart}
 use Rattle.window_parts.specs.declared.window_part.WindowPart.TheVariants.{Intervals, Sessions, Marks, Events}
 
@@ -95,6 +95,13 @@ settles_any d window water (Sessions p) = start_after (water - d.lateness) p.ses
 settles_any d window water (Marks p) = start_after (water - d.lateness) p.windows.spans
 settles_any d window water (Events p) = FINAL
 
+-- of what nothing can need any more it keeps little: of tuples where it counts them, while the others let it leave with the slices or take it up at no other time
+abbrev pub lean_any : {Q : Type 0} → Definitions → ℕ → ℕ → WindowPart Q → Type 0
+lean_any d window water (Intervals p) = Unit {0}
+lean_any d window water (Sessions p) = Unit {0}
+lean_any d window water (Marks p) = Unit {0}
+lean_any d window water (Events p) = KeepsFew d window water p
+
 -- the room of the store makes no difference
 pub stands_with_room_any : {Q : Type 0} → (d : Definitions) (window : ℕ) (m : Moment) (n : ℕ) (s more : Stored) (part : WindowPart Q) → IsAsBefore s more → stands_any d window m n s part → stands_any d window m n more part
 stands_with_room_any d window m n s more (Intervals p) same stood = serves_with_room d window m s more p.lane same stood
@@ -113,4 +120,4 @@ pub waits_any : {Q : Type 0} → (d : Definitions) (window : ℕ) (key : List �
 waits_any d window key m n s (Intervals p) new at rises none = serves_on d window key m n s p.lane new at.store at.held at.stood rises none
 waits_any d window key m n s (Sessions p) new at rises none = do_stand_on d window m n p.sessions new at.stood rises
 waits_any d window key m n s (Marks p) new at rises none = do_stand_between_on d window m n p.windows new at.stood rises
-waits_any d window key m n s (Events p) new at rises none = counts_on d window m new p at.stood
+waits_any d window key m n s (Events p) new at rises none = counts_on d window m new p at.stood rises

@@ -34,7 +34,7 @@ impl<Q: AggQueue<Bundle> + Drop> AnyPart for WindowPart<Q> {
 impl<Q: AggQueue<Bundle> + Drop> KeyPart for WindowPart<Q> {
     ghost use Rattle.std.specs.Prelude.{◌<◌, length};
     ghost use Rattle.time_parts.specs.Lanes.{complete_in_time, complete_up_to, slices_completed, slices_of_last};
-    ghost use Rattle.window_parts.specs.Any.{ahead_any, ahead_with_room_any, asked_any, can_move_any, credit_any, mark_room_any, move_room_any, owed_any, put_room_any, ready_any, settles_any, stands_any, stands_with_room_any, waits_any};
+    ghost use Rattle.window_parts.specs.Any.{ahead_any, ahead_with_room_any, asked_any, can_move_any, credit_any, lean_any, mark_room_any, move_room_any, owed_any, put_room_any, ready_any, settles_any, stands_any, stands_with_room_any, waits_any};
 
     ghost is_for = { λ d window. window < length d.windows };
 
@@ -66,6 +66,8 @@ impl<Q: AggQueue<Bundle> + Drop> KeyPart for WindowPart<Q> {
     ghost missed = { slices_of_last };
 
     ghost settles_at = { settles_any };
+
+    ghost is_lean = { lean_any };
 
     ghost stands_with_room = { stands_with_room_any };
 
@@ -260,6 +262,15 @@ impl<Q: AggQueue<Bundle> + Drop> KeyPart for WindowPart<Q> {
             WindowPart::Sessions(part) => part.drop_settled(defs, window, water),
             WindowPart::Marks(part) => part.drop_settled(defs, window, water),
             WindowPart::Events(part) => part.drop_settled(defs, window, water),
+        }
+    }
+
+    fn drop_needless(&mut self, defs: &Defs, window: u32, water: u64) {
+        match self {
+            WindowPart::Intervals(part) => part.drop_needless(defs, window, water),
+            WindowPart::Sessions(part) => part.drop_needless(defs, window, water),
+            WindowPart::Marks(part) => part.drop_needless(defs, window, water),
+            WindowPart::Events(part) => part.drop_needless(defs, window, water),
         }
     }
 }

@@ -1,11 +1,25 @@
 -- Each row folds the tuples of an instance.
 use Rattle.std.proofs.Common.{◌≡◌, ◌∙◌, ◌≤◌, ◌+◌, ◌-◌, ◌*◌, ap, sym, subst, arith, vec_len}
+use Rattle.std.specs.Prelude.{◌++◌, min}
 use Rattle.stream_base.specs.declared.def.Def.{Def}
-use Rattle.count_shift.specs.Counting.{count_of}
+use Rattle.stream_base.specs.Laws.{completions}
+use Rattle.count_shift.specs.Counting.{count_of, moment}
 use Rattle.key_parts.specs.Work.{row_work}
+use Rattle.time_parts.specs.Counted.{counts_on}
 use Rattle.time_parts.specs.Lanes.{kind_at}
-use Rattle.time_parts.proofs.CountFacts.{counted_row, counts_at}
+use Rattle.time_parts.proofs.CountFacts.{counted_row, counts_at, follows_from}
 use Rattle.time_parts.proofs.count_part.CountPartKeyPart.water.Goals as goal
+
+pub returns-clause-stands : goal.returns-clause-stands
+returns-clause-stands g c = λ m n at.
+    counts_on c.args.defs.now c.args.window m c.args.new c.args.self.now at.stood (omega (arith, at.water_is, c.requires.moves.leads_on.rises))
+
+pub returns-clause-changes : goal.returns-clause-changes
+returns-clause-changes g c = λ m n at.
+    let d = c.args.defs.now in
+    let counts : count_of c.window_at-def.result.kind ≡ count_of (kind_at d c.args.window) = ap (λ (w : Def). count_of w.kind) c.window_at-def.ensures.stands in
+    c.rows.ensures.changes m.kept m.marks (follows_from d c.args.window m c.self.inside.lane c.args.self.now (count_of c.window_at-def.result.kind) (min c.args.old c.args.new) c.self.view_is counts (omega (arith, at.water_is, c.requires.moves.leads_on.rises)) at.stood)
+    ∙ (λ j. c.args.out.now.items ++ completions c.args.key.now (moment m.kept m.marks (sym at.water_is j)) c.args.new (c.args.window, c.window_at-def.ensures.stands j))
 
 pub returns-clause-work_ahead : goal.returns-clause-work_ahead
 returns-clause-work_ahead g c = λ m n at ahead.
