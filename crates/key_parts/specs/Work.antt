@@ -19,6 +19,18 @@ row_work (Session gap) reach = 64 * (reach + 2)
 row_work Marks reach = 64 * (reach + 2)
 row_work (Events count) reach = count
 
+-- the most that a move takes for each slice of its store in a window of this kind: a lane takes it up once, and lets it go
+abbrev pub slice_work : Kind → ℕ
+slice_work (Tumbling length) = 10
+slice_work (Sliding length slide) = 10
+slice_work (Session gap) = 0
+slice_work Marks = 0
+slice_work (Events count) = 0
+
+-- the most that a move takes in a window of this kind, whatever came before it, by how many slices the store has, its reach, and how many rows become complete
+abbrev pub most_moved : Kind → ℕ → ℕ → ℕ → ℕ
+most_moved kind slices reach rows = slice_work kind * slices + row_work kind reach * rows
+
 -- a vector has at most so many elements more, and took no memory for them
 pub record AddsAtMost {X Z : Type 0} (most : ℕ) (old new : Vec X Z) : Type 0 where
   pub number : vec_len new ≤ vec_len old + most

@@ -10,7 +10,7 @@ ghost use Rattle.agg_store.specs.Stored.{Stored};
 ghost use Rattle.key_windows.specs.Calls.{IsAccepted, IsWater, LeadsOn, kept_at, moment};
 ghost use Rattle.key_parts.specs.Calls.{LosesSettled, MayCome, MayMove, MayTell, Prepares, StandsAt, StandsForSome, TakesMark, TakesTuple, window_at};
 ghost use Rattle.key_parts.specs.Moves.{SettlesUpTo};
-ghost use Rattle.key_parts.specs.Work.{AddsAtMost, Spends, change_work, row_work};
+ghost use Rattle.key_parts.specs.Work.{AddsAtMost, Spends, change_work, most_moved, row_work};
 
 use agg_laws::Steps;
 use agg_store::AggStore;
@@ -243,7 +243,8 @@ pub trait KeyPart: Drop {
             (can_move defs.now window (S.stored store.now) old new)
             (move_room defs.now window (S.stored store.now) old new) self.old self.new result };
 
-    /// Takes in a move of the watermark, and appends the instances that it completes.
+    /// Takes in a move of the watermark, and appends the instances that it completes. With no credit
+    /// it is bounded by the slices of the store and the rows.
     fn water<S: AggStore, L>(
         &mut self,
         defs: &Defs,
@@ -285,7 +286,12 @@ pub trait KeyPart: Drop {
             + (10 * (taken_up defs.now window (S.stored store.now) old new
             + missed defs.now window (S.stored store.now) old)
             + row_work (window_at defs.now window).kind (S.stored store.now).reach
-            * (vec_len out.new - vec_len out.old)) };
+            * (vec_len out.new - vec_len out.old)) }
+        ensures bound { (m : Moment) (n : ℕ)
+            → StandsAt stands defs.now window old (S.stored store.now) self.old m n
+            → steps.new ≤ steps.old + most_moved (window_at defs.now window).kind
+            (length (S.stored store.now).slices) (S.stored store.now).reach
+            (vec_len out.new - vec_len out.old) };
 
     /// The first watermark at which something becomes complete: a move to below it changes nothing.
     /// Later than the final one where nothing is left to become so.

@@ -1,31 +1,31 @@
 -- What is due of a key stays where a tuple joins a slice of tumbling and sliding windows.
 use Rattle.std.proofs.Common.{◌≡◌, ◌∙◌, ◌<◌, ◌≤◌, ◌+◌, ◌-◌, ◌*◌, ℕ, suc, Bool, true, false, not, List, [], ◌∷◌, length, get_or, ap, arith, refl, sym, subst, inl, inr, ⊎_elim}
-use Rattle.std.specs.Prelude.{◌&&◌, ◌||◌, All, filter, nat_lt, if◌then◌else◌}
+use Rattle.std.specs.Prelude.{◌||◌, All, filter, nat_lt, if◌then◌else◌}
 use Rattle.std.specs.List.{Contains, enumerate_from, flat_map}
-use Rattle.std.proofs.lemmas.Bool.{cases_lt, false_from_ne_true, false≢true, le-leb, le-ltb, leb-true, lt-ltb}
+use Rattle.std.proofs.lemmas.Bool.{cases_Bool, cases_lt, false_from_ne_true, false≢true, le-ltb, leb-true}
 use Rattle.std.proofs.lemmas.List.Elements.{All-contains}
-use Rattle.stream_base.specs.declared.change.Change.{Change}
-use Rattle.stream_base.specs.declared.change.Change.TheVariants.{New}
 use Rattle.stream_base.specs.declared.def.Def.{Def}
 use Rattle.stream_base.specs.declared.kept.Kept.{Kept}
 use Rattle.stream_base.specs.declared.kind.Kind.{Kind}
 use Rattle.stream_base.specs.declared.kind.Kind.TheVariants.{Tumbling, Sliding, Session, Marks, Events}
-use Rattle.stream_base.specs.Laws.{HoldsTime, TimesDoNotFall, becomes_complete, completions, is_timed}
-use Rattle.stream_base.specs.Model.Changes.{Moment, row_of}
+use Rattle.stream_base.specs.Laws.{HoldsTime, TimesDoNotFall, completions, is_timed}
+use Rattle.stream_base.specs.Model.Changes.{Moment}
 use Rattle.stream_base.specs.Model.Cuts.{CutsBetween, has_cut}
 use Rattle.stream_base.specs.Model.Journal.{put_in_order}
 use Rattle.stream_base.specs.Model.Windows.{Instance, first_time, instances_of, interval, last_time, spans, starts_of}
 use Rattle.stream_base.proofs.CutFacts.{cut_decides}
-use Rattle.stream_base.proofs.Rising.{none_in_nil, Contains-at_head, Contains-cons_cases, Contains-head, Contains-tail}
+use Rattle.stream_base.proofs.Rising.{Contains-head}
 use Rattle.stream_base.proofs.Spans.{starts_after_put, starts_hold_kept}
 use Rattle.stream_base.specs.Limits.{Definitions, IsKindWithin}
-use Rattle.stream_base.specs.Model.Slices.{is_settled}
+use Rattle.stream_base.specs.Model.Slices.{is_events, is_settled, is_settled_in, unsettled}
+use Rattle.stream_base.proofs.ChangeFacts.{changes_at_water}
 use Rattle.stream_base.proofs.Distinct.{All_from_members}
-use Rattle.stream_base.proofs.Members.{Contains-insert_cases, Contains-insert_new, Contains-insert_old, filter_has, filter_members, flat_map_has, map_has, map_members}
+use Rattle.stream_base.proofs.Members.{Contains-insert_cases, Contains-insert_new, Contains-insert_old, filter_has, filter_members, filter_same, flat_map_has, map_has, map_members}
 use Rattle.window_laws.specs.After.{at_water, with_tuple}
 use Rattle.window_laws.specs.Positions.{AreKept}
-use Rattle.window_laws.proofs.SettledFacts.{settled_before}
-use Rattle.window_laws.proofs.SettledMoves.{tuple_settles_no_other}
+use Rattle.window_laws.specs.Settled.{IsSettledAt}
+use Rattle.window_laws.proofs.SettledFacts.{all_from, all_member, settled_before, settled_by_times, times_settle}
+use Rattle.window_laws.proofs.SettledMoves.{span_of_other, tuple_settles_no_other}
 use Rattle.run_laws.specs.Runs.{IsRun}
 use Rattle.run_laws.proofs.Order.{runs_are_runs}
 use Rattle.slice_lists.specs.Touched.{is_near}
@@ -35,6 +35,7 @@ use Rattle.agg_store.specs.Stored.{IsStore, Stored, tuples_of}
 use Rattle.slice_store.specs.Placing.{is_last, placed_in}
 use Rattle.slice_store.specs.declared.placed.Placed.TheVariants.{Appended}
 use Rattle.key_windows.specs.Calls.{IsWater, changes_by_move, moment}
+use Rattle.key_windows.specs.Dues.{IsExact}
 use Rattle.key_parts.specs.Calls.{Standing, StandsAt, window_at}
 use Rattle.key_parts.specs.Held.{IsHeld}
 use Rattle.held_laws.specs.Settling.{NoneSettled}
@@ -42,32 +43,9 @@ use Rattle.held_laws.proofs.AlikeFacts.{of_rest}
 use Rattle.key_slicer.specs.Joining.{Joins}
 use Rattle.key_slicer.specs.States.{Fits}
 use Rattle.key_slicer.proofs.StateFacts.{fits_waiting, move_is}
-use Rattle.plain_windows.specs.Changing.{HasBound, IsAhead}
-use Rattle.plain_windows.proofs.Ahead.{nothing_ahead}
+use Rattle.plain_windows.specs.Changing.{HasBound, KeepsBounds}
+use Rattle.plain_windows.proofs.Ahead.{ahead_of_none, keeps_sliding, keeps_tumbling, nothing_ahead}
 use Rattle.plain_windows.proofs.Bounds.{last_of}
-
--- ---- what a move completes, told by bounds
-numbered : {X : Type 0} (n : ℕ) (xs : List X) (x : X) → Contains xs x → (k : ℕ) × Contains (enumerate_from n xs) (k, x)
-numbered n [] x c = absurd (none_in_nil x c)
-numbered {X} n (y ∷ ys) x c =
-    ⊎_elim
-    (λ e. (n, Contains-at_head (n, y) (enumerate_from (n + 1) ys) (n, x) (ap (λ (z : X). (n, z)) e)))
-    (λ d. let m : (k : ℕ) × Contains (enumerate_from (n + 1) ys) (k, x) = numbered (n + 1) ys x d in (m.0, Contains-tail (n, y) (enumerate_from (n + 1) ys) (m.0, x) m.1))
-    (Contains-cons_cases y ys x c)
-
--- where a move completes nothing, each bound ahead lies behind it
-ahead_of_none : (windows : List Def) (key : List ℕ) (m : Moment) (new : ℕ) → flat_map (completions key m new) (enumerate_from 0 windows) ≡ [] → IsAhead windows m.kept m.marks m.water (new + 1)
-ahead_of_none windows key m new none def i of c above = ⊎_elim (λ late. omega (arith, late)) (λ by. absurd (here by)) (cases_lt new i.bound)
-  where
-    here : i.bound ≤ new → ⊥
-    here by =
-        let w : (k : ℕ) × Contains (enumerate_from 0 windows) (k, def) = numbered 0 windows def of in
-        let instances = instances_of def.kind m.kept m.marks in
-        let row = λ (j : Instance). New (row_of w.0 key def.func j) in
-        let completes : becomes_complete m.water new i ≡ true = λ k. lt-ltb m.water i.bound above k && le-leb i.bound new by k in
-        let one : Contains (completions key m new (w.0, def)) (row i) = map_has row (filter (becomes_complete m.water new) instances) i (filter_has (becomes_complete m.water new) instances i c completes) in
-        let some : Contains (flat_map (completions key m new) (enumerate_from 0 windows)) (row i) = flat_map_has (completions key m new) (enumerate_from 0 windows) (w.0, def) (row i) w.1 one in
-        none_in_nil (row i) (subst (λ (cs : List Change). Contains cs (row i)) none some)
 
 -- ---- a tuple that joins
 -- each instance that holds it held the one before it
@@ -157,6 +135,98 @@ module _ {P : Type 0} (stands : Standing P) (d : Definitions) (key : List ℕ) (
       (All_from_members (λ y. is_settled d (moment (put_in_order kept x) marks new) y ≡ false) (put_in_order (tuples_of s) x)
       (open_joined d (moment kept marks new) far.known.without s x far.known.held now.known.lists.kept joins far.none_settled)))
       now.known
+
+-- ---- what comes is left as it was by a tuple of tumbling and sliding windows
+-- each instance has one of the same bound
+span_stays : (long slide : ℕ) (kept : List Kept) (x : Kept) → 1 ≤ slide → slide ≤ long → (i : Instance) → Contains (spans long slide kept) i → HasBound (spans long slide (put_in_order kept x)) i.bound
+span_stays long slide kept x moves overlaps i c =
+    let m : (low : ℕ) × Contains (starts_of long slide kept) low × (interval low (low + long) kept ≡ i) = map_members (λ low. interval low (low + long) kept) (starts_of long slide kept) i c in (
+      interval m.0 (m.0 + long) (put_in_order kept x),
+      map_has (λ low. interval low (low + long) (put_in_order kept x)) (starts_of long slide (put_in_order kept x)) m.0 ((starts_after_put long slide kept x m.0 moves overlaps).1 (inl m.1)),
+      ap (λ (j : Instance). j.bound) m.2,
+    )
+
+keeps_bounds : (kind : Kind) → IsKindWithin kind → is_timed kind ≡ true → KeepsBounds kind
+keeps_bounds (Tumbling long) within timed = keeps_tumbling long (λ kept x i c. span_stays long long kept x within.0 (omega arith) i c)
+keeps_bounds (Sliding long slide) within timed = keeps_sliding long slide (λ kept x i c. span_stays long slide kept x within.2 within.3 i c)
+keeps_bounds (Session gap) within timed = absurd cc
+keeps_bounds Marks within timed = absurd cc
+keeps_bounds (Events count) within timed = absurd cc
+
+-- a tuple keeps another settled, even where it is late
+settled_at_put : (lateness : ℕ) (m : Moment) (kind : Kind) (y z : Kept) → IsKindWithin kind → is_timed kind ≡ true → Contains m.kept z → IsSettledAt lateness kind m z.time → IsSettledAt lateness kind (with_tuple m y) z.time
+unfolding instances_of
+settled_at_put lateness m (Tumbling long) y z k timed d s i c l r =
+    let j = span_of_other long long (put_in_order m.kept y) m.kept i z k.0 (omega arith) c d l r in
+    omega (arith, j.3, s j.0 j.1 (omega (arith, j.2)) (omega (arith, j.3)))
+settled_at_put lateness m (Sliding long slide) y z k timed d s i c l r =
+    let j = span_of_other long slide (put_in_order m.kept y) m.kept i z k.2 k.3 c d l r in
+    omega (arith, j.3, s j.0 j.1 (omega (arith, j.2)) (omega (arith, j.3)))
+settled_at_put lateness m (Session gap) y z k timed d s i c l r = absurd cc
+settled_at_put lateness m Marks y z k timed d s i c l r = absurd cc
+settled_at_put lateness m (Events count) y z k timed d s i c l r = absurd cc
+
+no_events : (kind : Kind) → is_timed kind ≡ true → is_events kind ≡ false
+no_events (Tumbling long) timed = refl
+no_events (Sliding long slide) timed = refl
+no_events (Session gap) timed = refl
+no_events Marks timed = refl
+no_events (Events count) timed = absurd cc
+
+-- two tests that leave the same of a list agree on it
+agree : {X : Type 0} (p q : X → Bool) (xs : List X) → filter p xs ≡ filter q xs → (x : X) → Contains xs x → p x ≡ q x
+agree p q xs same x c = elim (cases_Bool (p x)) [
+  | inl is ↦ is ∙ sym ((filter_members q xs x (subst (λ l. Contains l x) same (filter_has p xs x c is))).1)
+  | inr not_so ↦ not_so ∙ sym (false_from_ne_true (q x) (λ is. false≢true (sym not_so ∙ (filter_members p xs x (subst (λ l. Contains l x) (sym same) (filter_has q xs x c is))).1)))
+]
+
+module _ (d : Definitions) (key : List ℕ) (kept : List Kept) (marks : List ℕ) (water due : ℕ) (x : Kept) (kinds : All (λ w. IsKindWithin w.kind) d.windows) (timed : All (λ w. is_timed w.kind ≡ true) d.windows)
+    (was : AreKept kept) (put : AreKept (put_in_order kept x)) where
+  -- the other tuples are settled as they were
+  settled_alike : (at : ℕ) (y : Kept) → Contains kept y → is_settled d (moment (put_in_order kept x) marks at) y ≡ is_settled d (moment kept marks at) y
+  settled_alike at y c = elim (cases_Bool (is_settled d (moment kept marks at) y)) [
+    | inl is ↦ still is ∙ sym is
+    | inr not_so ↦ false_from_ne_true (is_settled d (moment (put_in_order kept x) marks at) y) (λ g. false≢true (sym not_so ∙ tuple_settles_no_other d (moment kept marks at) x y kinds was put c g)) ∙ sym not_so
+  ]
+    where
+      still : is_settled d (moment kept marks at) y ≡ true → is_settled d (moment (put_in_order kept x) marks at) y ≡ true
+      still is = all_from (is_settled_in d.lateness (moment (put_in_order kept x) marks at) y) d.windows
+          (λ w g.
+          let k : IsKindWithin w.kind = All-contains (λ w. IsKindWithin w.kind) d.windows w kinds g in
+          let t : is_timed w.kind ≡ true = All-contains (λ w. is_timed w.kind ≡ true) d.windows w timed g in
+          let e = no_events w.kind t in
+          times_settle d.lateness (moment (put_in_order kept x) marks at) y w put k e (Contains-insert_old kept _ x y c)
+          (settled_at_put d.lateness (moment kept marks at) w.kind x y k t c
+          (settled_by_times d.lateness (moment kept marks at) y w was k e c (all_member (is_settled_in d.lateness (moment kept marks at) y) d.windows w is g))))
+
+  -- where a move settles none with the tuple it settles none without it
+  settles_none : (old new : ℕ) → unsettled d (moment (put_in_order kept x) marks new) ≡ unsettled d (moment (put_in_order kept x) marks old) → unsettled d (moment kept marks new) ≡ unsettled d (moment kept marks old)
+  settles_none old new same = filter_same (λ y. not (is_settled d (moment kept marks new) y)) (λ y. not (is_settled d (moment kept marks old) y)) kept
+      (λ y c. ap not (sym (settled_alike new y c))
+      ∙ agree (λ y. not (is_settled d (moment (put_in_order kept x) marks new) y)) (λ y. not (is_settled d (moment (put_in_order kept x) marks old) y)) (put_in_order kept x) same y (Contains-insert_old kept _ x y c)
+      ∙ ap not (settled_alike old y c))
+
+  -- and where it completes nothing with the tuple it completes nothing without it
+  completes_none : (old new : ℕ) → old ≤ new → changes_by_move d key (put_in_order kept x) marks old new ≡ [] → changes_by_move d key kept marks old new ≡ []
+  completes_none old new le none =
+      changes_at_water d.windows key kept marks old new kinds was.in_order le
+      ∙ nothing_ahead d.windows key (moment kept marks old) (new + 1) new
+      (λ def i of c above.
+      let k : IsKindWithin def.kind = All-contains (λ (w : Def). IsKindWithin w.kind) d.windows def kinds of in
+      let b : HasBound (instances_of def.kind (put_in_order kept x) marks) i.bound = keeps_bounds def.kind k (All-contains (λ (w : Def). is_timed w.kind ≡ true) d.windows def timed of) kept marks x i c in
+      let far : new + 1 ≤ (b.0).bound = ahead_of_none d.windows key (moment (put_in_order kept x) marks old) new (sym (changes_at_water d.windows key (put_in_order kept x) marks old new kinds put.in_order le) ∙ none) def b.0 of b.1 (omega (arith, b.2, above)) in
+      omega (arith, b.2))
+      (omega arith)
+
+  pub exact_with_tuple : IsExact d key kept marks water due → IsExact d key (put_in_order kept x) marks water due
+  exact_with_tuple exact = record {
+    above = exact.above;
+    brings = λ old new is_old is_new rises early late.
+        ⊎_elim
+        (λ some. inl (λ none. some (completes_none old new (omega (arith, early, late)) none)))
+        (λ some. inr (λ same. some (settles_none old new same)))
+        (exact.brings old new is_old is_new rises early late);
+  }
 
 -- ---- a tuple that was appended joins
 last_is : (xs : List Kept) (d : Kept) → 1 ≤ length xs → last_time xs ≡ (get_or xs (length xs - 1) d).time

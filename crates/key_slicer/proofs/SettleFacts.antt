@@ -1,19 +1,20 @@
 -- When tuples of a key are settled.
-use Rattle.std.proofs.Common.{◌≡◌, ◌∙◌, ◌≤◌, ◌<◌, ◌+◌, ◌-◌, ℕ, true, false, not, List, [], ◌∷◌, ap, sym, refl, subst, arith}
+use Rattle.std.proofs.Common.{◌≡◌, ◌∙◌, ◌≤◌, ◌<◌, ◌+◌, ◌-◌, ℕ, true, false, not, List, [], ◌∷◌, ap, sym, refl, subst, arith, inl, inr}
 use Rattle.std.specs.Prelude.{◌≢◌, All, None, Some, find, nat_le, option_map}
 use Rattle.std.specs.List.{Contains, list_all}
 use Rattle.std.proofs.lemmas.Bool.{false≢true, le-leb}
-use Rattle.std.proofs.lemmas.List.Elements.{All-cons, All-head, All-weaker}
+use Rattle.std.proofs.lemmas.List.Elements.{All-cons, All-contains, All-head, All-weaker}
 use Rattle.stream_base.specs.Limits.{Definitions}
 use Rattle.stream_base.specs.declared.kept.Kept.{Kept}
-use Rattle.stream_base.specs.declared.limits.TheConstants.{TIME_MAX}
+use Rattle.stream_base.specs.declared.limits.TheConstants.{FINAL, TIME_MAX}
 use Rattle.stream_base.specs.Model.Changes.{Moment}
 use Rattle.stream_base.specs.Model.Slices.{is_events, is_settled, unsettled}
 use Rattle.stream_base.specs.Model.Windows.{first_time, last_time}
-use Rattle.stream_base.proofs.Members.{filter_members}
+use Rattle.stream_base.proofs.Members.{filter_has, filter_members}
 use Rattle.stream_base.proofs.Rising.{Contains-head}
 use Rattle.window_laws.specs.After.{at_water}
 use Rattle.window_laws.specs.Settled.{without_first}
+use Rattle.window_laws.proofs.SettledMoves.{move_keeps_settled}
 use Rattle.stream_base.proofs.Filters.{filter_all}
 use Rattle.run_laws.proofs.Order.{runs_behind}
 use Rattle.slice_lists.specs.declared.slice.Slice.{Slice}
@@ -21,11 +22,12 @@ use Rattle.slice_lists.specs.Touched.{slices_from}
 use Rattle.slice_lists.specs.Slices.{AreSlices, joined, slice_of}
 use Rattle.agg_store.specs.Stored.{Stored, tuples_of}
 use Rattle.slice_lists.proofs.SliceOrder.{IsApart, IsNear, first_below_last}
-use Rattle.key_windows.specs.Calls.{moment}
+use Rattle.key_windows.specs.Calls.{IsWater, moment}
 use Rattle.key_parts.specs.Calls.{Standing, window_at}
+use Rattle.key_parts.specs.Held.{IsHeld}
 use Rattle.key_parts.specs.Moves.{SettlesUpTo}
 use Rattle.held_laws.specs.Settling.{NoneSettled}
-use Rattle.held_laws.proofs.AlikeFacts.{settled_alike_all}
+use Rattle.held_laws.proofs.AlikeFacts.{of_rest, settled_alike_all}
 use Rattle.held_laws.proofs.HoldFacts.{held_after_move}
 use Rattle.held_laws.proofs.OpenFacts.{open_from, unsettled_are_held}
 use Rattle.key_slicer.specs.Parts.{EachPart, IsLeastOf}
@@ -105,3 +107,21 @@ module _ {P : Type 0} (stands : Standing P) (d : Definitions) where
       let there : Contains (unsettled d (moment kept marks due)) x = subst (λ l. Contains l x) (sym (same ∙ unsettled_are_held d (moment kept marks water) f.known.without s f.known.held f.none_settled)) c in
       let not_then : not (is_settled d (moment kept marks due) x) ≡ true = (filter_members (λ x. not (is_settled d (moment kept marks due) x)) kept x there).1 in
       false≢true (sym (ap not settled) ∙ not_then)
+
+  -- from each watermark at which none is settled to each one behind that at which one is
+  pub one_less_across : (kept : List Kept) (marks : List ℕ) (water old due new next : ℕ) (s : Stored) (parts : List P) (x : Kept) → Fits stands d kept marks water next s parts → Contains (tuples_of s) x
+      → NoneSettled d (moment kept marks old) s → due ≤ new → is_settled d (moment kept marks due) x ≡ true → unsettled d (moment kept marks new) ≢ unsettled d (moment kept marks old)
+  one_less_across kept marks water old due new next s parts x f c open_ late settled = λ same.
+      let m : Moment = moment kept marks due in
+      let h : IsHeld d (moment kept marks water) f.known.without s = f.known.held in
+      let has : Contains kept x = of_rest d (moment kept marks water) f.known.without h.may_leave x (subst (λ l. Contains l x) h.tuples c) in
+      let still : is_settled d (moment kept marks new) x ≡ true = move_keeps_settled d m new x h.may_leave.kinds h.may_leave.kept late has settled in
+      let is_open : is_settled d (moment kept marks old) x ≡ false = All-contains (λ y. is_settled d (moment kept marks old) y ≡ false) (tuples_of s) x open_ c in
+      let there : Contains (unsettled d (moment kept marks old)) x = filter_has (λ y. not (is_settled d (moment kept marks old) y)) kept x has (ap not is_open) in
+      let not_then : not (is_settled d (moment kept marks new) x) ≡ true = (filter_members (λ y. not (is_settled d (moment kept marks new) y)) kept x (subst (λ l. Contains l x) (sym same) there)).1 in
+      false≢true (sym (ap not still) ∙ not_then)
+
+-- a watermark lies up to the final one
+pub at_most_final : (water : ℕ) → IsWater water → water ≤ FINAL
+at_most_final water (inl within) = omega (arith, within)
+at_most_final water (inr final) = omega (arith, final)

@@ -1,5 +1,5 @@
 -- A tuple of which no part need be told.
-use Rattle.std.proofs.Common.{◌≡◌, ◌∙◌, ◌≤◌, ◌<◌, ◌+◌, ◌++◌, ℕ, true, false, List, [], length, get_or, ap, append-nil, arith, refl, sym}
+use Rattle.std.proofs.Common.{◌≡◌, ◌∙◌, ◌≤◌, ◌<◌, ◌++◌, ℕ, true, false, List, [], length, get_or, ap, append-nil, arith, refl, sym}
 use Rattle.std.specs.Prelude.{All}
 use Rattle.std.proofs.lemmas.List.Elements.{All-contains}
 use Rattle.stream_base.specs.Laws.{TimesDoNotFall, is_timed}

@@ -12,6 +12,7 @@ use Rattle.stream_base.specs.declared.def.Def.{Def}
 use Rattle.stream_base.specs.declared.kept.Kept.{Kept}
 use Rattle.stream_base.specs.declared.kind.Kind.{Kind}
 use Rattle.stream_base.specs.declared.kind.Kind.TheVariants.{Tumbling, Sliding, Session, Marks, Events}
+use Rattle.stream_base.specs.Laws.{completions}
 use Rattle.stream_base.specs.Model.Changes.{Moment, changes_between}
 use Rattle.stream_base.specs.Model.Cuts.{has_cut}
 use Rattle.stream_base.specs.Model.Windows.{first_time}
@@ -23,11 +24,11 @@ use Rattle.slice_lists.specs.Slices.{joined}
 use Rattle.agg_store.specs.Stored.{IsStore, Stored}
 use Rattle.key_windows.specs.Calls.{slices_at}
 use Rattle.key_parts.specs.Held.{IsHeld}
-use Rattle.key_parts.specs.Work.{change_work}
+use Rattle.key_parts.specs.Work.{change_work, most_moved}
 use Rattle.held_laws.specs.Settling.{NoneSettled}
 use Rattle.held_laws.proofs.OpenFacts.{near_under_all_marks, unsettled_slices_are_held}
 use Rattle.key_slicer.specs.Parts.{turns}
-use Rattle.key_slicer.specs.Work.{bounds_mark, bounds_put, counting_work, entry_work, events_in, mark_over, mark_work, put_work, slices_gone, turn_work, turns_work}
+use Rattle.key_slicer.specs.Work.{bounds_mark, bounds_move, bounds_put, counting_work, entry_work, events_in, mark_over, mark_work, move_over, put_work, slices_gone, turn_work, turns_work, walk_work}
 use Rattle.key_slicer.proofs.Loops.{summed_more}
 use Rattle.key_slicer.proofs.SortFacts.{as_many_turns}
 
@@ -63,6 +64,15 @@ pub turned_more : (key : List ℕ) (old new : Moment) (reach : ℕ) (windows : L
 turned_more key old new reach windows i d n s t u l so_far many cost =
     let same : change_work (get_or windows i d).kind reach * n ≡ turn_work key old new reach (i, get_or windows i d) = ap (λ k. change_work (get_or windows i d).kind reach * k) many in
     let whole : sum_by (turn_work key old new reach) (enumerate_from 0 (take (i + 1) windows)) ≡ sum_by (turn_work key old new reach) (enumerate_from 0 (take i windows)) + turn_work key old new reach (i, get_or windows i d) = summed_more (turn_work key old new reach) windows i d l in
+    omega (arith, same, whole, so_far, cost)
+
+-- what one window more takes of a move
+pub walked_more : (key : List ℕ) (old : Moment) (new slices reach : ℕ) (windows : List Def) (i : ℕ) (d : Def) (n s t u : ℕ) → i < length windows
+    → t ≤ s + sum_by (walk_work key old new slices reach) (enumerate_from 0 (take i windows)) → n ≡ length (completions key old new (i, get_or windows i d))
+    → u ≤ t + most_moved (get_or windows i d).kind slices reach n → u ≤ s + sum_by (walk_work key old new slices reach) (enumerate_from 0 (take (i + 1) windows))
+walked_more key old new slices reach windows i d n s t u l so_far many cost =
+    let same : most_moved (get_or windows i d).kind slices reach n ≡ walk_work key old new slices reach (i, get_or windows i d) = ap (λ k. most_moved (get_or windows i d).kind slices reach k) many in
+    let whole : sum_by (walk_work key old new slices reach) (enumerate_from 0 (take (i + 1) windows)) ≡ sum_by (walk_work key old new slices reach) (enumerate_from 0 (take i windows)) + walk_work key old new slices reach (i, get_or windows i d) = summed_more (walk_work key old new slices reach) windows i d l in
     omega (arith, same, whole, so_far, cost)
 
 pub turns_cost : (d : Definitions) (key : List ℕ) (old new : Moment) (reach : ℕ) → turns_work d key old new reach ≤ 64 * (reach + 2) * length (changes_between d.windows key old new) + counting_work d key old new
@@ -133,4 +143,13 @@ module _ (bounded : ℕ → ℕ → Type 0) (d : Definitions) (key : List ℕ) (
     s.reach,
     reached,
     λ i. mark_over d key m new time (sym slices_are i) (sym (unsettled_slices_are_held d new more after held_then store_then open_then) i) s.reach,
+  )
+
+-- the same of a move, after which the store has the slices of what isn't settled then
+module _ (bounded : ℕ → ℕ → Type 0) (d : Definitions) (key : List ℕ) (m : Moment) (n : ℕ) (s : Stored) (held : IsHeld d m n s) (store : IsStore s) (open_ : NoneSettled d m s) (reach : IsReachOver bounded (length s.slices) s.reach) where
+  pub move_is_bounded : (new : Moment) (more : ℕ) (after : Stored) → IsHeld d new more after → IsStore after → NoneSettled d new after → bounds_move bounded d key m new (move_over d key m new s.slices after.slices s.reach)
+  move_is_bounded new more after held_then store_then open_then = (
+    s.reach,
+    reached bounded d key m n 0 s held store open_ reach,
+    λ i. move_over d key m new (sym (unsettled_slices_are_held d m n s held store open_) i) (sym (unsettled_slices_are_held d new more after held_then store_then open_then) i) s.reach,
   )

@@ -15,7 +15,7 @@ use Rattle.slice_lists.specs.Touched.{is_across, is_near}
 use Rattle.slice_lists.specs.Slices.{joined}
 use Rattle.agg_store.specs.Stored.{Stored}
 use Rattle.key_windows.specs.Calls.{slices_at}
-use Rattle.key_parts.specs.Work.{change_work, row_work}
+use Rattle.key_parts.specs.Work.{change_work, most_moved, row_work}
 use Rattle.key_slicer.specs.Parts.{turns}
 
 -- the most that a window takes for its changes by a tuple from one moment of a key to another, over a tree of this reach
@@ -90,6 +90,24 @@ moves_work taken_up d key old new store = sum_by (moved_work taken_up d key old 
 abbrev pub move_work : TakenUp → Definitions → List ℕ → Moment → Moment → Stored → Stored → ℕ
 move_work taken_up d key old new before after =
     moves_work taken_up d key old new.water before + 64 * (before.reach + 2) * (length before.slices - length after.slices)
+
+-- the most that a window takes for a move of a key from one moment to a later watermark, whatever came before it, over a tree of this reach with so many slices: what a window of its kind takes for each slice, and for each row that becomes complete
+abbrev pub walk_work : List ℕ → Moment → ℕ → ℕ → ℕ → ℕ × Def → ℕ
+walk_work key old new slices reach w = most_moved (w.1).kind slices reach (length (completions key old new w))
+
+-- and all windows
+abbrev pub walks_work : Definitions → List ℕ → Moment → ℕ → ℕ → ℕ → ℕ
+walks_work d key old new slices reach = sum_by (walk_work key old new slices reach) (enumerate_from 0 d.windows)
+
+-- the most that a move of a key from one moment to another takes over a tree of this reach, where these are the slices before and after it: that of all windows, and one fold for each slice that leaves
+abbrev pub move_over : Definitions → List ℕ → Moment → Moment → List (List Kept) → List (List Kept) → ℕ → ℕ
+move_over d key old new before after reach =
+    walks_work d key old new.water (length before) reach + 64 * (reach + 2) * (length before - length after)
+
+-- a number is the most that a move takes from one moment of a key to another, by the rows and by the slices of the unsettled tuples before and after it alone
+abbrev pub bounds_move : (ℕ → ℕ → Type 0) → Definitions → List ℕ → Moment → Moment → ℕ → Type 0
+bounds_move bounded d key old new most =
+    (reach : ℕ) × IsReachOver bounded (length (slices_at d old)) reach × (most ≡ move_over d key old new (slices_at d old) (slices_at d new) reach)
 
 -- how many steps more a move from a watermark takes, by what each window has missed in this store: ten for each slice of the last instance that is complete
 abbrev pub catch_up : (Definitions → ℕ → Stored → ℕ → ℕ) → Definitions → Stored → ℕ → ℕ

@@ -2,9 +2,11 @@
 ghost use Rattle.std.specs.Prelude.{vec_capacity, vec_len, ◌-◌};
 ghost use Rattle.key_slicer.specs.Parts.{AllAhead, all_credit};
 ghost use Rattle.key_slicer.specs.States.{Fits, IsReady};
-ghost use Rattle.key_slicer.specs.Work.{bounds_mark, bounds_put, catch_up, mark_work, move_work, put_work};
+ghost use Rattle.key_slicer.specs.Work.{bounds_mark, bounds_move, bounds_put, catch_up, mark_work, move_work, put_work};
 
-use crate::key_state::{KeyState, all_count_events, is_water, leaves_due, needs_no_part, put_in};
+use crate::key_state::{
+    KeyState, all_count_events, is_water, leaves_due, needs_no_part, put_in, vouch_reach,
+};
 use crate::parts::Parts;
 use crate::sorted::append_sorted;
 use agg_laws::{AggTree, Steps};
@@ -38,6 +40,8 @@ impl<T: AggTree<Bundle> + Drop, P: AnyPart> KeyWindows for KeyState<T, P> {
 
     ghost bounds_mark = { λ d key old new time most.
         bounds_mark T.bounded d key old new time most };
+
+    ghost bounds_move = { λ d key old new most. bounds_move T.bounded d key old new most };
 
     ghost credit = { λ k. all_credit P.credit k.parts.list.items };
 
@@ -152,6 +156,7 @@ impl<T: AggTree<Bundle> + Drop, P: AnyPart> KeyWindows for KeyState<T, P> {
         out: &mut Vec<Change>,
         steps: &mut Steps<L>,
     ) {
+        vouch_reach(&self.store);
         if is_water(old) {
             self.parts
                 .water(defs, &self.store, &self.key, old, new, out, steps);

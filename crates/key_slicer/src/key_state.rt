@@ -4,6 +4,7 @@ ghost use Rattle.std.specs.List.{list_all};
 ghost use Rattle.stream_base.specs.Laws.{is_timed};
 ghost use Rattle.stream_base.specs.Model.Journal.{put_in_order};
 ghost use Rattle.stream_base.specs.Model.Slices.{is_events};
+ghost use Rattle.partials.specs.Apart.{IsReachOver};
 ghost use Rattle.agg_store.specs.Entered.{slices_near};
 ghost use Rattle.agg_store.specs.Stored.{tuples_of};
 ghost use Rattle.slice_lists.specs.Slices.{joined};
@@ -61,6 +62,13 @@ pub fn first_time<T: AggTree<Bundle>>(store: &SliceStore<T>) -> Option<u64>
 {
     let first = store.slice_from(0)?;
     Some(first.low)
+}
+
+// Changes nothing, and tells a proof how the reach of a store is bounded by its slices.
+pub fn vouch_reach<T: AggTree<Bundle>>(store: &SliceStore<T>)
+    ensures { IsReachOver T.bounded (length store.now.slices) store.now.reach }
+{
+    store.slice_count();
 }
 
 // Whether a number is a watermark: a time, or the final one.

@@ -1,5 +1,5 @@
 //! The parts of a key's windows where the watermark moves.
-ghost use Rattle.std.specs.Prelude.{◌≡◌, ◌≢◌, ◌≤◌, ◌<◌, ◌+◌, ◌++◌, [], ℕ, List};
+ghost use Rattle.std.specs.Prelude.{◌≡◌, ◌≢◌, ◌≤◌, ◌<◌, ◌+◌, ◌++◌, [], ℕ, List, length};
 ghost use Rattle.std.specs.List.{enumerate_from, flat_map};
 ghost use Rattle.stream_base.specs.declared.limits.TheConstants.{FINAL};
 ghost use Rattle.stream_base.specs.Laws.{completions};
@@ -9,7 +9,7 @@ ghost use Rattle.window_laws.specs.After.{at_water};
 ghost use Rattle.key_parts.specs.Calls.{MayMove, Prepares, StandsForSome};
 ghost use Rattle.key_parts.specs.Work.{AddsAtMost};
 ghost use Rattle.key_slicer.specs.Parts.{AllAhead, AllStandAt, AreStanding, EachPart, all_credit, rooms};
-ghost use Rattle.key_slicer.specs.Work.{catch_up, moves_work};
+ghost use Rattle.key_slicer.specs.Work.{catch_up, moves_work, walks_work};
 
 use crate::parts::{Parts, sum_of, window_count};
 use agg_laws::{AggTree, Steps};
@@ -84,6 +84,10 @@ impl<P: KeyPart> Parts<P> {
             ≤ steps.old + all_credit P.credit self.old.list.items
             + (moves_work P.taken_up defs.now key.now m new store.now
             + catch_up P.missed defs.now store.now old) }
+        ensures bound { (m : Moment) (n : ℕ)
+            → AllStandAt P.stands defs.now old store.now self.old.list.items m n
+            → steps.new ≤ steps.old + walks_work defs.now key.now m new
+            (length store.now.slices) store.now.reach }
     {
         for window in 0..window_count(defs) {
             self.list[window as usize].water(defs, window, store, key, old, new, out, steps);

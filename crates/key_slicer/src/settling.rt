@@ -32,6 +32,12 @@ impl<T: AggTree<Bundle>, P: KeyPart> KeyState<T, P> {
             → result ≤ FINAL → (water < result)
             × (unsettled defs.now (moment kept marks result)
             ≢ unsettled defs.now (moment kept marks water)) }
+        ensures across { (kept : List Kept) (marks : List ℕ) (old new : ℕ)
+            → Fits P.stands defs.now kept marks
+            water self.now.next self.now.store self.now.parts.list.items
+            → IsWater old → IsWater new → water ≤ old → old < result → result ≤ new
+            → unsettled defs.now (moment kept marks new)
+            ≢ unsettled defs.now (moment kept marks old) }
     {
         if all_count_events(defs) {
             return u64::MAX;

@@ -7,7 +7,7 @@ ghost use Rattle.stream_base.specs.declared.limits.TheConstants.{FINAL, JOURNAL_
 ghost use Rattle.stream_base.specs.Model.Journal.{put_in_order};
 ghost use Rattle.key_windows.specs.Calls.{BringsMore, IsWater, MakesRoom, MayReserve, MayTakeIn, StandsUnder, StaysAhead, TakesIn, changes_by_move, kept_at, moment, slices_at};
 ghost use Rattle.key_windows.specs.Calls.Call.{Put, Mark, Move};
-ghost use Rattle.key_windows.specs.Dues.{LeavesDue};
+ghost use Rattle.key_windows.specs.Dues.{IsExact, LeavesDue, LeavesExact};
 
 use agg_laws::Steps;
 use std::alloc::Global;
@@ -54,6 +54,9 @@ pub trait KeyWindows: Drop {
     /// A bound on the steps of a mark that does so.
     ghost bounds_mark: { Definitions → List ℕ → Moment → Moment → ℕ → ℕ → Type 0 };
 
+    /// A bound on the steps of a move of the watermark that does so, whatever came before it.
+    ghost bounds_move: { Definitions → List ℕ → Moment → Moment → ℕ → Type 0 };
+
     /// What is left of the steps that were paid for.
     ghost credit: { Self → ℕ };
 
@@ -82,7 +85,7 @@ pub trait KeyWindows: Drop {
             (Put time water) self.old self.new result };
 
     /// Takes in an accepted tuple. Answers whether what is due is sure to have stayed: where it does, a
-    /// number up to which nothing was due before is one still.
+    /// number up to which nothing was due before is one still, and exact if it was.
     fn put<L>(
         &mut self,
         defs: &Defs,
@@ -111,7 +114,9 @@ pub trait KeyWindows: Drop {
             × (steps.new ≤ steps.old + bound) }
         ensures pace { StaysAhead credit is_ahead defs.now time water self.old self.new }
         ensures due { result ≡ true → LeavesDue fits defs.now (key_of self.old) water
-            (kept_at pos time value) self.old self.new };
+            (kept_at pos time value) self.old self.new }
+        ensures exact { result ≡ true → LeavesExact fits defs.now (key_of self.old) water
+            (kept_at pos time value) self.old };
 
     /// Makes room for a mark at a time.
     fn reserve_mark(&mut self, defs: &Defs, time: u64, water: u64) -> Result<u64, NoMemory>
@@ -173,7 +178,11 @@ pub trait KeyWindows: Drop {
             → fits defs.now kept marks old self.old
             → steps.new + credit self.new ≤ steps.old + credit self.old
             + (move_work defs.now (moment kept marks old) (moment kept marks new)
-            self.old self.new + catch_up defs.now old self.old) };
+            self.old self.new + catch_up defs.now old self.old) }
+        ensures bound { (kept : List Kept) (marks : List ℕ)
+            → fits defs.now kept marks old self.old → (bound : ℕ)
+            × bounds_move defs.now (key_of self.old) (moment kept marks old)
+            (moment kept marks new) bound × (steps.new ≤ steps.old + bound) };
 
     /// The first watermark at which something becomes complete, or settled. Up to there the state
     /// stands as it is: a move to below it changes nothing, and need not be told. Later than the final
@@ -189,7 +198,10 @@ pub trait KeyWindows: Drop {
             → water ≤ new → new < result → IsWater new → fits defs.now kept marks new self.now }
         ensures some_at { (kept : List Kept) (marks : List ℕ)
             → fits defs.now kept marks water self.now → result ≤ FINAL → (water < result)
-            × BringsMore defs.now (key_of self.now) kept marks water result };
+            × BringsMore defs.now (key_of self.now) kept marks water result }
+        ensures exact { (kept : List Kept) (marks : List ℕ)
+            → fits defs.now kept marks water self.now
+            → IsExact defs.now (key_of self.now) kept marks water result };
 
     /// How many slices its unsettled tuples have under a watermark, its own or a later one.
     fn slice_count(&self, defs: &Defs, water: u64) -> u64

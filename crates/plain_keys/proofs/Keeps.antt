@@ -1,5 +1,5 @@
 -- What a key's state keeps, and what calls do to it.
-use Rattle.std.proofs.Common.{◌≡◌, ◌∙◌, ℕ, ℤ, suc, ◌+◌, ◌<◌, ◌≤◌, Bool, true, false, cond, not, List, [], ◌∷◌, length, map, set, ap, sym, refl, subst, arith}
+use Rattle.std.proofs.Common.{◌≡◌, ◌∙◌, ℕ, ℤ, suc, ◌+◌, ◌<◌, ◌≤◌, Bool, true, false, cond, not, List, [], ◌∷◌, length, map, set, ap, sym, refl, subst, inl, inr, arith}
 use Rattle.std.specs.Prelude.{◌≢◌, nat_lt}
 use Rattle.std.specs.BTreeSet.{insert_key}
 use Rattle.std.specs.List.{All, Contains, enumerate_from, flat_map, position_or_len, range_with_len}
@@ -24,8 +24,9 @@ use Rattle.stream_base.specs.Model.Windows.{Instance, instances_of, ranks}
 use Rattle.std.proofs.Math.Nat.{zero-div}
 use Rattle.plain_windows.specs.Changing.{IsDue}
 use Rattle.plain_windows.specs.Extents.{AreKeyLists}
-use Rattle.plain_windows.proofs.Ahead.{nothing_ahead, something_due}
-use Rattle.key_windows.specs.Calls.{changes_by_mark, changes_by_move, changes_by_put, kept_at, moment}
+use Rattle.plain_windows.proofs.Ahead.{completes_across, nothing_ahead, something_due}
+use Rattle.key_windows.specs.Calls.{IsWater, changes_by_mark, changes_by_move, changes_by_put, kept_at, moment}
+use Rattle.key_windows.specs.Dues.{IsExact}
 use Rattle.plain_keys.specs.States.{Fits, IsMarked, IsOfSame, IsPut, IsReadyToMove, IsState, State, stand_in}
 use Rattle.plain_keys.proofs.After.{stands_after_mark, stands_after_put}
 use Rattle.plain_keys.proofs.Counting.{as_many, IsNew}
@@ -160,6 +161,25 @@ is_due d key s kept marks water limits lists fits final =
       λ none. something_due d.windows key (moment kept marks water) s.due fits.2 final
           (sym (move_is d key kept marks water s.due limits (subst (λ (ms : List ℕ). AreKeyLists kept ms) fits.1 (subst (λ (ks : List Kept). AreKeyLists ks s.marks) fits.0 lists)) (omega (arith, at.0))) ∙ none),
     )
+
+-- and from each watermark below it to each one from it on
+pub is_exact : (d : Definitions) (key : List ℕ) (s : State) (kept : List Kept) (marks : List ℕ) (water : ℕ) → AreWithinLimits d → AreKeyLists s.kept s.marks → Fits d kept marks water s → IsExact d key kept marks water s.due
+is_exact d key s kept marks water limits lists fits =
+    let held : AreKeyLists kept marks = subst (λ (ms : List ℕ). AreKeyLists kept ms) fits.1 (subst (λ (ks : List Kept). AreKeyLists ks s.marks) fits.0 lists) in
+    record {
+      above = λ final. (fits.2.reached final).0;
+      brings = λ old new is_old is_new rises early late.
+          let final : s.due ≤ FINAL = omega (arith, late, at_most_final new is_new) in
+          inl (λ none.
+          completes_across d.windows key kept marks water old s.due new late
+          (nothing_ahead d.windows key (moment kept marks water) s.due old fits.2.ahead early)
+          (something_due d.windows key (moment kept marks water) s.due fits.2 final)
+          (sym (move_is d key kept marks old new limits held (omega (arith, early, late))) ∙ none));
+    }
+  where
+    at_most_final : (water : ℕ) → IsWater water → water ≤ FINAL
+    at_most_final water (inl within) = omega (arith, within)
+    at_most_final water (inr final) = omega (arith, final)
 
 -- a move for which room was made brings as many completions as were promised
 pub as_promised : (d : Definitions) (s : State) (old new : ℕ) (windows : List Def) (key : List ℕ) (kept : List Kept) (marks : List ℕ)

@@ -306,6 +306,8 @@ impl KeyWindows for PlainKey {
 
     ghost bounds_mark = { λ d key old new time n. n ≡ most_steps };
 
+    ghost bounds_move = { λ d key old new n. n ≡ most_steps };
+
     ghost credit = { λ s. 0 };
 
     ghost is_ahead = { λ d water s. Unit {0} };

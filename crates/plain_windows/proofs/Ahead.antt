@@ -247,3 +247,29 @@ something_due windows key m due is final none =
     map_has row (filter (becomes_complete m.water due) instances) i (filter_has (becomes_complete m.water due) instances i at.1.has.1 (completes m.water due i at.0 at.1.has.2)) in
     let some : Contains (flat_map (completions key m due) (enumerate_from 0 windows)) (row i) = flat_map_has (completions key m due) (enumerate_from 0 windows) (w.0, def) (row i) w.1 here in
     none_in_nil (row i) (subst (λ (cs : List Change). Contains cs (row i)) none some)
+
+-- where a move completes nothing, each bound ahead lies behind it
+pub ahead_of_none : (windows : List Def) (key : List ℕ) (m : Moment) (new : ℕ) → flat_map (completions key m new) (enumerate_from 0 windows) ≡ [] → IsAhead windows m.kept m.marks m.water (new + 1)
+ahead_of_none windows key m new none def i of c above = ⊎_elim (λ late. omega (arith, late)) (λ by. absurd (here by)) (cases_lt new i.bound)
+  where
+    here : i.bound ≤ new → ⊥
+    here by =
+        let w : (k : ℕ) × Contains (enumerate_from 0 windows) (k, def) = numbered 0 windows def of in
+        let instances = instances_of def.kind m.kept m.marks in
+        let row = λ (j : Instance). New (row_of w.0 key def.func j) in
+        let completes : becomes_complete m.water new i ≡ true = λ k. lt-ltb m.water i.bound above k && le-leb i.bound new by k in
+        let one : Contains (completions key m new (w.0, def)) (row i) = map_has row (filter (becomes_complete m.water new) instances) i (filter_has (becomes_complete m.water new) instances i c completes) in
+        let some : Contains (flat_map (completions key m new) (enumerate_from 0 windows)) (row i) = flat_map_has (completions key m new) (enumerate_from 0 windows) (w.0, def) (row i) w.1 one in
+        none_in_nil (row i) (subst (λ (cs : List Change). Contains cs (row i)) none some)
+
+abbrev under : List Kept → List ℕ → ℕ → Moment
+under kept marks water = record { kept = kept; marks = marks; water = water }
+
+-- where one move completes nothing and a further one from the same watermark does, so does each from there that goes as far
+pub completes_across : (windows : List Def) (key : List ℕ) (kept : List Kept) (marks : List ℕ) (water old due new : ℕ) → due ≤ new
+    → flat_map (completions key (under kept marks water) old) (enumerate_from 0 windows) ≡ [] → flat_map (completions key (under kept marks water) due) (enumerate_from 0 windows) ≢ []
+    → flat_map (completions key (under kept marks old) new) (enumerate_from 0 windows) ≢ []
+completes_across windows key kept marks water old due new far none some all =
+    some (nothing_ahead windows key (under kept marks water) (new + 1) due
+    (λ def i of c above. ahead_of_none windows key (under kept marks old) new all def i of c (let a : old + 1 ≤ i.bound = ahead_of_none windows key (under kept marks water) old none def i of c above in omega arith))
+    (omega arith))

@@ -1,6 +1,6 @@
 -- The table of keys where the watermark alone moves.
-use Rattle.std.proofs.Common.{◌≡◌, ◌∙◌, ◌≢◌, ◌≤◌, ◌<◌, ℕ, Bool, true, false, cond, List, [], ◌∷◌, ◌++◌, length, map, get_or, ap, sym, refl, subst, arith, Option, None, Some, inl, inr, ⊎_elim, length-append}
-use Rattle.std.specs.Prelude.{EachIndex, nat_le}
+use Rattle.std.proofs.Common.{◌≡◌, ◌∙◌, ◌≢◌, ◌≤◌, ◌<◌, ◌+◌, ℕ, suc, Bool, true, false, cond, List, [], ◌∷◌, ◌++◌, length, map, get_or, ap, sym, refl, subst, arith, Option, None, Some, inl, inr, ⊎_elim, length-append}
+use Rattle.std.specs.Prelude.{All, EachIndex, nat_le, sum_by}
 use Rattle.std.specs.Map.{values_of}
 use Rattle.std.specs.Cmp.{eq_by_cmp_equiv}
 use Rattle.std.specs.Cmp.Lexicographic.{slice_cmp}
@@ -10,20 +10,22 @@ use Rattle.std.specs.Ordering.{nat_cmp}
 use Rattle.std.specs.declared.cmp.Ordering.TheVariants.{Less}
 use Rattle.std.proofs.lemmas.Bool.{cases_lt, le-leb, leb-true}
 use Rattle.std.proofs.lemmas.Cmp.{nat_list_cmp_total}
-use Rattle.std.proofs.lemmas.List.{append-nil, get_or_default}
-use Rattle.std.proofs.lemmas.List.Elements.{Contains-get_or}
+use Rattle.std.proofs.lemmas.List.{append-nil, get_or-map, get_or_default, length-map}
+use Rattle.std.proofs.lemmas.List.Sums.{sum_by-cons}
+use Rattle.std.proofs.lemmas.List.Elements.{All-cons, All-nil, Contains-get_or}
 use Rattle.std.proofs.lemmas.List.Kept.{AllPairs-cons, AllPairs-filter}
 use Rattle.std.proofs.lemmas.Map.Keys.{IsDistinct-from_sorted, sorted_tail}
 use Rattle.std.proofs.lemmas.Map.Lookups.{exact_bytes}
 use Rattle.std.proofs.lemmas.Map.Views.{Contains-from_lookup, lookup-from_Contains, tells_apart}
-use Rattle.key_windows.specs.Calls.{IsWater, changes_by_move, moment}
-use Rattle.key_windows.specs.Dues.{IsQuiet}
+use Rattle.key_windows.specs.Calls.{BringsMore, IsWater, changes_by_move, moment}
+use Rattle.key_windows.specs.Dues.{IsDueNumber, IsExact}
 use Rattle.stream_base.specs.Limits.{AreWithinLimits, Definitions}
 use Rattle.stream_base.specs.declared.change.Change.{Change}
 use Rattle.stream_base.specs.declared.entry.Entry.{Entry}
 use Rattle.stream_base.specs.declared.kept.Kept.{Kept}
+use Rattle.stream_base.specs.declared.limits.TheConstants.{FINAL}
 use Rattle.stream_base.specs.Laws.{completions}
-use Rattle.stream_base.specs.Model.Changes.{changes_after, moment_of}
+use Rattle.stream_base.specs.Model.Changes.{Moment, changes_after, moment_of}
 use Rattle.stream_base.specs.Model.Journal.{keys_of, kept_of, marks_of}
 use Rattle.stream_base.specs.Model.Watermark.{water_of}
 use Rattle.stream_base.specs.Model.What.{is_late, is_progress}
@@ -35,12 +37,14 @@ use Rattle.model_laws.proofs.ChangesAfter.{changes_of_water, keys_in_order, mome
 use Rattle.stream_base.proofs.Distinct.{All_from_members}
 use Rattle.stream_base.proofs.EventOrder.{kept_times_do_not_fall}
 use Rattle.stream_base.proofs.Members.{filter_has, filter_members, map_has, map_members}
-use Rattle.stream_base.proofs.Rising.{below_tail, Contains-head, Contains-tail, not_below_itself, sorted_cons}
+use Rattle.stream_base.proofs.Rising.{below_tail, Contains-head, Contains-tail, not_below_itself, sorted_cons, sorted_nil}
 use Rattle.model_laws.proofs.WatermarkFacts.{water_of_same, water_rises}
 use Rattle.stream_base.proofs.Growing.{kept_of_late, marks_of_late}
 use Rattle.shard_core.specs.declared.keys.KeyTable.{KeyTable}
 use Rattle.shard_core.specs.declared.slot.Slot.{Slot}
-use Rattle.shard_core.specs.Engines.{AreApart, AreCurrent, AreMovable, AreSameSlots, IsCurrent, IsMovedSlot, IsSameOutside, StandsIn, due_places, moves_of, place_of}
+use Rattle.shard_core.specs.Engines.{AreApart, AreCurrent, AreMovable, AreMovedWithin, ArePlaces, AreSameSlots, BoundsMove, IsCurrent, IsMovedSlot, IsSameOutside, StandAt, StandsIn, due_places, moves_of, place_of}
+use Rattle.shard_core.specs.Shard.{Sharded}
+use Rattle.shard_core.specs.Work.{IsDueBy, IsMoveWithin}
 use Rattle.shard_core.proofs.Moves.{changes_since, map_none, no_changes_of_none, same_for_keys}
 use Rattle.shard_core.proofs.Places.{IsSameFor, alike, one_key, still_current}
 
@@ -73,7 +77,7 @@ module _ {K : Type 0} (key_of : K → List ℕ) (fits : Definitions → List Kep
       ⊎_elim
       (λ same. subst (λ w. changes_by_move d key (kept_of d.lateness sources key journal) (marks_of d.lateness sources key journal) slot.water w ≡ []) same
       (no_changes_at_rest d.windows key (moment (kept_of d.lateness sources key journal) (marks_of d.lateness sources key journal) slot.water) limits.kinds (kept_times_do_not_fall d.lateness sources key journal)))
-      (λ below. c.quiet.nothing_changes (water_of sources journal) c.past below)
+      (λ below. c.number.quiet.nothing_changes (water_of sources journal) c.past below)
       c.not_due
 
   -- what its move from its own watermark changes is what the key changes
@@ -83,7 +87,17 @@ module _ {K : Type 0} (key_of : K → List ℕ) (fits : Definitions → List Kep
 
   -- nothing where it isn't due
   pub no_key_move : (new : ℕ) → water_of sources journal ≤ new → new < due → changes_by_move d key (kept_of d.lateness sources key journal) (marks_of d.lateness sources key journal) (water_of sources journal) new ≡ []
-  no_key_move new further early = sym (move_is_key_move new further) ∙ c.quiet.nothing_changes new (omega (arith, c.past)) early
+  no_key_move new further early = sym (move_is_key_move new further) ∙ c.number.quiet.nothing_changes new (omega (arith, c.past)) early
+
+  -- and its due number is exact also from there
+  pub exact_so_far : IsExact d key (kept_of d.lateness sources key journal) (marks_of d.lateness sources key journal) (water_of sources journal) due
+  exact_so_far = record {
+    above = λ final. ⊎_elim
+        (λ same. let lt : slot.water < due = c.number.exact.above final in omega (arith, same))
+        (λ below. below)
+        c.not_due;
+    brings = λ old new is_old is_new further early late. c.number.exact.brings old new is_old is_new (omega (arith, c.past, further)) early late;
+  }
 
   -- so it stands under the journal's watermark as it is, and that can be noted
   pub noted : (new : Slot K) → new.state ≡ slot.state → new.water ≡ water_of sources journal → IsWater (water_of sources journal)
@@ -96,15 +110,18 @@ module _ {K : Type 0} (key_of : K → List ℕ) (fits : Definitions → List Kep
         stands = rw (same, water)
             (⊎_elim
             (λ there. subst (λ w. fits d kept marks w slot.state) there c.stands)
-            (λ below. c.quiet.waits (water_of sources journal) is_water c.past below)
+            (λ below. c.number.quiet.waits (water_of sources journal) is_water c.past below)
             c.not_due);
         position = omega (arith, ap next_position same, c.position);
         is_water = rw water is_water;
         past = omega (arith, water);
         not_due = inl water;
-        quiet = rw (same, water) (record {
-          nothing_changes = no_key_move;
-          waits = λ later is further early. c.quiet.waits later is (omega (arith, c.past, further)) early;
+        number = rw (same, water) (record {
+          quiet = record {
+            nothing_changes = no_key_move;
+            waits = λ later is further early. c.number.quiet.waits later is (omega (arith, c.past, further)) early;
+          };
+          exact = exact_so_far;
         });
       }
 
@@ -118,7 +135,7 @@ module _ {K : Type 0} (key_of : K → List ℕ) (fits : Definitions → List Kep
     is_water = c.is_water;
     past = omega (arith, c.past);
     not_due = inr early;
-    quiet = rw (same.kept, same.marks) c.quiet;
+    number = rw (same.kept, same.marks) c.number;
   }
 
   -- a moved state is that of the longer journal
@@ -135,7 +152,7 @@ module _ {K : Type 0} (key_of : K → List ℕ) (fits : Definitions → List Kep
         is_water = rw m.moved is_water;
         past = omega (arith, m.moved);
         not_due = inl m.moved;
-        quiet = subst (λ k. IsQuiet fits d k (kept_of d.lateness sources key longer) (marks_of d.lateness sources key longer) new.water new.state new_due) own (m.quiet (kept_of d.lateness sources key longer) (marks_of d.lateness sources key longer) stands);
+        number = subst (λ k. IsDueNumber fits d k (kept_of d.lateness sources key longer) (marks_of d.lateness sources key longer) new.water new.state new_due) own (m.number (kept_of d.lateness sources key longer) (marks_of d.lateness sources key longer) stands);
       }
 
 -- ---- the places that are due
@@ -168,6 +185,45 @@ keys_of_filtered p (e ∷ es) s = by (p e) (keys_of_filtered p es (sorted_tail (
         subst (λ k. slice_cmp nat_cmp e.0 k ≡ Less) f.2 (below_tail nat_list_cmp_total e.0 (map (λ (g : List ℕ × ℕ). g.0) es) s (f.0).0 (map_has (λ (g : List ℕ × ℕ). g.0) es f.0 (filter_members p es f.0 f.1).0))))
         rest
     by false rest = rest
+
+-- keys, each with a number in place of its place
+abbrev pub beside : List (List ℕ × ℕ) → List ℕ → List (List ℕ × ℕ)
+beside [] ns = []
+beside (f ∷ fs) [] = []
+beside (f ∷ fs) (n ∷ ns) = (f.0, n) ∷ beside fs ns
+
+keys_beside : (fs : List (List ℕ × ℕ)) (ns : List ℕ) → length ns ≡ length fs → map (λ (k : List ℕ × ℕ). k.0) (beside fs ns) ≡ map (λ (f : List ℕ × ℕ). f.0) fs
+keys_beside [] ns l = refl
+keys_beside (f ∷ fs) [] l = absurd (omega (arith, l))
+keys_beside (f ∷ fs) (n ∷ ns) l = ap (λ ks. f.0 ∷ ks) (keys_beside fs ns (omega (arith, l)))
+
+sum_beside : (fs : List (List ℕ × ℕ)) (ns : List ℕ) → length ns ≡ length fs → sum_by (λ (k : List ℕ × ℕ). k.1) (beside fs ns) ≡ sum_by (λ n. n) ns
+sum_beside [] [] l = refl
+sum_beside [] (n ∷ ns) l = absurd (omega (arith, l))
+sum_beside (f ∷ fs) [] l = absurd (omega (arith, l))
+sum_beside (f ∷ fs) (n ∷ ns) l =
+    sum_by-cons (λ (k : List ℕ × ℕ). k.1) (f.0, n) (beside fs ns)
+    ∙ ap (λ k. n + k) (sum_beside fs ns (omega (arith, l)))
+    ∙ sym (sum_by-cons (λ n. n) n ns)
+
+all_beside : (P : List ℕ → ℕ → Type 0) (fs : List (List ℕ × ℕ)) (ns : List ℕ) → length ns ≡ length fs → ((i : ℕ) → i < length fs → P (get_or fs i ([], 0)).0 (get_or ns i 0)) → All (λ (k : List ℕ × ℕ). P k.0 k.1) (beside fs ns)
+all_beside P [] ns l h = All-nil (λ (k : List ℕ × ℕ). P k.0 k.1)
+all_beside P (f ∷ fs) [] l h = absurd (omega (arith, l))
+all_beside P (f ∷ fs) (n ∷ ns) l h = All-cons (λ (k : List ℕ × ℕ). P k.0 k.1) (f.0, n) (beside fs ns) (h 0 (omega arith)) (all_beside P fs ns (omega (arith, l)) (λ i il. h (suc i) (omega (arith, il))))
+
+-- a watermark lies up to the final one
+at_most_final : (water : ℕ) → IsWater water → water ≤ FINAL
+at_most_final water (inl within) = omega (arith, within)
+at_most_final water (inr final) = omega (arith, final)
+
+-- no step is within the sum over no keys
+pub none_is_due : (bounds : Definitions → List ℕ → Moment → Moment → ℕ → Type 0) (s : Sharded) (e : Entry) (steps : ℕ) → IsMoveWithin bounds s e steps steps
+none_is_due bounds s e steps = record {
+  due = [];
+  each_once = sorted_nil nat_list_cmp_total;
+  each_due = All-nil (λ (k : List ℕ × ℕ). IsDueBy bounds s e k.0 k.1);
+  within = omega arith;
+}
 
 -- a slot of a table that has one
 pub any_slot : {K : Type 0} (slots : List (Slot K)) → 0 < length slots → Slot K
@@ -226,6 +282,10 @@ module _ {K : Type 0} (key_of : K → List ℕ) (fits : Definitions → List Kep
         (places_apart t.index c.in_order
         (λ e f a b same. one_key key_of fits next_position d sources journal t e.0 f.0 e.1 x c (has_place e.0 e.1 a) (has_place f.0 f.1 b ∙ ap (λ p. Some p) (sym same))))
         i j 0 l m
+
+    -- so they are places of keys
+    pub due_are_places : ArePlaces t (due_places t new)
+    due_are_places i l = ((due_at i l).key, (due_at i l).at)
 
     -- the states there can be moved
     pub due_movable : water_of sources journal ≤ new → IsWater new → AreMovable fits d t.slots.items (due_places t new) new
@@ -321,6 +381,64 @@ module _ {K : Type 0} (key_of : K → List ℕ) (fits : Definitions → List Kep
           (λ few. let empty : due_places t new ≡ [] = no_length (due_places t new) few in
           none empty ∙ sym (append-nil start) ∙ ap (λ ys. start ++ ys) (sym (nothing_due_nothing_changes empty)))
           (cases_lt 0 (length (due_places t new)))
+
+      -- where those states stand under the journal's watermark, the moves take no more than the keys that are due allow
+      module _ (bounds : Definitions → List ℕ → Moment → Moment → ℕ → Type 0) (is_water : IsWater new) (caught : StandAt (water_of sources journal) t.slots.items (due_places t new) (length (due_places t new))) (steps later : ℕ) where
+        abbrev shard : Sharded
+        shard = record { defs = d; sources = sources; journal = journal }
+
+        abbrev entries : List (List ℕ × ℕ)
+        entries = filter (λ (f : List ℕ × ℕ). nat_le (get_or t.dues.items f.1 0) new) t.index
+
+        abbrev AreWithin : Slot K → Type 0
+        AreWithin x = AreMovedWithin bounds key_of d (λ key. kept_of d.lateness sources key journal) (λ key. marks_of d.lateness sources key journal) new t.slots.items x (due_places t new) (length (due_places t new)) steps later
+
+        places_are : due_places t new ≡ map (λ (f : List ℕ × ℕ). f.1) entries
+        places_are = filter_of_map (λ (f : List ℕ × ℕ). f.1) (λ p. nat_le (get_or t.dues.items p 0) new) t.index
+
+        as_many : (x : Slot K) (m : AreWithin x) → length m.most ≡ length entries
+        as_many x m = m.as_many ∙ ap length places_are ∙ length-map entries (λ (f : List ℕ × ℕ). f.1)
+
+        one_due : (x : Slot K) (m : AreWithin x) (i : ℕ) → i < length entries → IsDueBy bounds shard e (get_or entries i ([], 0)).0 (get_or m.most i 0)
+        one_due x m i l =
+            let f = get_or entries i ([], 0) in
+            let most = get_or m.most i 0 in
+            let kept = λ (key : List ℕ). kept_of d.lateness sources key journal in
+            let marks = λ (key : List ℕ). marks_of d.lateness sources key journal in
+            let within : i < length (due_places t new) = omega (arith, l, as_many x m, m.as_many) in
+            let there = filter_members (λ (f : List ℕ × ℕ). nat_le (get_or t.dues.items f.1 0) new) t.index f (Contains-get_or entries i ([], 0) l) in
+            let due : get_or t.dues.items f.1 0 ≤ new = leb-true (get_or t.dues.items f.1 0) new there.1 in
+            let place : get_or (due_places t new) i 0 ≡ f.1 = ap (λ ps. get_or ps i 0) places_are ∙ get_or-map (λ (f : List ℕ × ℕ). f.1) entries i ([], 0) 0 l in
+            let slot = get_or t.slots.items f.1 x in
+            let was : IsCurrent key_of fits next_position d sources journal f.0 slot (get_or t.dues.items f.1 0) = c.current f.0 f.1 x (has_place f.0 f.1 there.0) in
+            let water : slot.water ≡ water_of sources journal = subst (λ p. (get_or t.slots.items p x).water ≡ water_of sources journal) place (caught i within x) in
+            let exact = exact_so_far key_of fits next_position d sources journal limits f.0 slot (get_or t.dues.items f.1 0) was in
+            let same = progress_stays d sources journal e progress f.0 in
+            record {
+              brings = subst (BringsMore d f.0 (kept f.0) (marks f.0) (water_of sources journal)) is
+                  (exact.brings (water_of sources journal) new (subst IsWater water was.is_water) is_water (omega arith) (exact.above (omega (arith, due, at_most_final new is_water))) due);
+              is_bound = subst (λ n. bounds d f.0 (moment (kept f.0) (marks f.0) (water_of sources journal)) n most) (λ j. moment (sym same.kept j) (sym same.marks j) (is j))
+                  (subst (λ w. bounds d f.0 (moment (kept f.0) (marks f.0) w) (moment (kept f.0) (marks f.0) new) most) water
+                  (subst (λ k. bounds d k (moment (kept k) (marks k) slot.water) (moment (kept k) (marks k) new) most) was.of_key
+                  (subst (λ p. BoundsMove bounds key_of d kept marks new (get_or t.slots.items p x) most) place (m.are_bounds i within))));
+            }
+
+        pub moved_within : (due_places t new ≡ [] → later ≡ steps)
+            → ((x : Slot K) → EachIndex (due_places t new) (λ i. StandsIn key_of fits d (λ key. kept_of d.lateness sources key journal) (λ key. marks_of d.lateness sources key journal) (get_or t.slots.items (get_or (due_places t new) i 0) x)) → AreWithin x)
+            → IsMoveWithin bounds shard e steps later
+        moved_within idle all =
+            ⊎_elim
+            (λ some. let first : IsDuePlace (get_or (due_places t new) 0 0) = due_at 0 some in
+            let x : Slot K = any_slot t.slots.items (omega (arith, c.placed first.key (get_or (due_places t new) 0 0) first.at)) in
+            let m : AreWithin x = all x (due_stand x) in
+            record {
+              due = beside entries m.most;
+              each_once = subst (IsStrictlySortedBy (slice_cmp nat_cmp)) (sym (keys_beside entries m.most (as_many x m))) (keys_of_filtered (λ (f : List ℕ × ℕ). nat_le (get_or t.dues.items f.1 0) new) t.index c.in_order);
+              each_due = all_beside (IsDueBy bounds shard e) entries m.most (as_many x m) (one_due x m);
+              within = omega (arith, m.within, sum_beside entries m.most (as_many x m));
+            })
+            (λ few. subst (IsMoveWithin bounds shard e steps) (sym (idle (no_length (due_places t new) few))) (none_is_due bounds shard e steps))
+            (cases_lt 0 (length (due_places t new)))
 
 -- ---- the table
 module _ {K : Type 0} (key_of : K → List ℕ) (fits : Definitions → List Kept → List ℕ → ℕ → K → Type 0) (next_position : K → ℕ) (d : Definitions) (sources : ℕ) (journal : List Entry) where

@@ -6,7 +6,7 @@ use Rattle.std.specs.Str.{bytes_eq}
 use Rattle.std.proofs.lemmas.Bool.Decides.{nat_tests}
 use Rattle.std.proofs.lemmas.Bool.{false_from_ne_true, le-ltb}
 use Rattle.key_windows.specs.Calls.{changes_by_mark, changes_by_put, kept_at, moment}
-use Rattle.key_windows.specs.Dues.{IsQuiet}
+use Rattle.key_windows.specs.Dues.{IsDueNumber}
 use Rattle.stream_base.specs.Limits.{AreWithinLimits, Definitions}
 use Rattle.stream_base.specs.declared.entry.Entry.{Entry}
 use Rattle.stream_base.specs.declared.kept.Kept.{Kept}
@@ -127,8 +127,8 @@ mark_alike bounds s e key other time later old new is so w =
 
 -- ---- the table
 module _ {K : Type 0} (key_of : K → List ℕ) (fits : Definitions → List Kept → List ℕ → ℕ → K → Type 0) (next_position : K → ℕ) (d : Definitions) (sources : ℕ) (journal : List Entry) (e : Entry) (key : List ℕ) (keyed : key_in e.what ≡ Some key) where
-  -- where the slot of the entry's key is that of the longer journal, and quiet up to its due number, so is the table
-  pub quiet_table : (old new : KeyTable K) (p : ℕ) (slot new_slot : Slot K) (due : ℕ)
+  -- where the slot of the entry's key is that of the longer journal, and its due number is one there, so is the table
+  pub numbered_table : (old new : KeyTable K) (p : ℕ) (slot new_slot : Slot K) (due : ℕ)
       → AreCurrent key_of fits next_position d sources journal old
       → place_of old key ≡ Some p
       → slot ≡ get_or old.slots.items p slot
@@ -140,9 +140,9 @@ module _ {K : Type 0} (key_of : K → List ℕ) (fits : Definitions → List Kep
       → new_slot.water ≡ slot.water
       → next_position new_slot.state ≤ length journal + 1
       → (fits d (kept_of d.lateness sources key journal) (marks_of d.lateness sources key journal) slot.water slot.state → fits d (kept_of d.lateness sources key (journal ++ e ∷ [])) (marks_of d.lateness sources key (journal ++ e ∷ [])) new_slot.water new_slot.state)
-      → (fits d (kept_of d.lateness sources key (journal ++ e ∷ [])) (marks_of d.lateness sources key (journal ++ e ∷ [])) new_slot.water new_slot.state → IsQuiet fits d key (kept_of d.lateness sources key (journal ++ e ∷ [])) (marks_of d.lateness sources key (journal ++ e ∷ [])) new_slot.water new_slot.state due)
+      → (fits d (kept_of d.lateness sources key (journal ++ e ∷ [])) (marks_of d.lateness sources key (journal ++ e ∷ [])) new_slot.water new_slot.state → IsDueNumber fits d key (kept_of d.lateness sources key (journal ++ e ∷ [])) (marks_of d.lateness sources key (journal ++ e ∷ [])) new_slot.water new_slot.state due)
       → AreCurrent key_of fits next_position d sources (journal ++ e ∷ []) new
-  quiet_table old new p slot new_slot due c at there w index slots dues same_key same_water next stands quiet =
+  numbered_table old new p slot new_slot due c at there w index slots dues same_key same_water next stands number =
       let was : IsCurrent key_of fits next_position d sources journal key slot (get_or old.dues.items p 0) = current_at key_of fits next_position d sources journal old key p slot c at there in
       let own : key_of new_slot.state ≡ key = same_key ∙ was.of_key in
       let still : water_of sources (journal ++ e ∷ []) ≡ water_of sources journal = water_of_keyed sources journal e key keyed in
@@ -156,7 +156,7 @@ module _ {K : Type 0} (key_of : K → List ℕ) (fits : Definitions → List Kep
         is_water = rw same_water was.is_water;
         past = omega (arith, same_water, w, still);
         not_due = inl (same_water ∙ w ∙ sym still);
-        quiet = quiet now;
+        number = number now;
       })
 
   -- and where the due number is one for whatever lists the slot stands for
@@ -172,9 +172,9 @@ module _ {K : Type 0} (key_of : K → List ℕ) (fits : Definitions → List Kep
       → new_slot.water ≡ slot.water
       → next_position new_slot.state ≤ length journal + 1
       → (fits d (kept_of d.lateness sources key journal) (marks_of d.lateness sources key journal) slot.water slot.state → fits d (kept_of d.lateness sources key (journal ++ e ∷ [])) (marks_of d.lateness sources key (journal ++ e ∷ [])) new_slot.water new_slot.state)
-      → ((kept : List Kept) (marks : List ℕ) → fits d kept marks new_slot.water new_slot.state → IsQuiet fits d (key_of new_slot.state) kept marks new_slot.water new_slot.state due)
+      → ((kept : List Kept) (marks : List ℕ) → fits d kept marks new_slot.water new_slot.state → IsDueNumber fits d (key_of new_slot.state) kept marks new_slot.water new_slot.state due)
       → AreCurrent key_of fits next_position d sources (journal ++ e ∷ []) new
-  keyed_table old new p slot new_slot due c at there w index slots dues same_key same_water next stands quiet =
+  keyed_table old new p slot new_slot due c at there w index slots dues same_key same_water next stands number =
       let own : key_of new_slot.state ≡ key = same_key ∙ (current_at key_of fits next_position d sources journal old key p slot c at there).of_key in
-      quiet_table old new p slot new_slot due c at there w index slots dues same_key same_water next stands
-      (λ now. subst (λ l. IsQuiet fits d l (kept_of d.lateness sources key (journal ++ e ∷ [])) (marks_of d.lateness sources key (journal ++ e ∷ [])) new_slot.water new_slot.state due) own (quiet (kept_of d.lateness sources key (journal ++ e ∷ [])) (marks_of d.lateness sources key (journal ++ e ∷ [])) now))
+      numbered_table old new p slot new_slot due c at there w index slots dues same_key same_water next stands
+      (λ now. subst (λ l. IsDueNumber fits d l (kept_of d.lateness sources key (journal ++ e ∷ [])) (marks_of d.lateness sources key (journal ++ e ∷ [])) new_slot.water new_slot.state due) own (number (kept_of d.lateness sources key (journal ++ e ∷ [])) (marks_of d.lateness sources key (journal ++ e ∷ [])) now))

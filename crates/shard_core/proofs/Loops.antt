@@ -3,16 +3,17 @@ use Rattle.std.proofs.Common.{◌≡◌, ◌∙◌, ◌≢◌, ◌≤◌, ◌<�
 use Rattle.std.specs.Prelude.{EachIndex, sum_by}
 use Rattle.std.specs.List.{HoldsAt, flat_map}
 use Rattle.std.proofs.lemmas.Bool.{cases_eq}
-use Rattle.std.proofs.lemmas.List.{append-nil, take_more}
+use Rattle.std.proofs.lemmas.List.{append-nil, get_or_append_left, get_or_push, length-append, take_more}
 use Rattle.std.proofs.lemmas.List.Concat.{flat_map-append}
-use Rattle.std.proofs.lemmas.List.Sums.{sum_by-cons, sum_by-drop_more, sum_by_more}
+use Rattle.std.proofs.lemmas.List.Sums.{sum_by-cons, sum_by-drop_more, sum_by_more, sum_by_push}
 use Rattle.key_windows.specs.Calls.Call.{Move}
 use Rattle.key_windows.specs.Calls.{Call, changes_by_move}
 use Rattle.stream_base.specs.Limits.{Definitions}
 use Rattle.stream_base.specs.declared.change.Change.{Change}
 use Rattle.stream_base.specs.declared.kept.Kept.{Kept}
+use Rattle.stream_base.specs.Model.Changes.{Moment}
 use Rattle.shard_core.specs.declared.slot.Slot.{Slot}
-use Rattle.shard_core.specs.Engines.{AreApart, AreSameSlots, HasLists, IsMovedSlot, IsSameElsewhere, IsSameSlot, StandsIn, moves_of}
+use Rattle.shard_core.specs.Engines.{AreApart, AreMovedWithin, AreSameSlots, BoundsMove, HasLists, IsMovedSlot, IsSameElsewhere, IsSameSlot, StandAt, StandsIn, moves_of}
 
 -- ---- sums and lists over the first places
 sum_same : (f g : ℕ → ℕ) (places : List ℕ) (i : ℕ) → i ≤ length places → ((j : ℕ) → j < i → g (get_or places j 0) ≡ f (get_or places j 0)) → sum_by g (take i places) ≡ sum_by f (take i places)
@@ -143,3 +144,41 @@ module _ {K : Type 0} (key_of : K → List ℕ) (fits : Definitions → List Kep
             ∙ (λ k. m.changes x kept marks each k ++ moves_of key_of d kept marks new (untouched x k))
             ∙ append_assoc start_out (flat_map (λ p. moves_of key_of d kept marks new (get_or start p x)) (take i places)) (moves_of key_of d kept marks new (get_or start (get_or places i 0) x))
             ∙ ap (λ ys. start_out ++ ys) (sym (flat_more (λ p. moves_of key_of d kept marks new (get_or start p x)) places i l))
+
+-- ---- what the moves take
+module _ {K : Type 0} (bounds : Definitions → List ℕ → Moment → Moment → ℕ → Type 0) (key_of : K → List ℕ) (d : Definitions) (kept : List ℕ → List Kept) (marks : List ℕ → List ℕ) (new : ℕ) (start : List (Slot K)) (x : Slot K) (places : List ℕ) where
+  pub none_moved_within : (steps : ℕ) → AreMovedWithin bounds key_of d kept marks new start x places 0 steps steps
+  none_moved_within steps = record { most = []; as_many = refl; are_bounds = λ j l. absurd (omega arith); within = omega arith }
+
+  pub one_moved_within : (i : ℕ) (old : List (Slot K)) (steps middle later : ℕ) → get_or old (get_or places i 0) x ≡ get_or start (get_or places i 0) x
+      → AreMovedWithin bounds key_of d kept marks new start x places i steps middle
+      → (bound : ℕ) × BoundsMove bounds key_of d kept marks new (get_or old (get_or places i 0) x) bound × (later ≤ middle + bound)
+      → AreMovedWithin bounds key_of d kept marks new start x places (i + 1) steps later
+  one_moved_within i old steps middle later same m b = record {
+    most = m.most ++ b.0 ∷ [];
+    as_many = length-append m.most (b.0 ∷ []) ∙ ap (λ n. n + 1) m.as_many;
+    are_bounds = λ j l. ⊎_elim
+        (λ e. subst (λ k. BoundsMove bounds key_of d kept marks new (get_or start (get_or places k 0) x) (get_or (m.most ++ b.0 ∷ []) k 0)) (sym e)
+        (subst (BoundsMove bounds key_of d kept marks new (get_or start (get_or places i 0) x)) (sym (get_or_push m.most b.0 0 i m.as_many))
+        (subst (λ slot. BoundsMove bounds key_of d kept marks new slot b.0) same b.1)))
+        (λ ne. let before : j < i = omega (arith, l, ne) in
+        subst (BoundsMove bounds key_of d kept marks new (get_or start (get_or places j 0) x)) (sym (get_or_append_left m.most (b.0 ∷ []) 0 j (omega (arith, before, m.as_many)))) (m.are_bounds j before))
+        (cases_eq j i);
+    within = omega (arith, sum_by_push (λ n. n) m.most b.0, m.within, b.2);
+  }
+
+-- ---- slots that were caught up
+pub one_caught_up : {K : Type 0} (water : ℕ) (old later : List (Slot K)) (places : List ℕ) (i : ℕ) → StandAt water old places i → IsSameElsewhere old later (get_or places i 0)
+    → HoldsAt (λ slot. slot.water ≡ water) later (get_or places i 0) → StandAt water later places (i + 1)
+one_caught_up water old later places i stand others own = λ j l x. ⊎_elim
+    (λ e. subst (λ p. (get_or later p x).water ≡ water) (sym e) (own x))
+    (λ ne. ap (λ (s : Slot _). s.water) (others (get_or places j 0) x ne) ∙ stand j (before j l ne) x)
+    (cases_eq (get_or places j 0) (get_or places i 0))
+  where
+    before : (j : ℕ) → j < i + 1 → get_or places j 0 ≢ get_or places i 0 → j < i
+    before j l ne = ⊎_elim (λ e. absurd (ne (ap (λ k. get_or places k 0) e))) (λ no. omega (arith, l, no)) (cases_eq j i)
+
+-- slots that stand for the same do so under the same watermarks
+pub still_stand : {K : Type 0} (key_of : K → List ℕ) (fits : Definitions → List Kept → List ℕ → ℕ → K → Type 0) (next_position : K → ℕ) (d : Definitions) (water : ℕ) (old new : List (Slot K)) (places : List ℕ) (count : ℕ)
+    → AreSameSlots key_of fits next_position d old new → StandAt water old places count → StandAt water new places count
+still_stand key_of fits next_position d water old new places count same stand = λ i l x. (same.each_same (get_or places i 0) x).same_water ∙ stand i l x

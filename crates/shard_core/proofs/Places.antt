@@ -11,7 +11,7 @@ use Rattle.std.proofs.lemmas.Bool.Decides.{eqb_tells}
 use Rattle.std.proofs.lemmas.List.{get_or_append_left, get_or_push}
 use Rattle.std.proofs.lemmas.Map.Text.{is_eq-slice_cmp}
 use Rattle.key_windows.specs.Calls.{IsWater}
-use Rattle.key_windows.specs.Dues.{IsQuiet}
+use Rattle.key_windows.specs.Dues.{IsDueNumber}
 use Rattle.stream_base.specs.Limits.{Definitions}
 use Rattle.stream_base.specs.declared.entry.Entry.{Entry}
 use Rattle.stream_base.specs.declared.kept.Kept.{Kept}
@@ -68,9 +68,9 @@ module _ {K : Type 0} (key_of : K → List ℕ) (fits : Definitions → List Kep
       → fits d [] [] slot.water slot.state
       → slot.water ≡ water_of sources journal
       → IsWater slot.water
-      → IsQuiet fits d key [] [] slot.water slot.state due
+      → IsDueNumber fits d key [] [] slot.water slot.state due
       → AreCurrent key_of fits next_position d sources journal new
-  added old new key slot due c absent index ordered len slots dues of_key first empty water is_water quiet = record {
+  added old new key slot due c absent index ordered len slots dues of_key first empty water is_water number = record {
     in_order = ordered;
     aligned = ap length dues ∙ length-append old.dues.items (due ∷ []) ∙ ap (λ n. n + 1) c.aligned ∙ sym (ap length slots ∙ length-append old.slots.items (slot ∷ []));
     counted = ap length slots ∙ length-append old.slots.items (slot ∷ []) ∙ ap (λ n. n + 1) c.counted ∙ sym len;
@@ -106,7 +106,7 @@ module _ {K : Type 0} (key_of : K → List ℕ) (fits : Definitions → List Kep
             is_water = is_water;
             past = omega (arith, water);
             not_due = inl water;
-            quiet = rw (kept, marks, ← own) quiet;
+            number = rw (kept, marks, ← own) number;
           })
       current q p x false is at =
           let small : p < length old.slots.items = c.placed q p at in
@@ -140,7 +140,7 @@ module _ {K : Type 0} (key_of : K → List ℕ) (fits : Definitions → List Kep
     is_water = c.is_water;
     past = rw water c.past;
     not_due = rw water c.not_due;
-    quiet = rw (same.kept, same.marks) c.quiet;
+    number = rw (same.kept, same.marks) c.number;
   }
 
   -- one slot changed, and nothing of any other key
@@ -211,8 +211,11 @@ module _ {K : Type 0} (key_of : K → List ℕ) (fits : Definitions → List Kep
         is_water = rw same.same_water c.is_water;
         past = omega (arith, same.same_water, c.past);
         not_due = rw same.same_water c.not_due;
-        quiet = rw same.same_water (record {
-          nothing_changes = c.quiet.nothing_changes;
-          waits = λ later is further early. same.still_fits kept marks later (c.quiet.waits later is further early);
+        number = rw same.same_water (record {
+          quiet = record {
+            nothing_changes = c.number.quiet.nothing_changes;
+            waits = λ later is further early. same.still_fits kept marks later (c.number.quiet.waits later is further early);
+          };
+          exact = c.number.exact;
         });
       }

@@ -1,13 +1,20 @@
 -- What a tuple or mark takes in a shard whose keys keep their tuples in slices, by the changes that it makes and the slices of its key.
-use Rattle.std.specs.Prelude.{◌≡◌, ◌≤◌, ◌+◌, ◌*◌, ◌^◌, ◌++◌, ℕ, ℤ, false, List, [], ◌∷◌, filter, length}
+use Rattle.std.specs.Prelude.{◌≡◌, ◌≤◌, ◌+◌, ◌*◌, ◌^◌, ◌++◌, ℕ, ℤ, false, true, All, List, [], ◌∷◌, filter, length, map, sum_by}
+use Rattle.std.specs.Cmp.Lexicographic.{slice_cmp}
+use Rattle.std.specs.List.Sorted.{IsStrictlySortedBy}
+use Rattle.std.specs.Ordering.{nat_cmp}
 use Rattle.stream_base.specs.declared.entry.Entry.{Entry}
 use Rattle.stream_base.specs.declared.kept.Kept.{Kept}
 use Rattle.stream_base.specs.declared.what.What.TheVariants.{Tuple, Mark}
 use Rattle.stream_base.specs.Model.Changes.{changes_after, moment_of}
 use Rattle.stream_base.specs.Model.Cuts.{has_cut}
+use Rattle.stream_base.specs.Model.Journal.{kept_of, marks_of}
+use Rattle.stream_base.specs.Model.Watermark.{water_of}
+use Rattle.stream_base.specs.Model.What.{is_progress}
 use Rattle.slice_lists.specs.Touched.{is_across, is_near}
 use Rattle.slice_lists.specs.Slices.{joined}
-use Rattle.key_slicer.specs.Work.{counting_work, slices_gone}
+use Rattle.key_windows.specs.Calls.{BringsMore}
+use Rattle.key_slicer.specs.Work.{counting_work, move_over, slices_gone}
 use Rattle.shard_core.specs.Shard.{Sharded, sharded_with, slices_after}
 use Rattle.shard_core.specs.Work.{comes_late}
 
@@ -53,3 +60,24 @@ IsMarkWithinFolds s e old new =
     → (height : ℕ) × IsHeightOver s key height
     × (new ≤ old + (folds_of s e height + tuples_across s key time + steps_of_counts s e key
     + 64 * (height + 3) * slices_gone time (slices_in s key) (slices_in (sharded_with s e) key)))
+
+-- the most that a word on progress takes for a key that has something due, over a tree of this height: what its windows take for each slice and each row, and one fold for each slice that leaves
+abbrev pub steps_of_move : Sharded → Entry → List ℕ → ℕ → ℕ
+steps_of_move s e key height =
+    move_over s.defs key (moment_of s.defs s.sources key s.journal) (moment_of s.defs s.sources key (s.journal ++ e ∷ [])) (slices_in s key) (slices_in (sharded_with s e) key) height
+
+-- of a key something becomes complete or settled by an entry, and this is a height of a tree over its slices
+pub record IsDueOver (s : Sharded) (e : Entry) (key : List ℕ) (height : ℕ) : Type 0 where
+  pub brings : BringsMore s.defs key (kept_of s.defs.lateness s.sources key s.journal) (marks_of s.defs.lateness s.sources key s.journal) (water_of s.sources s.journal) (water_of s.sources (s.journal ++ e ∷ []))
+  pub is_height : IsHeightOver s key height
+
+-- the steps rise by no more than the sum of that over keys of which something is due, each once and with a height
+pub record IsMoveWithinFolds (s : Sharded) (e : Entry) (old new : ℕ) : Type 0 where
+  pub due : List (List ℕ × ℕ)
+  pub each_once : IsStrictlySortedBy (slice_cmp nat_cmp) (map (λ k. k.0) due)
+  pub each_due : All (λ k. IsDueOver s e k.0 k.1) due
+  pub within : new ≤ old + sum_by (λ k. steps_of_move s e k.0 k.1) due
+
+-- so they do at a word on the progress of a source
+abbrev pub IsProgressWithinFolds : Sharded → Entry → ℕ → ℕ → Type 0
+IsProgressWithinFolds s e old new = is_progress e.what ≡ true → IsMoveWithinFolds s e old new

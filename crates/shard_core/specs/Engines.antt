@@ -1,8 +1,8 @@
 -- What the table of keys keeps of each key.
-use Rattle.std.specs.Prelude.{◌≡◌, ◌≤◌, ◌<◌, ◌⊎◌, ℕ, List, [], ◌∷◌, ◌++◌, Option, None, Some, ◌+◌, Result, OnOk, OnErr, length, slice_index, slice_index_or, ◌≢◌, EachIndex, nat_le}
+use Rattle.std.specs.Prelude.{◌≡◌, ◌≤◌, ◌<◌, ◌⊎◌, ℕ, List, [], ◌∷◌, ◌++◌, Option, None, Some, ◌+◌, Result, OnOk, OnErr, length, slice_index, slice_index_or, sum_by, ◌≢◌, EachIndex, nat_le}
 use Rattle.std.specs.Map.{values_of}
-use Rattle.key_windows.specs.Calls.{Call, IsWater, changes_by_move}
-use Rattle.key_windows.specs.Dues.{IsQuiet}
+use Rattle.key_windows.specs.Calls.{Call, IsWater, changes_by_move, moment}
+use Rattle.key_windows.specs.Dues.{IsDueNumber}
 use Rattle.key_windows.specs.Calls.Call.{Move}
 use Rattle.std.specs.List.{HoldsAt, filter}
 use Rattle.stream_base.specs.Limits.{Definitions}
@@ -10,7 +10,7 @@ use Rattle.stream_base.specs.declared.change.Change.{Change}
 use Rattle.stream_base.specs.declared.entry.Entry.{Entry}
 use Rattle.stream_base.specs.declared.kept.Kept.{Kept}
 use Rattle.stream_base.specs.declared.limits.TheConstants.{TIME_MAX}
-use Rattle.stream_base.specs.Model.Changes.{changes_after}
+use Rattle.stream_base.specs.Model.Changes.{Moment, changes_after}
 use Rattle.stream_base.specs.Model.Journal.{kept_of, marks_of}
 use Rattle.stream_base.specs.Model.Watermark.{water_of}
 use Rattle.shard_core.specs.Placed.{AreByKey, place_in}
@@ -77,7 +77,7 @@ module _ {K : Type 0} (key_of : K → List ℕ) (fits : Definitions → List Kep
     pub is_water : IsWater slot.water
     pub past : slot.water ≤ water_of sources journal
     pub not_due : (slot.water ≡ water_of sources journal) ⊎ (water_of sources journal < due)
-    pub quiet : IsQuiet fits d key (kept_of d.lateness sources key journal) (marks_of d.lateness sources key journal) slot.water slot.state due
+    pub number : IsDueNumber fits d key (kept_of d.lateness sources key journal) (marks_of d.lateness sources key journal) slot.water slot.state due
 
   -- each key with a place is current there, and nothing is kept of any other
   pub record AreCurrent (t : KeyTable K) : Type 0 where
@@ -149,13 +149,13 @@ module _ {K : Type 0} (key_of : K → List ℕ) (fits : Definitions → List Kep
     pub as_many : length new ≡ length old
     pub each_same : (p : ℕ) (x : Slot K) → IsSameSlot key_of fits next_position d (slice_index_or old p x) (slice_index_or new p x)
 
-  -- a state was moved to a watermark, and nothing is due of it up to its due number
+  -- a state was moved to a watermark, and its due number is told anew
   pub record IsMovedSlot (water : ℕ) (old new : Slot K) (due : ℕ) : Type 0 where
     pub same_key : key_of new.state ≡ key_of old.state
     pub same_next : next_position new.state ≡ next_position old.state
     pub moved : new.water ≡ water
     pub still_fits : (kept : List Kept) (marks : List ℕ) → fits d kept marks old.water old.state → fits d kept marks new.water new.state
-    pub quiet : (kept : List Kept) (marks : List ℕ) → fits d kept marks new.water new.state → IsQuiet fits d (key_of new.state) kept marks new.water new.state due
+    pub number : (kept : List Kept) (marks : List ℕ) → fits d kept marks new.water new.state → IsDueNumber fits d (key_of new.state) kept marks new.water new.state due
 
 -- a slot stands for what is kept of its key
 abbrev pub StandsIn : {K : Type 0} → (K → List ℕ) → (Definitions → List Kept → List ℕ → ℕ → K → Type 0) → Definitions → (List ℕ → List Kept) → (List ℕ → List ℕ) → Slot K → Type 0
@@ -164,6 +164,26 @@ StandsIn key_of fits d kept marks slot = fits d (kept (key_of slot.state)) (mark
 -- what the move of a slot to a watermark changes
 abbrev pub moves_of : {K : Type 0} → (K → List ℕ) → Definitions → (List ℕ → List Kept) → (List ℕ → List ℕ) → ℕ → Slot K → List Change
 moves_of key_of d kept marks new slot = changes_by_move d (key_of slot.state) (kept (key_of slot.state)) (marks (key_of slot.state)) slot.water new
+
+-- a number bounds what the move of a slot to a watermark takes
+abbrev pub BoundsMove : {K : Type 0} → (Definitions → List ℕ → Moment → Moment → ℕ → Type 0) → (K → List ℕ) → Definitions → (List ℕ → List Kept) → (List ℕ → List ℕ) → ℕ → Slot K → ℕ → Type 0
+BoundsMove bounds key_of d kept marks new slot most =
+    bounds d (key_of slot.state) (moment (kept (key_of slot.state)) (marks (key_of slot.state)) slot.water) (moment (kept (key_of slot.state)) (marks (key_of slot.state)) new) most
+
+-- the moves of the slots at the first so many places took no more than the sum of such numbers
+pub record AreMovedWithin {K : Type 0} (bounds : Definitions → List ℕ → Moment → Moment → ℕ → Type 0) (key_of : K → List ℕ) (d : Definitions) (kept : List ℕ → List Kept) (marks : List ℕ → List ℕ) (new : ℕ) (slots : List (Slot K)) (x : Slot K) (places : List ℕ) (count steps later : ℕ) : Type 0 where
+  pub most : List ℕ
+  pub as_many : length most ≡ count
+  pub are_bounds : (i : ℕ) → i < count → BoundsMove bounds key_of d kept marks new (slice_index_or slots (slice_index places i) x) (slice_index most i)
+  pub within : later ≤ steps + sum_by (λ n. n) most
+
+-- each of these places is that of a key
+abbrev pub ArePlaces : {K : Type 0} → KeyTable K → List ℕ → Type 0
+ArePlaces t places = EachIndex places (λ i. (key : List ℕ) × (place_of t key ≡ Some (slice_index places i)))
+
+-- the slots at the first so many places stand under a watermark
+abbrev pub StandAt : {K : Type 0} → ℕ → List (Slot K) → List ℕ → ℕ → Type 0
+StandAt water slots places count = (i : ℕ) → i < count → HoldsAt (λ slot. slot.water ≡ water) slots (slice_index places i)
 
 -- these are places of the slots, each once, and each slot there stands for some lists, under no later watermark than this one
 pub record AreMovable {K : Type 0} (fits : Definitions → List Kept → List ℕ → ℕ → K → Type 0) (d : Definitions) (slots : List (Slot K)) (places : List ℕ) (water : ℕ) : Type 0 where

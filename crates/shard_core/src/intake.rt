@@ -4,7 +4,7 @@ ghost use Rattle.stream_base.specs.Model.What.{is_progress};
 ghost use Rattle.shard_core.specs.Engines.{MayCome, TakesIn};
 ghost use Rattle.shard_core.specs.Flat.{sharded};
 ghost use Rattle.shard_core.specs.Told.{IsSettled};
-ghost use Rattle.shard_core.specs.Work.{IsMarkWithin, IsStill, IsTupleWithin, comes_late};
+ghost use Rattle.shard_core.specs.Work.{IsMarkWithin, IsMoveWithin, IsProgressWithin, IsStill, IsTupleWithin, comes_late};
 
 use crate::keys::KeyTable;
 use crate::past::Past;
@@ -37,6 +37,8 @@ impl<K: KeyWindows> KeyTable<K> {
             steps.old steps.new) }
         ensures mark_work { OnOk result (IsMarkWithin K.bounds_mark (sharded past.now) entry.now
             steps.old steps.new) }
+        ensures move_work { OnOk result (IsProgressWithin K.bounds_move (sharded past.now)
+            entry.now steps.old steps.new) }
         ensures late_work { comes_late (sharded past.now) entry.now ≡ true → steps.new ≡ steps.old }
         ensures still_work { IsStill (sharded past.now) entry.now → steps.new ≡ steps.old }
     {
@@ -72,6 +74,8 @@ impl<K: KeyWindows> KeyTable<K> {
         ensures settled { IsSettled told.new }
         ensures taken { TakesIn K.key_of K.fits K.next_position past.now entry.now result
             self.new told.old.log.items told.new.log.items steps.old steps.new }
+        ensures move_work { OnOk result (IsMoveWithin K.bounds_move (sharded past.now) entry.now
+            steps.old steps.new) }
         ensures still_work { IsStill (sharded past.now) entry.now → steps.new ≡ steps.old }
     {
         let new = past.water_after(entry);

@@ -4,7 +4,7 @@ ghost use Rattle.stream_base.specs.declared.entry.Entry.{Entry};
 ghost use Rattle.stream_base.specs.declared.limits.TheConstants.{JOURNAL_MAX};
 ghost use Rattle.stream_base.specs.declared.what.What.TheVariants.{Tuple, Mark};
 ghost use Rattle.stream_base.specs.Model.Watermark.{water_of};
-ghost use Rattle.shard_core.specs.Engines.{IsTableOf, MayTake, TakesIn, place_of};
+ghost use Rattle.shard_core.specs.Engines.{ArePlaces, HasSameDues, IsSameElsewhere, IsTableOf, MayTake, StandAt, TakesIn, place_of};
 ghost use Rattle.shard_core.specs.Flat.{sharded};
 ghost use Rattle.shard_core.specs.Told.{IsSettled};
 ghost use Rattle.shard_core.specs.Work.{IsTakenWithin};
@@ -96,10 +96,26 @@ impl<K: KeyWindows> KeyTable<K> {
         requires place { (key : List ℕ) × (place_of self.old key ≡ Some place) }
         ensures current { IsTableOf K.key_of K.fits K.next_position past.now self.new }
         ensures index { self.new.index ≡ self.old.index }
+        ensures dues { self.new.dues ≡ self.old.dues }
+        ensures others { IsSameElsewhere self.old.slots.items self.new.slots.items place }
         ensures water { HoldsAt (λ slot. slot.water
             ≡ water_of past.now.sources past.now.journal) self.new.slots.items place }
     {
         self.slots[place].water = past.water();
+    }
+
+    // Notes the same of the states at these places.
+    pub fn catch_up_all(&mut self, past: &Past, places: &[usize])
+        requires current { IsTableOf K.key_of K.fits K.next_position past.now self.old }
+        requires places { ArePlaces self.old places.now }
+        ensures current { IsTableOf K.key_of K.fits K.next_position past.now self.new }
+        ensures table { HasSameDues self.old self.new }
+        ensures water { StandAt (water_of past.now.sources past.now.journal)
+            self.new.slots.items places.now (length places.now) }
+    {
+        for place in places {
+            self.catch_up(past, *place);
+        }
     }
 
     // The place of a key whose state stands under the watermark of the past. It takes memory only

@@ -4,8 +4,10 @@ ghost use Rattle.key_windows.specs.Calls.{IsWater, changes_by_move};
 ghost use Rattle.stream_base.specs.declared.kept.Kept.{Kept};
 ghost use Rattle.stream_base.specs.Model.What.{is_progress};
 ghost use Rattle.stream_base.specs.Model.Watermark.{water_of};
-ghost use Rattle.shard_core.specs.Engines.{AreMovable, AreSameSlots, CanMove, HasSameDues, HasSamePlaces, IsMovedSlot, IsSameElsewhere, IsSameOutside, IsSameSlot, IsTableOf, MayMoveAt, SlotFits, StandsIn, TakesIn, due_places, moves_of};
+ghost use Rattle.shard_core.specs.Engines.{AreMovable, AreMovedWithin, AreSameSlots, BoundsMove, CanMove, HasSameDues, HasSamePlaces, IsMovedSlot, IsSameElsewhere, IsSameOutside, IsSameSlot, IsTableOf, MayMoveAt, SlotFits, StandsIn, TakesIn, due_places, moves_of};
+ghost use Rattle.shard_core.specs.Flat.{sharded};
 ghost use Rattle.shard_core.specs.Told.{IsSettled, spare_of};
+ghost use Rattle.shard_core.specs.Work.{IsMoveWithin};
 
 use crate::keys::KeyTable;
 use crate::past::Past;
@@ -18,7 +20,8 @@ use stream_base::{Defs, Entry, NoMemory};
 
 impl<K: KeyWindows> KeyTable<K> {
     // Moves the states that are due on to a watermark, the one behind an entry that says a word on
-    // the progress of its source; or does nothing.
+    // the progress of its source; or does nothing. Of all other keys nothing is due then, and they
+    // take no step.
     pub fn advance<L>(
         &mut self,
         alloc: Global,
@@ -36,10 +39,13 @@ impl<K: KeyWindows> KeyTable<K> {
         ensures settled { IsSettled told.new }
         ensures taken { TakesIn K.key_of K.fits K.next_position past.now entry.now result
             self.new told.old.log.items told.new.log.items steps.old steps.new }
+        ensures work { OnOk result (IsMoveWithin K.bounds_move (sharded past.now) entry.now
+            steps.old steps.new) }
     {
         let defs = past.defs();
         let due = self.due_places(alloc, new)?;
         let places = due.as_slice();
+        self.catch_up_all(past, places);
         let room = self.reserve_moves(defs, places, new)?;
         told.reserve(room as usize)?;
         self.move_all(defs, places, new, told, steps);
@@ -102,6 +108,12 @@ impl<K: KeyWindows> KeyTable<K> {
             kept marks (slice_index_or self.old.slots.items place x).water new }
         ensures added { HoldsAt (λ slot. spare_of told.old
             ≤ spare_of told.new + K.promised slot.state) self.old.slots.items place }
+        ensures bound { (x : Slot K) (kept : List ℕ → List Kept) (marks : List ℕ → List ℕ)
+            → StandsIn K.key_of K.fits defs.now kept marks
+            (slice_index_or self.old.slots.items place x) → (bound : ℕ)
+            × BoundsMove K.bounds_move K.key_of defs.now kept marks new
+            (slice_index_or self.old.slots.items place x) bound
+            × (steps.new ≤ steps.old + bound) }
     {
         self.slots[place].move_to(defs, new, place, told, steps);
         self.dues.set(place, self.slots[place].due(defs));
@@ -162,6 +174,12 @@ impl<K: KeyWindows> KeyTable<K> {
             → told.new.log.items ≡ told.old.log.items
             ++ flat_map (λ p. moves_of K.key_of defs.now kept marks new
             (slice_index_or self.old.slots.items p x)) places.now }
+        ensures idle { places.now ≡ [] → steps.new ≡ steps.old }
+        ensures bound { (x : Slot K) (kept : List ℕ → List Kept) (marks : List ℕ → List ℕ)
+            → EachIndex places.now (λ i. StandsIn K.key_of K.fits defs.now kept marks
+            (slice_index_or self.old.slots.items (slice_index places.now i) x))
+            → AreMovedWithin K.bounds_move K.key_of defs.now kept marks new self.old.slots.items x
+            places.now (length places.now) steps.old steps.new }
     {
         for place in places {
             self.move_at(defs, *place, new, told, steps);

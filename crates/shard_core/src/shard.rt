@@ -6,7 +6,7 @@ ghost use Rattle.stream_base.specs.Model.Watermark.{has_ended};
 ghost use Rattle.shard_core.specs.Applying.{Applies};
 ghost use Rattle.shard_core.specs.Flat.{joined, start_at};
 ghost use Rattle.shard_core.specs.Shard.{AreSources, IsJournal, IsKnown, IsNext, changes_behind, slices_after};
-ghost use Rattle.shard_core.specs.Work.{IsMarkWithin, IsTupleWithin};
+ghost use Rattle.shard_core.specs.Work.{IsMarkWithin, IsProgressWithin, IsTupleWithin};
 
 use crate::applied::{Applied, ApplyFault};
 use crate::keys::KeyTable;
@@ -70,12 +70,13 @@ impl<K: KeyWindows> KeyedShard<K> {
     /// Appends an entry, and under it the changes that it causes. It takes all its memory first.
     ///
     /// The steps of a tuple or mark that isn't late stay within a bound of the engine's, by what is
-    /// kept of the key before and behind the entry. A late or refused entry takes none, nor does a
-    /// word on progress that leaves the watermark as it is.
+    /// kept of the key before and behind the entry. Those of a word on progress stay within the sum of
+    /// such bounds over the keys of which something becomes complete or settled by it: all others cost
+    /// nothing. A late or refused entry takes none, nor does a word that leaves the watermark as it is.
     pub fn apply<L>(&mut self, entry: &Entry, steps: &mut Steps<L>) -> Result<Applied, ApplyFault>
         requires { IsKnown self.old.sources entry.now }
         ensures applies { Applies (IsTupleWithin K.bounds_put) (IsMarkWithin K.bounds_mark)
-            self.old entry.now result self.new steps.old steps.new }
+            (IsProgressWithin K.bounds_move) self.old entry.now result self.new steps.old steps.new }
         ensures ended { IsErrOf result ApplyFault.Ended
             ↔ (has_ended entry.now.source self.old.journal ≡ true) }
         ensures full { IsErrOf result ApplyFault.Full
@@ -95,7 +96,7 @@ impl<K: KeyWindows> KeyedShard<K> {
     fn append<L>(&mut self, entry: &Entry, steps: &mut Steps<L>) -> Result<Applied, NoMemory>
         requires { IsNext self.old.sources self.old.journal entry.now }
         ensures { Applies (IsTupleWithin K.bounds_put) (IsMarkWithin K.bounds_mark)
-            self.old entry.now result self.new steps.old steps.new }
+            (IsProgressWithin K.bounds_move) self.old entry.now result self.new steps.old steps.new }
     {
         self.past.reserve()?;
         self.ends.reserve(1)?;

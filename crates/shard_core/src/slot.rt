@@ -2,7 +2,7 @@ ghost use Rattle.std.specs.Prelude.{◌≡◌, ◌≤◌, ◌<◌, ◌+◌, ◌+
 ghost use Rattle.std.specs.BTreeSet.{insert_key};
 ghost use Rattle.std.specs.Ordering.{nat_cmp};
 ghost use Rattle.key_windows.specs.Calls.{IsWater, changes_by_mark, changes_by_move, changes_by_put, kept_at, moment};
-ghost use Rattle.key_windows.specs.Dues.{IsQuiet, LeavesDue};
+ghost use Rattle.key_windows.specs.Dues.{IsDueNumber};
 ghost use Rattle.stream_base.specs.declared.kept.Kept.{Kept};
 ghost use Rattle.stream_base.specs.declared.limits.TheConstants.{JOURNAL_MAX};
 ghost use Rattle.stream_base.specs.Model.Journal.{put_in_order};
@@ -72,9 +72,13 @@ impl<K: KeyWindows> Slot<K> {
             (moment kept marks (self.old).water)
             (moment (put_in_order kept (kept_at position time value)) marks (self.old).water)
             time bound × (steps.new ≤ steps.old + bound)) }
-        ensures due { IfOk result (λ stays. stays ≡ true
-            → LeavesDue K.fits defs.now (K.key_of (self.old).state) (self.old).water
-            (kept_at position time value) (self.old).state (self.new).state) }
+        ensures due { (kept : List Kept) (marks : List ℕ) (due : ℕ)
+            → SlotFits K.fits defs.now kept marks self.old
+            → IsDueNumber K.fits defs.now (K.key_of (self.old).state) kept marks (self.old).water
+            (self.old).state due → IfOk result (λ stays. stays ≡ true
+            → IsDueNumber K.fits defs.now (K.key_of (self.old).state)
+            (put_in_order kept (kept_at position time value)) marks (self.old).water
+            (self.new).state due) }
     {
         let room = self.state.reserve_put(defs, time, self.water)?;
         told.reserve(room as usize)?;
@@ -165,6 +169,11 @@ impl<K: KeyWindows> Slot<K> {
             ++ changes_by_move defs.now (K.key_of (self.old).state) kept marks
             (self.old).water new }
         ensures added { spare_of told.old ≤ spare_of told.new + K.promised (self.old).state }
+        ensures bound { (kept : List Kept) (marks : List ℕ)
+            → SlotFits K.fits defs.now kept marks self.old → (bound : ℕ)
+            × K.bounds_move defs.now (K.key_of (self.old).state)
+            (moment kept marks (self.old).water) (moment kept marks new) bound
+            × (steps.new ≤ steps.old + bound) }
     {
         let out = &mut told.waiting;
         self.state.water(defs, self.water, new, out, steps);
@@ -172,12 +181,13 @@ impl<K: KeyWindows> Slot<K> {
         self.water = new;
     }
 
-    // Up to which watermark, without it, nothing is due: the state stands there as it is.
+    // Up to which watermark, without it, nothing is due: the state stands there as it is. From there
+    // on something is.
     pub fn due(&self, defs: &Defs) -> u64
         requires stands { HasLists K.fits defs.now self.now }
         requires water { IsWater (self.now).water }
         ensures { (kept : List Kept) (marks : List ℕ) → SlotFits K.fits defs.now kept marks self.now
-            → IsQuiet K.fits defs.now (K.key_of (self.now).state) kept marks (self.now).water
+            → IsDueNumber K.fits defs.now (K.key_of (self.now).state) kept marks (self.now).water
             (self.now).state result }
     {
         self.state.next_due(defs, self.water)

@@ -38,7 +38,7 @@ use Rattle.time_lanes.specs.Moves.{moment}
 use Rattle.key_parts.specs.Calls.{window_at}
 use Rattle.key_parts.specs.Moves.{Comes, IsPutStep, IsStored}
 use Rattle.key_parts.specs.Moves.Comes.{Enters, Leaves}
-use Rattle.key_parts.specs.Work.{change_work, row_work}
+use Rattle.key_parts.specs.Work.{change_work, row_work, slice_work}
 use Rattle.time_parts.specs.Lanes.{IsTimedAt, kind_at}
 use Rattle.time_parts.proofs.WindowFacts.{apart_at, member_at, timed_at}
 
@@ -135,7 +135,15 @@ timed_work (Session gap) reach t = absurd (false≢true t)
 timed_work Marks reach t = absurd (false≢true t)
 timed_work (Events count) reach t = absurd (false≢true t)
 
--- and a row that a move completes one step
+-- a slice takes ten steps of a move
+pub timed_slice : (kind : Kind) → is_timed kind ≡ true → slice_work kind ≡ 10
+timed_slice (Tumbling length) t = refl
+timed_slice (Sliding length slide) t = refl
+timed_slice (Session gap) t = absurd (false≢true t)
+timed_slice Marks t = absurd (false≢true t)
+timed_slice (Events count) t = absurd (false≢true t)
+
+-- and a row that a move completes one
 pub timed_row : (kind : Kind) (reach : ℕ) → is_timed kind ≡ true → row_work kind reach ≡ 1
 timed_row (Tumbling length) reach t = refl
 timed_row (Sliding length slide) reach t = refl

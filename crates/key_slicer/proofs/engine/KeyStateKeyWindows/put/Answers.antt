@@ -12,7 +12,7 @@ use Rattle.key_slicer.specs.Parts.{AllTakeTuple, rooms, turns}
 use Rattle.key_slicer.specs.States.{Fits}
 use Rattle.key_slicer.specs.Work.{put_work}
 use Rattle.key_slicer.specs.Joining.{Joins}
-use Rattle.key_slicer.proofs.DueFacts.{joins_of, quiet_with_tuple, waits_with_tuple}
+use Rattle.key_slicer.proofs.DueFacts.{exact_with_tuple, joins_of, quiet_with_tuple, waits_with_tuple}
 use Rattle.key_slicer.proofs.StateFacts.{all_take, fits_put, put_step}
 use Rattle.key_slicer.proofs.UntoldFacts.{all_untold, all_untold_ahead, none_appended, untold_changes}
 use Rattle.key_slicer.proofs.SortFacts.{appended_sorted, as_many_turns}
@@ -115,6 +115,13 @@ returns-clause-due g c = λ stays kept marks due fits quiet.
           g.met.P.KeyPart.waits tuples is (quiet.nothing_changes new rises below) (quiet.waits new is rises below);
     }
 
+pub returns-clause-exact : goal.returns-clause-exact
+returns-clause-exact g c = λ stays kept marks due fits exact.
+    let x = kept_at c.args.pos c.args.time c.args.value in
+    let s = c.args.self.now in
+    let now : Fits g.P.KeyPart.stands c.args.defs.now (put_in_order kept x) marks c.args.water (c.args.pos + 1) c.put_in-joined.new.store c.put.new.self.list.items = (returns-clause-taken g c).fits kept marks fits in
+    exact_with_tuple c.args.defs.now s.key kept marks c.args.water due x fits.known.held.may_leave.kinds (c.leaves_due.ensures.timed stays) fits.known.lists.kept now.known.lists.kept exact
+
 pub returns-clause-pace : goal.returns-clause-pace
 returns-clause-pace g c = record {
   credit = search rules;
@@ -197,6 +204,13 @@ returns-then-needs_no_part-clause-due g c = λ stays kept marks due fits quiet.
           waits_with_tuple g.P.KeyPart.stands d s.key kept marks c.args.water new s.next (c.args.pos + 1) s.store c.put_in-entered.new.store s.parts.list.items s.parts.list.items x fits now timed joins rises
           g.met.P.KeyPart.waits tuples is (quiet.nothing_changes new rises below) (quiet.waits new is rises below);
     }
+
+pub returns-then-needs_no_part-clause-exact : goal.returns-then-needs_no_part-clause-exact
+returns-then-needs_no_part-clause-exact g c = λ stays kept marks due fits exact.
+    let x = kept_at c.args.pos c.args.time c.args.value in
+    let s = c.args.self.now in
+    let now : Fits g.P.KeyPart.stands c.args.defs.now (put_in_order kept x) marks c.args.water (c.args.pos + 1) c.put_in-entered.new.store s.parts.list.items = (returns-then-needs_no_part-clause-taken g c).fits kept marks fits in
+    exact_with_tuple c.args.defs.now s.key kept marks c.args.water due x fits.known.held.may_leave.kinds (c.needs_no_part.ensures.timed c.if-needs_no_part.true) fits.known.lists.kept now.known.lists.kept exact
 
 pub returns-then-needs_no_part-clause-pace : goal.returns-then-needs_no_part-clause-pace
 returns-then-needs_no_part-clause-pace g c = record {

@@ -2,7 +2,9 @@
 use Rattle.std.proofs.Common.{◌≡◌, ◌∙◌, ◌++◌, [], ap, append-nil, arith, refl, rules, sym, true, ⊎_elim}
 use Rattle.key_windows.specs.Calls.{moment}
 use Rattle.key_slicer.specs.States.{IsBlank, StandsFor}
+use Rattle.key_slicer.specs.Work.{move_over}
 use Rattle.key_slicer.proofs.StateFacts.{all_stand, fits_blank, move_is, nothing_moves, stands_moved}
+use Rattle.key_slicer.proofs.WorkFacts.{move_is_bounded}
 use Rattle.key_slicer.proofs.engine.KeyStateKeyWindows.water.Goals as goal
 
 pub purge-requires : goal.purge-requires
@@ -82,3 +84,31 @@ returns-then-is_water-clause-work g c = λ kept marks fits.
     let m = moment kept marks c.args.old in
     let f = fits.known in
     omega (arith, c.water.ensures.work m f.without (all_stand g.P.KeyPart.stands d m c.args.old s.next s.store s.parts.list.items refl f), c.purge.ensures.work, c.purge.ensures.credit)
+
+-- the moves of the parts, and the slices that leave
+pub returns-then-is_water-clause-bound : goal.returns-then-is_water-clause-bound
+returns-then-is_water-clause-bound g c = λ kept marks fits.
+    let s = c.args.self.now in
+    let d = c.args.defs.now in
+    let m = moment kept marks c.args.old in
+    let new = moment kept marks c.args.new in
+    let f = fits.known in
+    let then_ = (returns-then-is_water-clause-taken g c).fits kept marks fits in (
+      move_over d s.key m new s.store.slices c.purge.new.self.store.slices s.store.reach,
+      move_is_bounded g.T.AggTree.bounded d s.key m f.without s.store f.held f.store fits.none_settled c.vouch_reach.ensures new then_.known.without c.purge.new.self.store then_.known.held then_.known.store then_.none_settled,
+      omega (arith, c.water.ensures.bound m f.without (all_stand g.P.KeyPart.stands d m c.args.old s.next s.store s.parts.list.items refl f), c.purge.ensures.work),
+    )
+
+-- a key that has nothing yet takes no step
+pub returns-else-is_water-clause-bound : goal.returns-else-is_water-clause-bound
+returns-else-is_water-clause-bound g c = λ kept marks fits.
+    let s = c.args.self.now in
+    let d = c.args.defs.now in
+    let m = moment kept marks c.args.old in
+    let new = moment kept marks c.args.new in
+    let f = fits.known in
+    let then_ = (returns-else-is_water-clause-taken g c).fits kept marks fits in (
+      move_over d s.key m new s.store.slices s.store.slices s.store.reach,
+      move_is_bounded g.T.AggTree.bounded d s.key m f.without s.store f.held f.store fits.none_settled c.vouch_reach.ensures new then_.known.without s.store then_.known.held then_.known.store then_.none_settled,
+      omega arith,
+    )

@@ -6,8 +6,9 @@ use Rattle.stream_base.specs.declared.func.Func.TheVariants.{Count}
 use Rattle.stream_base.specs.Laws.{completions}
 use Rattle.stream_base.specs.Model.Changes.{Moment}
 use Rattle.key_slicer.specs.Parts.{rooms}
-use Rattle.key_slicer.specs.Work.{moved_work}
+use Rattle.key_slicer.specs.Work.{moved_work, walk_work}
 use Rattle.key_slicer.proofs.AheadFacts.{caught_more, credit_set, one_moved, paid_more}
+use Rattle.key_slicer.proofs.WorkFacts.{walked_more}
 use Rattle.key_slicer.proofs.Loops.{appended_all, appended_more, each_done, grown, is_untouched, one_stepped, room_first, rooms_from, stands_for_one, summed_all}
 use Rattle.key_slicer.proofs.Steps.{IsMoved}
 use Rattle.key_slicer.proofs.parts.Parts.water.Goals as goal
@@ -55,6 +56,10 @@ loop-window-preserved g c =
           (omega (arith, all.stood.as_many)) (c.loop-window.invariant.work m n all)
           (omega (arith, c.water.ensures.work m n one, one_moved taken_up d c.args.key.now m c.args.old c.args.new store i def (vec_len c.water.new.out - vec_len c.loop-window.out) all.water_is many))
           changed;
+      bound = λ m n all.
+          let one = stands_for_one g.P.KeyPart.stands d c.args.old c.args.store.now start m n i c.index_mut.result.now within untouched all in
+          walked_more c.args.key.now m c.args.new (length store.slices) store.reach d.windows i def (vec_len c.water.new.out - vec_len c.loop-window.out) c.args.steps.now c.loop-window.steps c.water.new.steps (omega (arith, all.stood.as_many))
+          (c.loop-window.invariant.bound m n all) (completed m (c.water.ensures.changes m n one)) (c.water.ensures.bound m n one);
     }
 
 pub returns-clause-changes : goal.returns-clause-changes
@@ -81,3 +86,9 @@ returns-clause-work g c = λ m n all.
       summed_all (moved_work g.P.KeyPart.taken_up d c.args.key.now m c.args.new c.args.store.now) d.windows c.loop-window.window (omega arith),
       summed_all (λ w. 10 * g.P.KeyPart.missed d w.0 c.args.store.now c.args.old) d.windows c.loop-window.window (omega arith),
     )
+
+pub returns-clause-bound : goal.returns-clause-bound
+returns-clause-bound g c = λ m n all.
+    let d = c.args.defs.now in
+    let store = c.args.store.now in
+    omega (arith, c.loop-window.invariant.bound m n all, summed_all (walk_work c.args.key.now m c.args.new (length store.slices) store.reach) d.windows c.loop-window.window (omega arith))

@@ -2,8 +2,9 @@
 use Rattle.std.proofs.Common.{◌≡◌, ◌≤◌, ◌<◌, ap, inl, subst, sym}
 use Rattle.stream_base.specs.declared.limits.TheConstants.{FINAL}
 use Rattle.key_windows.specs.Calls.{BringsMore}
+use Rattle.key_windows.specs.Dues.{IsExact}
 use Rattle.plain_keys.specs.States.{State}
-use Rattle.plain_keys.proofs.Keeps.{is_due, not_due, still_fits}
+use Rattle.plain_keys.proofs.Keeps.{is_due, is_exact, not_due, still_fits}
 use Rattle.plain_keys.proofs.plain_key.PlainKeyKeyWindows.next_due.Goals as goal
 
 pub returns-clause-none_before : goal.returns-clause-none_before
@@ -25,3 +26,9 @@ returns-clause-some_at c = λ kept marks fits final.
     let due : s.due ≡ c.self.inside.due = ap (λ (t : State). t.due) (sym c.self.view_is) in
     subst (λ n. n ≤ FINAL → (c.args.water < n) × BringsMore d s.key kept marks c.args.water n) due
     (λ final. let at = is_due d s.key s kept marks c.args.water c.windows-windows.ensures.limits c.vouch.ensures.lists fits final in (at.0, inl at.1)) final
+
+pub returns-clause-exact : goal.returns-clause-exact
+returns-clause-exact c = λ kept marks fits.
+    let s = c.args.self.now in
+    let due : s.due ≡ c.self.inside.due = ap (λ (t : State). t.due) (sym c.self.view_is) in
+    subst (IsExact c.args.defs.now s.key kept marks c.args.water) due (is_exact c.args.defs.now s.key s kept marks c.args.water c.windows-windows.ensures.limits c.vouch.ensures.lists fits)

@@ -1,5 +1,5 @@
 -- Places behind the last one are not looked at.
-use Rattle.std.proofs.Common.{◌≤◌, ◌-◌, length}
+use Rattle.std.proofs.Common.{◌-◌, length}
 use Rattle.shard_core.proofs.dues.Dues.reaches_many.Given as goal
 
 abbrev pub decreases-loop-place : goal.decreases-loop-place

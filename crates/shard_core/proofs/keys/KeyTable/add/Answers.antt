@@ -4,7 +4,7 @@ use Rattle.std.specs.BTreeMap.{is_at}
 use Rattle.std.specs.Cmp.Lexicographic.{slice_cmp}
 use Rattle.std.specs.Ordering.{nat_cmp}
 use Rattle.key_windows.specs.Calls.{IsWater}
-use Rattle.key_windows.specs.Dues.{IsQuiet}
+use Rattle.key_windows.specs.Dues.{IsDueNumber}
 use Rattle.shard_core.specs.Engines.{place_of}
 use Rattle.shard_core.proofs.Places.{added, unchanged}
 use Rattle.shard_core.proofs.Placing.{at_itself}
@@ -54,7 +54,7 @@ returns-clause-current g c h =
     (c.push_reserved.ensures.items ∙ ap (λ l. l ++ slot ∷ []) c.reserve.ensures.items)
     (c.push_reserved-2.ensures.items ∙ ap (λ l. l ++ c.due-due.result ∷ []) c.reserve-2.ensures.items)
     c.in_ok-slot.ensures.key c.in_ok-slot.ensures.first stands (c.in_ok-slot.ensures.water ∙ c.water.ensures.value) (subst IsWater (sym c.in_ok-slot.ensures.water) c.water.ensures.is_water)
-    (subst (λ (k : List ℕ). IsQuiet g.K.KeyWindows.fits d k [] [] slot.water slot.state c.due-due.result) c.in_ok-slot.ensures.key (c.due-due.ensures [] [] stands)))
+    (subst (λ (k : List ℕ). IsDueNumber g.K.KeyWindows.fits d k [] [] slot.water slot.state c.due-due.result) c.in_ok-slot.ensures.key (c.due-due.ensures [] [] stands)))
 
 pub due-due-requires-clause-stands : goal.due-due-requires-clause-stands
 due-due-requires-clause-stands g c = ([], [], subst (λ (n : ℕ). g.K.KeyWindows.fits c.defs-defs.result.now [] [] n c.in_ok-slot.slot.state) (sym c.in_ok-slot.ensures.water) c.in_ok-slot.ensures.empty)

@@ -8,7 +8,7 @@ use Rattle.stream_base.specs.Model.Watermark.{water_of}
 use Rattle.stream_base.specs.Model.What.{key_in}
 use Rattle.stream_base.specs.Model.Changes.{changes_after}
 use Rattle.key_windows.specs.Calls.{IsWater, changes_by_mark, moment}
-use Rattle.key_windows.specs.Dues.{IsQuiet}
+use Rattle.key_windows.specs.Dues.{IsDueNumber}
 use Rattle.shard_core.specs.declared.slot.Slot.{Slot}
 use Rattle.shard_core.specs.Shard.{Sharded}
 use Rattle.shard_core.specs.Engines.{AreCurrent, HasLists, IsCurrent}
@@ -95,7 +95,7 @@ returns-clause-taken g c e is =
           (keyed_table key_of fits next d past.sources past.journal e key (ap key_in is) table _ place slot new c.due.result current c.in_ok-place.ensures.place c.index_mut.ensures.value water refl refl c.set.ensures
           c.in_ok-mark.ensures.key c.in_ok-mark.ensures.water (omega (arith, c.in_ok-mark.ensures.next, (current_at key_of fits next d past.sources past.journal table key place slot current c.in_ok-place.ensures.place c.index_mut.ensures.value).position))
           (λ f. rw (kept_with_mark d past.sources past.journal e key c.args.time is accepted, marks_with_mark d past.sources past.journal e key c.args.time is accepted) (c.in_ok-mark.ensures.fits kept marks f))
-          (λ kept marks f. subst (λ (s : Slot g.row.K.Denot). IsQuiet fits d (key_of s.state) kept marks s.water s.state c.due.result) there (c.due.ensures kept marks (subst (λ (s : Slot g.row.K.Denot). fits d kept marks s.water s.state) (sym there) f))));
+          (λ kept marks f. subst (λ (s : Slot g.row.K.Denot). IsDueNumber fits d (key_of s.state) kept marks s.water s.state c.due.result) there (c.due.ensures kept marks (subst (λ (s : Slot g.row.K.Denot). fits d kept marks s.water s.state) (sym there) f))));
       changes = c.in_ok-mark.ensures.changes kept marks was.stands
           ∙ (λ i. (c.prepare.ensures.told i).log.items ++ changes_by_mark d (was.of_key i) kept marks (water i) c.args.time)
           ∙ ap (λ l. c.args.told.now.log.items ++ l) (sym (changes_of_mark d past.sources past.journal e key c.args.time is accepted (rw c.defs-defs.ensures.value c.defs-defs.ensures.limits)))

@@ -4,9 +4,9 @@ use Rattle.std.specs.List.{flat_map}
 use Rattle.std.proofs.lemmas.List.{take_all}
 use Rattle.std.proofs.lemmas.List.Sums.{sum_by-drop_more}
 use Rattle.shard_core.specs.declared.slot.Slot.{Slot}
-use Rattle.shard_core.specs.Engines.{HasLists, moves_of}
+use Rattle.shard_core.specs.Engines.{AreMovedWithin, HasLists, StandsIn, moves_of}
 use Rattle.shard_core.specs.Told.{spare_of}
-use Rattle.shard_core.proofs.Loops.{one_moved}
+use Rattle.shard_core.proofs.Loops.{one_moved, one_moved_within}
 use Rattle.shard_core.proofs.keys.KeyTable.move_all.Goals as goal
 
 pub move_at-requires-clause-spare : goal.move_at-requires-clause-spare
@@ -47,6 +47,12 @@ loop-place-preserved g c =
           c.move_at.ensures.added,
       (λ z. absurd (omega arith)),
       c.move_at.ensures.settled,
+      (λ z. absurd (omega arith)),
+      (λ x kept marks each.
+          let untouched = c.loop-place.invariant.1.outside (get_or places i 0) x (λ j jl. c.requires.movable.apart j i jl within) in
+          one_moved_within g.K.KeyWindows.bounds_move g.K.KeyWindows.key_of c.args.defs.now kept marks c.args.new c.args.self.now.slots.items x places i c.loop-place.self.slots.items c.args.steps.now c.loop-place.steps c.move_at.new.steps
+          untouched (c.loop-place.invariant.5 x kept marks each)
+          (c.move_at.ensures.bound x kept marks (subst (StandsIn g.K.KeyWindows.key_of g.K.KeyWindows.fits c.args.defs.now kept marks) (sym untouched) (each i within)))),
     )
 
 pub returns-clause-changes : goal.returns-clause-changes
@@ -55,3 +61,9 @@ returns-clause-changes g c x kept marks each =
     let all : take c.loop-place.place-index places ≡ places = take_all c.loop-place.place-index places (omega arith) in
     c.loop-place.invariant.1.changes x kept marks each
     ∙ ap (λ ps. c.args.told.now.log.items ++ flat_map (λ p. moves_of g.K.KeyWindows.key_of c.args.defs.now kept marks c.args.new (get_or c.args.self.now.slots.items p x)) ps) all
+
+pub returns-clause-bound : goal.returns-clause-bound
+returns-clause-bound g c x kept marks each =
+    let places = c.args.places.now in
+    let all : c.loop-place.place-index ≡ length places = omega arith in
+    subst (λ n. AreMovedWithin g.K.KeyWindows.bounds_move g.K.KeyWindows.key_of c.args.defs.now kept marks c.args.new c.args.self.now.slots.items x places n c.args.steps.now c.loop-place.steps) all (c.loop-place.invariant.5 x kept marks each)

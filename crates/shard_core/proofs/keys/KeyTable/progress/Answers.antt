@@ -3,7 +3,8 @@ use Rattle.std.proofs.Common.{◌≡◌, ◌∙◌, ◌++◌, ◌∷◌, [], ap,
 use Rattle.std.proofs.lemmas.List.{append-nil}
 use Rattle.stream_base.specs.Model.Watermark.{water_of}
 use Rattle.model_laws.proofs.ChangesAfter.{no_news_no_changes}
-use Rattle.shard_core.proofs.Advance.{progress_stays, still_table}
+use Rattle.shard_core.specs.Flat.{sharded}
+use Rattle.shard_core.proofs.Advance.{none_is_due, progress_stays, still_table}
 use Rattle.shard_core.proofs.keys.KeyTable.progress.Goals as goal
 
 pub returns-then-new-water-clause-taken : goal.returns-then-new-water-clause-taken
@@ -18,6 +19,9 @@ returns-then-new-water-clause-taken g c =
       nothing = tt;
       no_step = tt;
     }
+
+pub returns-then-new-water-clause-move_work : goal.returns-then-new-water-clause-move_work
+returns-then-new-water-clause-move_work g c = none_is_due g.K.KeyWindows.bounds_move (sharded c.args.past.now) c.args.entry.now c.args.steps.now
 
 pub advance-requires-clause-water : goal.advance-requires-clause-water
 advance-requires-clause-water g c = c.water_after-new.ensures.is_water

@@ -7,11 +7,11 @@ use Rattle.stream_base.specs.Model.Watermark.{water_of}
 use Rattle.stream_base.specs.Model.What.{key_in}
 use Rattle.stream_base.specs.Model.Changes.{changes_after}
 use Rattle.key_windows.specs.Calls.{IsWater, changes_by_put, kept_at, moment}
-use Rattle.key_windows.specs.Dues.{IsQuiet}
+use Rattle.key_windows.specs.Dues.{IsDueNumber}
 use Rattle.shard_core.specs.declared.slot.Slot.{Slot}
 use Rattle.shard_core.specs.Shard.{Sharded}
 use Rattle.shard_core.specs.Engines.{AreCurrent, HasLists, IsCurrent}
-use Rattle.shard_core.proofs.Entries.{changes_of_tuple, kept_with_tuple, keyed_table, marks_with_tuple, moment_with_tuple, quiet_table, taken_within}
+use Rattle.shard_core.proofs.Entries.{changes_of_tuple, kept_with_tuple, keyed_table, marks_with_tuple, moment_with_tuple, numbered_table, taken_within}
 use Rattle.shard_core.proofs.Places.{alike, current_at, has_lists, on_err, replaced, same_for}
 use Rattle.shard_core.proofs.keys.KeyTable.put.Goals as goal
 
@@ -97,18 +97,18 @@ returns-then-stays-clause-taken g c e is =
     let was : IsCurrent key_of fits next d past.sources past.journal key slot (get_or table.dues.items place 0) = current_at key_of fits next d past.sources past.journal table key place slot current c.in_ok-place.ensures.place c.index_mut.ensures.value in
     record {
       taken = rw (← c.defs-defs.ensures.value)
-          (quiet_table key_of fits next d past.sources past.journal e key (ap key_in is) table _ place slot new (get_or table.dues.items place 0) current c.in_ok-place.ensures.place c.index_mut.ensures.value water refl refl (sym (set-get_or table.dues.items place 0))
+          (numbered_table key_of fits next d past.sources past.journal e key (ap key_in is) table _ place slot new (get_or table.dues.items place 0) current c.in_ok-place.ensures.place c.index_mut.ensures.value water refl refl (sym (set-get_or table.dues.items place 0))
           c.in_ok-stays.ensures.key c.in_ok-stays.ensures.water (omega (arith, c.in_ok-stays.ensures.next, at))
           (λ f. rw (kept_with_tuple d past.sources past.journal e key c.args.time c.args.value is accepted, marks_with_tuple d past.sources past.journal e key c.args.time c.args.value is accepted)
           (subst (λ n. fits d (put_in_order kept (kept_at n c.args.time c.args.value)) marks new.water new.state) at
           (subst (λ (v : ℤ). fits d (put_in_order kept (kept_at c.len-position.result c.args.time v)) marks new.water new.state) same (c.in_ok-stays.ensures.fits kept marks f))))
           (λ now. rw (kept_with_tuple d past.sources past.journal e key c.args.time c.args.value is accepted, marks_with_tuple d past.sources past.journal e key c.args.time c.args.value is accepted)
-          (subst (λ n. IsQuiet fits d key (put_in_order kept (kept_at n c.args.time c.args.value)) marks new.water new.state (get_or table.dues.items place 0)) at
-          (subst (λ (v : ℤ). IsQuiet fits d key (put_in_order kept (kept_at c.len-position.result c.args.time v)) marks new.water new.state (get_or table.dues.items place 0)) same
-          (subst (λ w. IsQuiet fits d key (put_in_order kept (kept_at c.len-position.result c.args.time (to_z w64 (of_z w64 c.args.value)))) marks w new.state (get_or table.dues.items place 0)) (sym c.in_ok-stays.ensures.water)
-          (subst (λ l. IsQuiet fits d l (put_in_order kept (kept_at c.len-position.result c.args.time (to_z w64 (of_z w64 c.args.value)))) marks slot.water new.state (get_or table.dues.items place 0)) was.of_key
-          (c.in_ok-stays.ensures.due c.if-stays.true kept marks (get_or table.dues.items place 0) was.stands
-          (subst (λ l. IsQuiet fits d l kept marks slot.water slot.state (get_or table.dues.items place 0)) (sym was.of_key) was.quiet))))))));
+          (subst (λ n. IsDueNumber fits d key (put_in_order kept (kept_at n c.args.time c.args.value)) marks new.water new.state (get_or table.dues.items place 0)) at
+          (subst (λ (v : ℤ). IsDueNumber fits d key (put_in_order kept (kept_at c.len-position.result c.args.time v)) marks new.water new.state (get_or table.dues.items place 0)) same
+          (subst (λ w. IsDueNumber fits d key (put_in_order kept (kept_at c.len-position.result c.args.time (to_z w64 (of_z w64 c.args.value)))) marks w new.state (get_or table.dues.items place 0)) (sym c.in_ok-stays.ensures.water)
+          (subst (λ l. IsDueNumber fits d l (put_in_order kept (kept_at c.len-position.result c.args.time (to_z w64 (of_z w64 c.args.value)))) marks slot.water new.state (get_or table.dues.items place 0)) was.of_key
+          (c.in_ok-stays.ensures.due kept marks (get_or table.dues.items place 0) was.stands
+          (subst (λ l. IsDueNumber fits d l kept marks slot.water slot.state (get_or table.dues.items place 0)) (sym was.of_key) was.number) c.if-stays.true)))))));
       changes = c.in_ok-stays.ensures.changes kept marks was.stands
           ∙ (λ i. (c.prepare.ensures.told i).log.items ++ changes_by_put d (was.of_key i) kept marks (water i) (kept_at (at i) c.args.time (same i)))
           ∙ ap (λ l. c.args.told.now.log.items ++ l) (sym (changes_of_tuple d past.sources past.journal e key c.args.time c.args.value is accepted (rw c.defs-defs.ensures.value c.defs-defs.ensures.limits)))
@@ -146,7 +146,7 @@ returns-clause-taken g c e is =
           (λ f. rw (kept_with_tuple d past.sources past.journal e key c.args.time c.args.value is accepted, marks_with_tuple d past.sources past.journal e key c.args.time c.args.value is accepted)
           (subst (λ n. fits d (put_in_order kept (kept_at n c.args.time c.args.value)) marks new.water new.state) at
           (subst (λ (v : ℤ). fits d (put_in_order kept (kept_at c.len-position.result c.args.time v)) marks new.water new.state) same (c.in_ok-stays.ensures.fits kept marks f))))
-          (λ kept marks f. subst (λ (s : Slot g.row.K.Denot). IsQuiet fits d (key_of s.state) kept marks s.water s.state c.due.result) there (c.due.ensures kept marks (subst (λ (s : Slot g.row.K.Denot). fits d kept marks s.water s.state) (sym there) f))));
+          (λ kept marks f. subst (λ (s : Slot g.row.K.Denot). IsDueNumber fits d (key_of s.state) kept marks s.water s.state c.due.result) there (c.due.ensures kept marks (subst (λ (s : Slot g.row.K.Denot). fits d kept marks s.water s.state) (sym there) f))));
       changes = c.in_ok-stays.ensures.changes kept marks was.stands
           ∙ (λ i. (c.prepare.ensures.told i).log.items ++ changes_by_put d (was.of_key i) kept marks (water i) (kept_at (at i) c.args.time (same i)))
           ∙ ap (λ l. c.args.told.now.log.items ++ l) (sym (changes_of_tuple d past.sources past.journal e key c.args.time c.args.value is accepted (rw c.defs-defs.ensures.value c.defs-defs.ensures.limits)))

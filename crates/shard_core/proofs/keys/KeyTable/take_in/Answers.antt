@@ -8,7 +8,7 @@ use Rattle.stream_base.specs.Model.What.{is_late}
 use Rattle.model_laws.proofs.ChangesAfter.{late_is_dropped}
 use Rattle.shard_core.specs.Flat.{sharded}
 use Rattle.shard_core.specs.Work.{IsTakenWithin}
-use Rattle.shard_core.proofs.Advance.{late_leaves_water, late_stays, still_table}
+use Rattle.shard_core.proofs.Advance.{late_leaves_water, late_stays, none_is_due, still_table}
 use Rattle.shard_core.proofs.Entries.{mark_alike, tuple_alike}
 use Rattle.shard_core.proofs.keys.KeyTable.take_in.Goals as goal
 
@@ -53,3 +53,7 @@ returns-in-Mark-clause-mark_work g c =
     (λ (w : IsTakenWithin bounds s e c.in-Mark.key c.in-Mark.time c.args.steps.now c.mark.new.steps) key time so on_time.
     mark_alike bounds s e c.in-Mark.key key c.in-Mark.time time c.args.steps.now c.mark.new.steps is so w)
     (c.mark.ensures.work e is)
+
+-- a late entry, a tuple and a mark say no word on progress
+pub returns-then-is_late-clause-move_work : goal.returns-then-is_late-clause-move_work
+returns-then-is_late-clause-move_work g c = λ progress. none_is_due g.K.KeyWindows.bounds_move (sharded c.args.past.now) c.args.entry.now c.args.steps.now

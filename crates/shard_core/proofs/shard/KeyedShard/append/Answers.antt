@@ -3,7 +3,7 @@ use Rattle.std.proofs.Common.{◌≡◌, ◌∙◌, ◌++◌, ◌∷◌, [], ap,
 use Rattle.stream_base.specs.Model.Changes.{changes_after}
 use Rattle.shard_core.specs.Flat.{sharded}
 use Rattle.shard_core.specs.Shard.{IsNext}
-use Rattle.shard_core.specs.Work.{IsTupleWithin}
+use Rattle.shard_core.specs.Work.{IsProgressWithin, IsTupleWithin}
 use Rattle.shard_core.proofs.Journals.{journal_push}
 use Rattle.shard_core.proofs.Shards.{longer_shard}
 use Rattle.shard_core.proofs.shard.KeyedShard.append.Goals as goal
@@ -48,6 +48,10 @@ returns g c = record {
       let alike : sharded c.reserve.new.self ≡ sharded c.self.inside.past = λ i. record { defs = same.defs i; sources = same.sources i; journal = c.reserve.ensures.journal i } in
       rw (← c.self.view_is) (subst (λ s. IsTupleWithin g.K.KeyWindows.bounds_put s c.args.entry.now c.args.steps.now c.take_in.new.steps) alike c.in_ok-place.ensures.tuple_work);
   mark_work = search rules;
+  move_work =
+      let same = c.reserve.ensures.same in
+      let alike : sharded c.reserve.new.self ≡ sharded c.self.inside.past = λ i. record { defs = same.defs i; sources = same.sources i; journal = c.reserve.ensures.journal i } in
+      rw (← c.self.view_is) (subst (λ s. IsProgressWithin g.K.KeyWindows.bounds_move s c.args.entry.now c.args.steps.now c.take_in.new.steps) alike c.in_ok-place.ensures.move_work);
   late_work = search rules;
   still_work = search rules;
   refused_work = search rules;

@@ -3,7 +3,7 @@ use Rattle.std.proofs.Common.{ℕ, ℤ, List, of_z, rules, subst, to_z, w64}
 use Rattle.std.proofs.lemmas.Int.{to_z-of_z}
 use Rattle.stream_base.specs.Model.Journal.{put_in_order}
 use Rattle.key_windows.specs.Calls.{kept_at}
-use Rattle.key_windows.specs.Dues.{IsQuiet}
+use Rattle.key_windows.specs.Dues.{IsDueNumber}
 use Rattle.shard_core.proofs.slot.Slot.put.Goals as goal
 
 pub put-stays-requires-clause-comes : goal.put-stays-requires-clause-comes
@@ -18,15 +18,19 @@ put-stays-requires-clause-comes g c =
 
 -- what is due stays with the room that was made, and then with the tuple
 pub returns-clause-due : goal.returns-clause-due
-returns-clause-due g c = λ stays kept marks due stands quiet.
+returns-clause-due g c = λ kept marks due stands number stays.
     let fits = g.K.KeyWindows.fits in
     let key_of = g.K.KeyWindows.key_of in
     let d = c.args.defs.now in
     let old = c.args.self.now in
     let new = c.put-stays.new.self in
-    subst (λ (v : ℤ). IsQuiet fits d (key_of old.state) (put_in_order kept (kept_at c.args.position c.args.time v)) marks old.water new due) (to_z-of_z w64 c.args.value c.ranges.value)
-    (subst (λ (k : List ℕ). IsQuiet fits d k (put_in_order kept (kept_at c.args.position c.args.time (to_z w64 (of_z w64 c.args.value)))) marks old.water new due) c.reserve_put.ensures.key
-    (c.put-stays.ensures.due stays kept marks due (c.reserve_put.ensures.stays kept marks old.water stands) (record {
-      nothing_changes = λ later rises below. rw c.reserve_put.ensures.key (quiet.nothing_changes later rises below);
-      waits = λ later is rises below. c.reserve_put.ensures.stays kept marks later (quiet.waits later is rises below);
-    })))
+    let ready = c.reserve_put.ensures.stays kept marks old.water stands in
+    let after : IsDueNumber fits d (key_of c.reserve_put.new.self) (put_in_order kept (kept_at c.args.position c.args.time (to_z w64 (of_z w64 c.args.value)))) marks old.water new due = record {
+      quiet = c.put-stays.ensures.due stays kept marks due ready (record {
+        nothing_changes = λ later rises below. rw c.reserve_put.ensures.key (number.quiet.nothing_changes later rises below);
+        waits = λ later is rises below. c.reserve_put.ensures.stays kept marks later (number.quiet.waits later is rises below);
+      });
+      exact = c.put-stays.ensures.exact stays kept marks due ready (rw c.reserve_put.ensures.key number.exact);
+    } in
+    subst (λ (v : ℤ). IsDueNumber fits d (key_of old.state) (put_in_order kept (kept_at c.args.position c.args.time v)) marks old.water new due) (to_z-of_z w64 c.args.value c.ranges.value)
+    (subst (λ (k : List ℕ). IsDueNumber fits d k (put_in_order kept (kept_at c.args.position c.args.time (to_z w64 (of_z w64 c.args.value)))) marks old.water new due) c.reserve_put.ensures.key after)

@@ -32,3 +32,7 @@ returns-clause-work_ahead g c = λ m n at ahead.
 pub returns-clause-work : goal.returns-clause-work
 returns-clause-work g c = λ m n at.
     omega (arith, returns-clause-work_ahead g c m n at tt)
+
+pub returns-clause-bound : goal.returns-clause-bound
+returns-clause-bound g c = λ m n at.
+    omega (arith, returns-clause-work_ahead g c m n at tt)

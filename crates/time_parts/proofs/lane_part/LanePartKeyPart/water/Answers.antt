@@ -1,11 +1,15 @@
 -- The lane tells what the move completes, of which the store holds all tuples.
-use Rattle.std.proofs.Common.{◌≡◌, ◌≤◌, ◌+◌, ◌-◌, ◌*◌, ap, sym, take, subst, arith, vec_len}
+use Rattle.std.proofs.Common.{◌≡◌, ◌≤◌, ◌+◌, ◌-◌, ◌*◌, ap, sym, take, length, subst, arith, vec_len}
+use Rattle.window_laws.specs.Walk.{next_start_of}
 use Rattle.agg_store.specs.Stored.{tuples_of}
+use Rattle.interval_walks.specs.Spans.{last_end_of}
+use Rattle.interval_walks.proofs.Ranges.{fewer_within}
 use Rattle.time_lanes.specs.Lane.{Knows, KnowsAll, Laned}
 use Rattle.time_lanes.specs.Moves.{MayMove}
 use Rattle.key_parts.specs.Calls.{window_at}
+use Rattle.key_parts.specs.Work.{row_work}
 use Rattle.time_parts.specs.Lanes.{Timed, kind_at, slices_completed, slices_of_last}
-use Rattle.time_parts.proofs.LaneFacts.{completed_of_all, timed_row}
+use Rattle.time_parts.proofs.LaneFacts.{completed_of_all, timed_row, timed_slice}
 use Rattle.time_parts.proofs.WindowFacts.{apart_above, stands_at, timed_at}
 use Rattle.time_parts.proofs.lane_part.LanePartKeyPart.water.Goals as goal
 
@@ -59,3 +63,20 @@ returns-clause-work g c = λ m n at.
     let credit = ap (λ (l : Laned). l.credit) lane in
     subst (λ k. c.advance.new.steps + c.advance.new.self.credit ≤ c.args.steps.now + c.args.self.now.lane.credit + (10 * (slices_completed d c.args.window s c.args.old c.args.new + slices_of_last d c.args.window s c.args.old) + k * (vec_len c.advance.new.out - vec_len c.args.out.now)))
     (sym (timed_row kind s.reach (timed_at d c.args.window t))) (omega (arith, cost, credit, c.advance.ensures.number w is))
+
+-- what the lane takes up lies in the store
+pub returns-clause-bound : goal.returns-clause-bound
+returns-clause-bound g c = λ m n at.
+    let d = c.args.defs.now in
+    let s = (g.S.AggStore.stored c.args.store.now) in
+    let t = at.stood.timed in
+    let kind = kind_at d c.args.window in
+    let w = window_at d c.args.window in
+    let is = stands_at d c.args.window t in
+    let lane : c.args.self.now.lane ≡ c.self.inside.lane = sym (ap (λ (p : Timed). p.lane) c.self.view_is) in
+    let cost = c.advance.ensures.work w is (subst (λ (l : Laned). Knows kind c.args.old s l) lane (subst (λ k. Knows kind k s c.args.self.now.lane) at.water_is at.stood.knows)) in
+    let among = fewer_within (next_start_of kind c.args.old) (last_end_of kind c.args.new) s.slices in
+    subst (λ j. c.advance.new.steps ≤ c.args.steps.now + (j * length s.slices + row_work kind s.reach * (vec_len c.advance.new.out - vec_len c.args.out.now)))
+    (sym (timed_slice kind (timed_at d c.args.window t)))
+    (subst (λ k. c.advance.new.steps ≤ c.args.steps.now + (10 * length s.slices + k * (vec_len c.advance.new.out - vec_len c.args.out.now)))
+    (sym (timed_row kind s.reach (timed_at d c.args.window t))) (omega (arith, cost, among, c.advance.ensures.number w is)))
