@@ -1,6 +1,6 @@
 -- What context windows ask of a store, of one that is kept together with them.
 use Rattle.std.proofs.Common.{◌≡◌, ◌∙◌, ℕ, ◌+◌, ◌<◌, ◌≤◌, fold, max, min, Bool, true, false, cond, List, [], ◌∷◌, ◌++◌, length, None, Some, ap, sym, refl, subst, arith, inl, inr}
-use Rattle.std.specs.Prelude.{◌⊎◌, ◌^◌, ◌&&◌, nat_le, nat_lt, option_to_list}
+use Rattle.std.specs.Prelude.{◌⊎◌, nat_le, nat_lt, option_to_list}
 use Rattle.std.specs.BTreeSet.{insert_key}
 use Rattle.std.specs.List.{All, Contains, filter}
 use Rattle.std.specs.Ordering.{nat_cmp}
@@ -119,22 +119,10 @@ spans_lie marks kept s f =
     (All_from_members (λ i. LiesBetween marks (span_of i)) (stretches_after s.forgotten marks kept)
     (λ i c. let h = after_is s.forgotten marks kept i c in (edge_of marks i.low h.3, edge_of marks i.high h.4))))
 
-shorter : {X : Type 0} (p : X → Bool) (xs : List X) → length (filter p xs) ≤ length xs
-shorter p [] = omega arith
-shorter p (x ∷ xs) = by (p x) (shorter p xs)
-  where
-    by : (b : Bool) → length (filter p xs) ≤ length xs → length (cond b (x ∷ filter p xs) (filter p xs)) ≤ length (x ∷ xs)
-    by true e = omega arith
-    by false e = omega arith
-
-pub holds_all : (time : ℕ) (marks : List ℕ) (store : Stored) → length (tuples_of store) < 2 ^ 64 → HoldsStretches time marks (tuples_of store) store
-holds_all time marks store l = record {
+pub holds_all : (time : ℕ) (marks : List ℕ) (store : Stored) → HoldsStretches time marks (tuples_of store) store
+holds_all time marks store = record {
   chosen = All_from_members _ (stretches_after time marks (tuples_of store)) (λ i c. sym (after_is time marks (tuples_of store) i c).2);
-  few = All_from_members _ (stretches_after time marks (tuples_of store)) (λ i c. few i (after_is time marks (tuples_of store) i c).2);
 }
-  where
-    few : (i : Instance) → i.chosen ≡ within i.low i.high (tuples_of store) → length i.chosen < 2 ^ 64
-    few i e = omega (arith, ap length e, shorter (λ (x : Kept). nat_le i.low x.time && nat_lt x.time i.high) (tuples_of store), l)
 
 most_is : (start : ℕ) (xs : List ℕ) → (fold max start xs ≡ start) ⊎ Contains xs (fold max start xs)
 most_is start [] = inl refl

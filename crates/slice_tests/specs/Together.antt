@@ -1,5 +1,5 @@
 -- How a test keeps a store together with the windows that are told from it.
-use Rattle.std.specs.Prelude.{◌≡◌, ◌≤◌, ℕ, List, length}
+use Rattle.std.specs.Prelude.{◌≡◌, ◌≤◌, ℕ, length}
 use Rattle.stream_base.specs.declared.limits.TheConstants.{TIME_MAX}
 use Rattle.stream_base.specs.Limits.{Definitions}
 use Rattle.agg_store.specs.Stored.{IsSliced, Stored, tuples_of}

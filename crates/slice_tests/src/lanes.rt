@@ -115,6 +115,7 @@ impl<Q: AggQueue<Bundle>, T: AggTree<Bundle>> Window<Q, T> {
             &self.store,
             &self.key,
             time,
+            value,
             water,
             &self.stood,
             &mut self.changes,

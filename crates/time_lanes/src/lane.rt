@@ -18,6 +18,7 @@ ghost use Rattle.time_lanes.specs.Lane.{HasMoreRoom, HoldsTheSame, IsRefreshed, 
 ghost use Rattle.time_lanes.specs.Late.{AreApartAt, IsLate, complete_holding, formers_of};
 ghost use Rattle.time_lanes.specs.Shared.{IsSharedAt};
 ghost use Rattle.time_lanes.specs.Moves.{MayMove, completed_starts, moment, slices_between, slices_due, slices_in_last, slices_until};
+ghost use Rattle.interval_walks.specs.Joined.{is_order_free};
 ghost use Rattle.interval_walks.specs.Spans.{IsWindowAt, is_served, last_end_of};
 
 use agg_laws::{AggQueue, Steps};
@@ -268,6 +269,8 @@ impl<Q: AggQueue<Bundle>> Lane<Q> {
             steps.old steps.new }
         ensures shared { (def : Def) → IsWindowAt defs.now.windows window def
             → IsSharedAt def.kind time water (S.stored store.now) steps.old steps.new }
+        ensures order_free { (def : Def) → IsWindowAt defs.now.windows window def
+            → is_order_free def.func ≡ true → steps.new ≡ steps.old }
     {
         let Served { def, span } = serve(defs, window);
         let owner = Owner {

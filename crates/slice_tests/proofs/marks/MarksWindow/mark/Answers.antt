@@ -25,8 +25,7 @@ returns-clause-together g c =
     let h : AreOfMarks d store s = marks_stay d c.args.self.now.store store c.args.self.now.between s c.requires.together c.reserve.ensures.kept c.reserve-2.ensures.kept in
     let f : FollowsMarks store.marks (tuples_of c.mark.new.self) s = subst (λ l. FollowsMarks store.marks l s) (sym c.mark.ensures.tuples) h.follows in
     let le : s.forgotten ≤ c.args.time = omega (arith, c.reserve-2.ensures.kept.forgotten, c.requires.unsettled) in
-    let few : length (tuples_of c.mark.new.self) ≤ c.args.pos = as_many c.args.self.now.store store c.mark.new.self c.args.pos c.reserve.ensures.kept c.mark.ensures.tuples c.requires.few in
-    let held = holds_all c.args.time store.marks c.mark.new.self (omega (arith, few, c.ranges.pos.fits)) in
+    let held = holds_all c.args.time store.marks c.mark.new.self in
     record {
       sliced = c.mark.ensures.sliced;
       follows = subst (λ m. FollowsMarks m (tuples_of c.mark.new.self) c.mark-2.new.self) (sym c.mark.ensures.marks) (c.mark-2.ensures.follows store.marks (tuples_of c.mark.new.self) f le held);

@@ -1,6 +1,7 @@
 -- What is told are the changes of the tuple.
-use Rattle.std.proofs.Common.{◌≡◌, ◌∙◌, ◌+◌, ◌*◌, ◌++◌, sym, subst}
+use Rattle.std.proofs.Common.{◌≡◌, ◌∙◌, ◌+◌, ◌*◌, ◌++◌, ap, sym, subst}
 use Rattle.std.specs.Int.{w64}
+use Rattle.std.proofs.lemmas.Bool.{false≢true}
 use Rattle.std.proofs.lemmas.Int.{to_z-of_z}
 use Rattle.stream_base.specs.declared.def.Def.{Def}
 use Rattle.stream_base.specs.Model.Changes.{emissions}
@@ -10,6 +11,7 @@ use Rattle.time_lanes.specs.Moves.{moment}
 use Rattle.time_lanes.specs.Shared.{IsSharedAt}
 use Rattle.time_lanes.proofs.SharedFacts.{shared_at}
 use Rattle.time_lanes.proofs.LateFacts.{lane_joined, lane_late}
+use Rattle.interval_walks.specs.Joined.{is_order_free}
 use Rattle.interval_walks.proofs.ServedFacts.{same_window, span_of_kind}
 use Rattle.time_lanes.proofs.lane.Lane.late.Goals as goal
 
@@ -44,3 +46,8 @@ returns-else-is_order_free-clause-shared g c = λ def stands.
     let later = c.append_late.new.steps in
     subst (λ (e : Def). IsSharedAt e.kind c.args.time c.args.water s c.args.steps.now later) (sym same)
     (shared_at d.kind c.args.time c.args.water s c.serve.result.span c.complete_at-found.result (64 * (s.reach + 2)) c.args.steps.now later c.serve.ensures.length c.serve.ensures.slide c.complete_at-found.ensures.starts c.complete_at-found.ensures.within c.complete_at-found.ensures.holds c.append_late.ensures.cost c.append_late.ensures.shared)
+
+pub returns-else-is_order_free-clause-order_free : goal.returns-else-is_order_free-clause-order_free
+returns-else-is_order_free-clause-order_free g c = λ def stands free.
+    let same : def ≡ c.serve.result.def = same_window c.args.defs.now.windows c.args.window def c.serve.result.def stands c.serve.ensures.stands in
+    absurd (false≢true (sym c.if-is_order_free.false ∙ c.is_order_free.ensures ∙ ap (λ (e : Def). is_order_free e.func) (sym same) ∙ free))
