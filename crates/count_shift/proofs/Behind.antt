@@ -109,6 +109,15 @@ follows_put count from kept x old new le f t = record {
   early = omega (arith, t.gone, f.early, upper_put kept x from);
 }
 
+-- the tuples that it has itself where none has left
+pub follows_own : (count time : ℕ) (lane : Laned) → lane.gone ≡ 0 → TimesDoNotFall lane.kept → Follows count time lane.kept lane
+follows_own count time lane none h = record {
+  ordered = h;
+  stay = ap (λ g. drop g lane.kept) (sym none);
+  whole = omega (arith, none, div-mul-le_self lane.gone count);
+  early = omega (arith, none);
+}
+
 -- and with more room
 pub follows_with_room : (count time : ℕ) (kept : List Kept) (old new : Laned) → HasMoreRoom old new → Follows count time kept old → Follows count time kept new
 follows_with_room count time kept old new same f = record {

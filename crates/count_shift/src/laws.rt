@@ -9,6 +9,7 @@ ghost use Rattle.stream_base.specs.Model.Changes.{emissions, retractions};
 ghost use Rattle.stream_base.specs.Model.Journal.{put_in_order};
 ghost use Rattle.stream_base.specs.Model.Windows.{ranks, standing_of};
 ghost use Rattle.count_shift.specs.Counting.{IsEvents, IsNextPosition, count_of, moment, numbers, told_by_move, told_by_put, upper, upper_after};
+ghost use Rattle.count_shift.specs.Lane.{Follows, Laned};
 
 /// A tuple is put behind all that have its time or an earlier one.
 #[tactic(auto, using(crate::proofs::Upper::rank_is_upper))]
@@ -49,4 +50,16 @@ pub fn watermark_completes_the_next_instances()
         (old new : ℕ) → IsEvents def.kind → TimesDoNotFall kept
         → completions key (moment kept marks old) new (window, def)
         ≡ told_by_move window key def.func (count_of def.kind) kept old new }
+{}
+
+/// A lane that none has left follows its own tuples; one that follows a key up to a time does so up
+/// to each later one, and its ranks from there on are those among all, less those that left.
+pub fn tuples_that_stay_are_enough()
+    ensures own { (count time : ℕ) (lane : Laned) → lane.gone ≡ 0 → TimesDoNotFall lane.kept
+        → Follows count time lane.kept lane }
+    ensures later { (count early late : ℕ) (kept : List Kept) (lane : Laned) → early ≤ late
+        → Follows count early kept lane → Follows count late kept lane }
+    ensures ranks { (count from : ℕ) (kept : List Kept) (lane : Laned) (time : ℕ)
+        → Follows count from kept lane → from ≤ time
+        → upper kept time ≡ lane.gone + upper lane.kept time }
 {}

@@ -23,6 +23,8 @@ enum Step {
     Put(u64, i64, u64, u64),
     // A move of the watermark.
     Water(u64, u64),
+    // No tuple comes before a time any more.
+    Settle(u64),
 }
 
 // The sums of a key: its tuples, and the changes.
@@ -63,6 +65,7 @@ impl Pairs {
                 assert_eq!(rt; found, rank, "at step {pos}");
             }
             Step::Water(old, new) => self.move_water(old, new)?,
+            Step::Settle(time) => self.lane.drop_settled(2, time),
         }
         Ok(())
     }
@@ -191,6 +194,66 @@ fn a_late_tuple_fills_an_instance(rt: HostRuntime) -> Result<(), Fail> {
         again(&a, 0, 9, 17),
         new(&a, 2, 18),
     ];
+    let mut pairs = Pairs::new(rt.alloc(), Steps::start(&rt))?;
+    pairs.follow(&rt, &script)?;
+    assert_eq!(rt; pairs.changes.as_slice(), told.as_slice());
+    Ok(())
+}
+
+// Of six tuples the first four leave, and the others are told by the ranks that they have among all.
+#[test]
+fn instances_leave_that_no_tuple_shifts(rt: HostRuntime) -> Result<(), Fail> {
+    let script = [
+        (Step::Put(1, 1, 0, 0), 0),
+        (Step::Put(2, 2, 0, 1), 0),
+        (Step::Put(3, 4, 0, 2), 0),
+        (Step::Put(4, 8, 0, 3), 0),
+        (Step::Put(5, 16, 0, 4), 0),
+        (Step::Put(6, 32, 0, 5), 0),
+        (Step::Water(0, 6), 3),
+        (Step::Settle(4), 3),
+        (Step::Put(5, 64, 6, 5), 4),
+        (Step::Put(4, 128, 6, 4), 6),
+        (Step::Settle(6), 6),
+        (Step::Put(7, 256, 6, 8), 6),
+        (Step::Put(8, 512, 6, 9), 6),
+        (Step::Water(6, 8), 7),
+        (Step::Put(7, 1024, 8, 9), 8),
+    ];
+    let a = KeyText::from_bytes(b"a")?;
+    let told = [
+        new(&a, 0, 3),
+        new(&a, 2, 12),
+        new(&a, 4, 48),
+        again(&a, 4, 80, 48),
+        again(&a, 4, 144, 80),
+        new(&a, 6, 96),
+        new(&a, 8, 768),
+        again(&a, 8, 1280, 768),
+    ];
+    let mut pairs = Pairs::new(rt.alloc(), Steps::start(&rt))?;
+    pairs.follow(&rt, &script)?;
+    assert_eq!(rt; pairs.changes.as_slice(), told.as_slice());
+    Ok(())
+}
+
+// The third tuple can't be shifted, but the one that fills its instance is to come.
+#[test]
+fn a_part_of_an_instance_stays(rt: HostRuntime) -> Result<(), Fail> {
+    let script = [
+        (Step::Put(1, 1, 0, 0), 0),
+        (Step::Put(2, 2, 0, 1), 0),
+        (Step::Put(3, 4, 0, 2), 0),
+        (Step::Water(0, 3), 1),
+        (Step::Settle(3), 1),
+        (Step::Put(3, 8, 3, 3), 2),
+        (Step::Settle(3), 2),
+        (Step::Put(4, 16, 3, 4), 2),
+        (Step::Put(3, 32, 3, 4), 2),
+        (Step::Water(3, FINAL), 3),
+    ];
+    let a = KeyText::from_bytes(b"a")?;
+    let told = [new(&a, 0, 3), new(&a, 2, 12), new(&a, 4, 48)];
     let mut pairs = Pairs::new(rt.alloc(), Steps::start(&rt))?;
     pairs.follow(&rt, &script)?;
     assert_eq!(rt; pairs.changes.as_slice(), told.as_slice());
