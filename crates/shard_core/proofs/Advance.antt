@@ -415,7 +415,7 @@ module _ {K : Type 0} (key_of : K → List ℕ) (fits : Definitions → List Kep
             let exact = exact_so_far key_of fits next_position d sources journal limits f.0 slot (get_or t.dues.items f.1 0) was in
             let same = progress_stays d sources journal e progress f.0 in
             record {
-              brings = subst (BringsMore d f.0 (kept f.0) (marks f.0) (water_of sources journal)) is
+              is_due = subst (BringsMore d f.0 (kept f.0) (marks f.0) (water_of sources journal)) is
                   (exact.brings (water_of sources journal) new (subst IsWater water was.is_water) is_water (omega arith) (exact.above (omega (arith, due, at_most_final new is_water))) due);
               is_bound = subst (λ n. bounds d f.0 (moment (kept f.0) (marks f.0) (water_of sources journal)) n most) (λ j. moment (sym same.kept j) (sym same.marks j) (is j))
                   (subst (λ w. bounds d f.0 (moment (kept f.0) (marks f.0) w) (moment (kept f.0) (marks f.0) new) most) water

@@ -69,7 +69,7 @@ module _ (s : Sharded) (e : Entry) (old new : ℕ) (limits : AreWithinLimits s.d
   all_over (k ∷ ks) a =
       let one = All-head (λ k. IsDueBy (bounds_move is_height) s e k.0 k.1) k ks a in
       All-cons (λ (k : List ℕ × ℕ). IsDueOver s e k.0 k.1) (k.0, one.is_bound.0) (with_heights ks (All-tail (λ k. IsDueBy (bounds_move is_height) s e k.0 k.1) k ks a))
-      (record { brings = one.brings; is_height = height_over (length (slices_in s k.0)) one.is_bound.0 one.is_bound.1 })
+      (record { is_due = one.is_due; is_height = height_over (length (slices_in s k.0)) one.is_bound.0 one.is_bound.1 })
       (all_over ks (All-tail (λ k. IsDueBy (bounds_move is_height) s e k.0 k.1) k ks a))
 
   same_sum : (due : List (List ℕ × ℕ)) (a : All (λ k. IsDueBy (bounds_move is_height) s e k.0 k.1) due) → sum_by (λ (k : List ℕ × ℕ). steps_of_move s e k.0 k.1) (with_heights due a) ≡ sum_by (λ (k : List ℕ × ℕ). k.1) due

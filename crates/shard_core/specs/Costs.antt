@@ -8,15 +8,12 @@ use Rattle.stream_base.specs.declared.kept.Kept.{Kept}
 use Rattle.stream_base.specs.declared.what.What.TheVariants.{Tuple, Mark}
 use Rattle.stream_base.specs.Model.Changes.{changes_after, moment_of}
 use Rattle.stream_base.specs.Model.Cuts.{has_cut}
-use Rattle.stream_base.specs.Model.Journal.{kept_of, marks_of}
-use Rattle.stream_base.specs.Model.Watermark.{water_of}
 use Rattle.stream_base.specs.Model.What.{is_progress}
 use Rattle.slice_lists.specs.Touched.{is_across, is_near}
 use Rattle.slice_lists.specs.Slices.{joined}
-use Rattle.key_windows.specs.Calls.{BringsMore}
 use Rattle.key_slicer.specs.Work.{counting_work, move_over, slices_gone}
 use Rattle.shard_core.specs.Shard.{Sharded, sharded_with, slices_after}
-use Rattle.shard_core.specs.Work.{comes_late}
+use Rattle.shard_core.specs.Work.{IsDueWith, comes_late}
 
 -- the slices of what isn't settled of a key of a shard
 abbrev pub slices_in : Sharded → List ℕ → List (List Kept)
@@ -66,9 +63,9 @@ abbrev pub steps_of_move : Sharded → Entry → List ℕ → ℕ → ℕ
 steps_of_move s e key height =
     move_over s.defs key (moment_of s.defs s.sources key s.journal) (moment_of s.defs s.sources key (s.journal ++ e ∷ [])) (slices_in s key) (slices_in (sharded_with s e) key) height
 
--- of a key something becomes complete or settled by an entry, and this is a height of a tree over its slices
+-- of a key something is due with an entry, and this is a height of a tree over its slices
 pub record IsDueOver (s : Sharded) (e : Entry) (key : List ℕ) (height : ℕ) : Type 0 where
-  pub brings : BringsMore s.defs key (kept_of s.defs.lateness s.sources key s.journal) (marks_of s.defs.lateness s.sources key s.journal) (water_of s.sources s.journal) (water_of s.sources (s.journal ++ e ∷ []))
+  pub is_due : IsDueWith s e key
   pub is_height : IsHeightOver s key height
 
 -- the steps rise by no more than the sum of that over keys of which something is due, each once and with a height
