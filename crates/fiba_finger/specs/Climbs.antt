@@ -1,5 +1,5 @@
 -- Climbing along the right edge of a tree, and what is done there.
-use Rattle.std.specs.Prelude.{◌≡◌, ◌≤◌, ◌<◌, ◌+◌, ◌-◌, ◌*◌, ◌^◌, ℕ, true, List, Option, All}
+use Rattle.std.specs.Prelude.{◌≡◌, ◌≤◌, ◌<◌, ◌+◌, ◌-◌, ◌*◌, ◌^◌, ℕ, true, Option, All}
 use Rattle.agg_laws.specs.Pairs.{AreRising, distance}
 use Rattle.fiba_nodes.specs.declared.item.Item.{Item}
 use Rattle.fiba_nodes.specs.declared.root.Root.{Root}
