@@ -1,5 +1,5 @@
--- A pair that was taken out isn't there.
-use Rattle.std.proofs.Common.{◌≡◌, Bool, true, false, not, List, [], ◌∷◌, refl}
+-- A pair that was taken out isn't there, and one that was put in is.
+use Rattle.std.proofs.Common.{◌≡◌, ◌||◌, ◌++◌, Bool, true, false, not, List, [], ◌∷◌, refl}
 use Rattle.std.specs.Prelude.{filter}
 use Rattle.std.specs.List.{list_any}
 
@@ -11,3 +11,12 @@ none_step test x xs false e rest = rw (e, e) rest
 pub none_left : {X : Type 0} (test : X → Bool) (xs : List X) → list_any test (filter (λ x. not (test x)) xs) ≡ false
 none_left test [] = refl
 none_left test (x ∷ xs) = none_step test x xs (test x) refl (none_left test xs)
+
+-- what was put between others is there
+pub there : {X : Type 0} (test : X → Bool) (xs : List X) (x : X) (ys : List X) → test x ≡ true → list_any test (xs ++ x ∷ ys) ≡ true
+there test [] x ys t = rw t refl
+there test (z ∷ xs) x ys t = by (test z) (there test xs x ys t)
+  where
+    by : (b : Bool) → list_any test (xs ++ x ∷ ys) ≡ true → (b || list_any test (xs ++ x ∷ ys)) ≡ true
+    by true later = refl
+    by false later = later

@@ -437,6 +437,51 @@ fn a_thousand_keys_in_order_climb_no_level(rt: HostRuntime) {
     answers(&rt, &tree, &THOUSAND, &mut steps);
 }
 
+// Another value under a key, and how many steps it took to set it.
+fn set_near(
+    rt: &impl Abort,
+    tree: &mut FingerTree<Sum>,
+    key: u64,
+    value: Sum,
+    steps: &mut Steps<Work>,
+) -> u64 {
+    let mut probes = Probes::new();
+    let _former = tree.remove(key, &mut probes, steps);
+    let Ok(()) = tree.reserve(1) else {
+        panic!(rt; "no memory");
+    };
+    tree.insert(key, Sum::unit(), &mut probes, steps);
+    let before = steps.count();
+    tree.set(key, value, &mut probes, steps);
+    steps.count().saturating_sub(before)
+}
+
+// Of the keys 2, 4 and so on up to 2000 some that get another value, with as many steps at most as a
+// climb of their distance asks for.
+const RESET: [(u64, u64); 4] = [(2000, 8), (1998, 16), (1994, 24), (20, 80)];
+
+const RESET_SUMS: [Row; 3] = [
+    (
+        "three values among the last four",
+        Ask::Sum(1994, 2001),
+        Some(16),
+    ),
+    ("a value among the first", Ask::Sum(2, 41), Some(24)),
+    ("all values", Ask::Sum(0, 2001), Some(1016)),
+];
+
+#[test]
+fn another_value_of_a_thousand_costs_what_its_distance_asks(rt: HostRuntime) {
+    let mut steps: Steps<Work> = Steps::start(&rt);
+    let mut tree: FingerTree<Sum> = FingerTree::fresh(rt.alloc());
+    puts_even_keys(&rt, &mut tree, &mut steps);
+    for (key, most) in &RESET {
+        let cost = set_near(&rt, &mut tree, *key, Sum::lift(5), &mut steps);
+        assert!(rt; cost <= *most, "at {key}");
+    }
+    answers(&rt, &tree, &RESET_SUMS, &mut steps);
+}
+
 const SPLIT: [Row; 2] = [
     ("the fourth key splits the leaf", Ask::Height, Some(2)),
     ("a range over both leaves", Ask::Sum(2, 5), Some(14)),

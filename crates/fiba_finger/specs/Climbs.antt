@@ -1,5 +1,5 @@
 -- Climbing along the right edge of a tree, and what is done there.
-use Rattle.std.specs.Prelude.{◌≡◌, ◌≤◌, ◌<◌, ◌+◌, ◌-◌, ◌^◌, ℕ, true, List, Option, All}
+use Rattle.std.specs.Prelude.{◌≡◌, ◌≤◌, ◌<◌, ◌+◌, ◌-◌, ◌*◌, ◌^◌, ℕ, true, Option, All}
 use Rattle.agg_laws.specs.Pairs.{AreRising, distance}
 use Rattle.fiba_nodes.specs.declared.item.Item.{Item}
 use Rattle.fiba_nodes.specs.declared.root.Root.{Root}
@@ -14,6 +14,13 @@ use Rattle.fiba_finger.specs.Edges.{ahead, edge, left_edge}
 -- a change may climb so many levels where so many pairs lie behind its key
 abbrev pub IsNear : ℕ → ℕ → Type 0
 IsNear levels behind = 2 ^ levels ≤ behind + 1
+
+-- a value was set in a tree of this height, from its last leaf: so many levels were climbed, at eight steps each and eight more
+pub record ClimbsNear (behind height made makes : ℕ) : Type 0 where
+  pub climbs : ℕ
+  pub near : IsNear climbs behind
+  pub within : climbs < height
+  pub cost : makes ≤ made + 8 * (climbs + 1)
 
 -- the node stands on the right edge, with so many levels of nodes below it
 pub record IsOnEdge {M : Type 0} (store : Store M) (root : Root) (at below : ℕ) : Type 0 where

@@ -4,13 +4,14 @@
 //!
 //! *Stands on* `agg_laws`, and on `fiba_nodes`, which it shares with the arena tree.
 //! *Promise*: a finger tree is its list of pairs with rising keys, and an insertion touches only the
-//! levels that it climbs or splits.
+//! levels that it climbs or splits, another value under a key only those that it climbs.
 //!
-//! - `ascending`, `growing`: a climb from a node on the right edge ends at a tree that has the place
-//!   of a key, no higher than the distance asks, and an item let in there leaves a sound tree again.
+//! - `ascending`, `growing`, `renewing`: a climb from a node on the right edge ends at a tree that has
+//!   the place of a key, no higher than the distance asks, and an item let in there, be it in the
+//!   place of another, leaves a sound tree again.
 //! - `draining`: the first item is taken out along the left edge, and leaves a sound tree too, or of
 //!   its root only one child.
-//! - `put`, `take`, `tree`: the calls of the tree.
+//! - `put`, `set`, `take`, `tree`: the calls of the tree.
 //!
 //! Aggregates go by place. A node off both edges keeps that of its whole tree; one on an edge leaves
 //! out the child on that edge. So what lies above a node on the right edge counts nothing of it, and

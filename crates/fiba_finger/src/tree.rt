@@ -4,7 +4,7 @@ ghost use Rattle.agg_laws.specs.Laws.{total};
 ghost use Rattle.agg_laws.specs.Pairs.{AreRising, distance, has_key, within, values_of};
 ghost use Rattle.agg_laws.specs.Tables.{Inserts, IsHeight, IsLeast, IsReach, MayInsert, Removes, Replaces, Reserves};
 ghost use Rattle.fiba_nodes.specs.Arena.{IsBalanced};
-ghost use Rattle.fiba_finger.specs.Climbs.{IsNear};
+ghost use Rattle.fiba_finger.specs.Climbs.{ClimbsNear, IsNear};
 ghost use Rattle.fiba_finger.specs.Fingers.{Shrinks};
 
 use crate::edge::right_place;
@@ -20,12 +20,12 @@ use stream_base::NoMemory;
 
 /// A tree of partial aggregates with a finger at its first leaf and one at its last.
 ///
-/// Its reach is its height. `insert_near` works from the finger, so what it does grows with the
-/// logarithm of the distance from the end and with the nodes that it splits. Contracts see its
-/// pairs, for how many more there is room, its height, how many nodes it has, and how many nodes of
-/// its arena are full, with three items. Each split makes one more node, and so does each level of
-/// height. A split takes a full node away, an insertion makes one at most, and no other call makes
-/// any: so the splits of a run are at most its insertions.
+/// Its reach is its height. `insert_near` and `set` work from the finger, so what they do grows with
+/// the logarithm of the distance from the end, and an insertion also with the nodes that it splits.
+/// Contracts see its pairs, for how many more there is room, its height, how many nodes it has, and
+/// how many nodes of its arena are full, with three items. Each split makes one more node, and so
+/// does each level of height. A split takes a full node away, an insertion makes one at most, and no
+/// other call makes any: so the splits of a run are at most its insertions.
 #[derive(Drop)]
 pub struct FingerTree<M: Monoid> {
     nodes: Nodes<M>,
@@ -154,12 +154,14 @@ impl<M: Monoid> AggTree<M> for FingerTree<M> {
 
     /// Puts another value under a key that is there, from the last leaf: it climbs as many levels as
     /// an insertion there, and writes anew only what lies on the way down from the node that it
-    /// reaches. At most `8 * (levels + 1)` steps.
+    /// reaches. At most `8 * (climbs + 1)` steps.
     fn set<L>(&mut self, key: u64, value: M, probes: &mut Probes, steps: &mut Steps<L>)
         requires { IsTrue (has_key key self.old.table.pairs) }
         ensures replaces { Replaces key value self.old.table self.new.table }
         ensures reach { IsReach IsBalanced self.old.height self.new.table self.new.height }
         ensures full { self.new.full ≡ self.old.full }
+        ensures climbs { ClimbsNear (distance key self.old.table.pairs) self.old.height
+            steps.old steps.new }
         ensures near { WorksNear IsNear (distance key self.old.table.pairs) self.old.height
             probes.old probes.new steps.old steps.new }
         ensures work { Works (16 * (self.old.height + 2))

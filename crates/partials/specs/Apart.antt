@@ -16,7 +16,7 @@ pub record KeepsRoom (old new : Sums) : Type 0 where
   pub reach : new.reach ≤ old.reach
   pub edge : new.edge ≡ old.edge
 
--- a partial changed that has so many behind it: no level of a tree was taken in the row, and else no more than are near where no more than these lie behind; the steps go by the levels, and so many may come on top
+-- a partial changed that has so many behind it: in the row it took no level of a tree, and else no more than are near where no more lie behind; the steps go by the levels, and so many come on top
 pub record SpendsNear (Near : ℕ → ℕ → Type 0) (behind reach more made makes : ℕ) : Type 0 where
   pub levels : ℕ
   pub pairs : ℕ

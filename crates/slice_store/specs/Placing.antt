@@ -38,4 +38,5 @@ placed_in (run ∷ next ∷ runs) last = Merged
 -- where a tuple at a time enters one slice, and doesn't come before that, the steps go by as many levels as are near where so many slices begin later, and by how many tuples are folded anew
 abbrev pub PutsNear : (ℕ → ℕ → Type 0) → List Def → ℕ → Stored → ℕ → ℕ → Type 0
 PutsNear Near windows time s made makes =
-    (run : List Kept) → slices_near windows time s ≡ run ∷ [] → first_time run ≤ time → SpendsNear Near (length (slices_from (time + 1) s.slices)) s.reach (2 + refolded time run) made makes
+    (run : List Kept) → slices_near windows time s ≡ run ∷ [] → first_time run ≤ time
+    → SpendsNear Near (length (slices_from (time + 1) s.slices)) s.reach (2 + refolded time run) made makes

@@ -4,6 +4,7 @@ use agg_laws::{AggTree, Steps};
 use agg_store::AggStore;
 use aggregates::Bundle;
 use fiba_arena::ArenaTree;
+use fiba_finger::FingerTree;
 use flat_tree::FlatTree;
 use slice_lists::Slice;
 use slice_store::{Placed, SliceStore};
@@ -78,6 +79,23 @@ impl<T: AggTree<Bundle>> Slices<T> {
             }
         }
         Ok(())
+    }
+
+    // A thousand slices of ten, each with two tuples of value 1.
+    fn fill(&mut self, rt: &impl Abort) -> Result<(), Fail> {
+        for i in 0..1000 {
+            let low = 10 * i + 1;
+            self.take(rt, 2 * i, Step::Put(low, 1, Placed::Added))?;
+            self.take(rt, 2 * i + 1, Step::Put(low + 4, 1, Placed::Appended))?;
+        }
+        Ok(())
+    }
+
+    // How many steps a tuple of value 1 takes that comes late in a slice.
+    fn cost_of(&mut self, rt: &impl Abort, pos: u64, time: u64) -> Result<u64, Fail> {
+        let before = self.steps.count();
+        self.take(rt, pos, Step::Put(time, 1, Placed::Joined))?;
+        Ok(self.steps.count().saturating_sub(before))
     }
 
     // No slice is left.
@@ -190,4 +208,32 @@ fn a_mark_splits_the_slice_that_is_across_it(rt: HostRuntime) -> Result<(), Fail
     };
     assert_eq!(rt; slices.store.slice_from(6), Some(behind));
     Ok(())
+}
+
+// Late tuples over a thousand slices, of which the last 256 stand in the row, and how many steps each
+// takes at most.
+const LATE: [(u64, u64); 4] = [
+    // Behind those of its slice in the row: its partial is combined with it once.
+    (9977, 1),
+    // Between those of its slice in the row: three tuples are folded.
+    (9983, 3),
+    // In the tree, where three slices lie behind: two levels at most.
+    (7407, 26),
+    // In the tree, where 643 lie behind: nine levels at most.
+    (1007, 82),
+];
+
+#[test]
+fn a_late_tuple_costs_what_the_slices_behind_it_ask(rt: HostRuntime) -> Result<(), Fail> {
+    let windows = vec![in rt.alloc(); window(Kind::Tumbling { length: 10 })]?;
+    let steps = Steps::start(&rt);
+    let mut slices: Slices<FingerTree<Bundle>> = Slices::new(rt.alloc(), windows, steps)?;
+    slices.fill(&rt)?;
+    for k in 0..LATE.len() {
+        let (time, most) = LATE[k];
+        let cost = slices.cost_of(&rt, 2000 + k as u64, time)?;
+        assert!(rt; cost <= most, "at {time}");
+    }
+    assert_eq!(rt; slices.store.slice_count(), 1000);
+    slices.take(&rt, 2004, Step::Fold(Func::Sum, 2004))
 }

@@ -1,5 +1,5 @@
 -- The node keeps its number of items, and is written in its place.
-use Rattle.std.proofs.Common.{◌≡◌, ◌≤◌, ◌-◌, suc, true, length, arith, sym, ap, ◌∙◌}
+use Rattle.std.proofs.Common.{◌≤◌, ◌-◌, suc, true, length, arith, sym, ap, ◌∙◌}
 use Rattle.std.specs.Option.{option_map}
 use Rattle.fiba_nodes.specs.Rows.{listed}
 use Rattle.fiba_nodes.specs.Stores.{look}

@@ -1,5 +1,5 @@
 -- The node that was reached still stands on the edge, which goes on below it to the finger.
-use Rattle.std.proofs.Common.{◌≡◌, ◌-◌, suc, true, sym, ap, subst, ◌∙◌, arith}
+use Rattle.std.proofs.Common.{◌-◌, suc, true, sym, ap, subst, ◌∙◌, arith}
 use Rattle.fiba_nodes.specs.Trees.{IsAt, plain}
 use Rattle.fiba_finger.specs.Edges.{edge}
 use Rattle.fiba_finger.proofs.Edges.{edge_parts, edge_sound, left_at}

@@ -55,3 +55,15 @@ returns-clause-near g c =
       within = omega (arith, height, c.set_near-set.ensures.climbs);
       work = record { rises = work.rises; cost = omega (arith, work.cost) };
     }
+
+pub returns-clause-climbs : goal.returns-clause-climbs
+returns-clause-climbs g c =
+    let pairs = ap (λ v. v.table.pairs) c.self.view_is in
+    let height = ap (λ v. v.height) c.self.view_is in
+    let behind = ap (distance c.args.key) pairs in
+    record {
+      climbs = c.set_near-set.result.climbs;
+      near = omega (arith, c.set_near-set.ensures.near, behind);
+      within = omega (arith, height, c.set_near-set.ensures.climbs);
+      cost = c.set_near-set.ensures.work.cost;
+    }
