@@ -1,9 +1,9 @@
 -- What the store of a key holds: all but some first tuples that are settled.
-use Rattle.std.proofs.Common.{◌≡◌, ◌∙◌, ℕ, zero, suc, ◌+◌, ◌-◌, ◌^◌, ◌<◌, ◌≤◌, true, false, List, [], ◌∷◌, length, take, drop, ap, sym, subst, refl, arith, inl, inr}
-use Rattle.std.specs.Prelude.{◌≢◌, ◌⊎◌, nat_lt}
+use Rattle.std.proofs.Common.{◌≡◌, ◌∙◌, ℕ, zero, suc, ◌+◌, ◌-◌, ◌<◌, ◌≤◌, true, false, List, [], ◌∷◌, length, take, drop, ap, sym, subst, refl, arith}
+use Rattle.std.specs.Prelude.{◌≢◌, nat_lt}
 use Rattle.std.specs.List.{All, Contains, filter}
-use Rattle.std.proofs.lemmas.Bool.{cases_Bool, false≢true}
-use Rattle.std.proofs.lemmas.List.{length-drop, take-append-drop}
+use Rattle.std.proofs.lemmas.Bool.{false≢true}
+use Rattle.std.proofs.lemmas.List.{take-append-drop}
 use Rattle.std.proofs.lemmas.List.Elements.{All-contains, All-drop, All-filter, All-weaker, Contains-append_left, Contains-append_right, Contains-get_or}
 use Rattle.std.proofs.lemmas.List.Sorted.{IsNonDecreasingBy-drop}
 use Rattle.stream_base.specs.declared.def.Def.{Def}
@@ -24,7 +24,6 @@ use Rattle.window_laws.proofs.InstanceFacts.{bounds_are_ends, spans_hold_selecti
 use Rattle.window_laws.proofs.KeptFacts.{put_is_kept}
 use Rattle.window_laws.proofs.LeaveChanges.{may_leave_after_tuple, tuple_enters_the_rest}
 use Rattle.window_laws.proofs.LeaveFacts.{EndBy, firsts_leave}
-use Rattle.run_laws.proofs.RunFacts.{put_behind, put_first}
 use Rattle.window_laws.proofs.SettledFacts.{all_member, settled_by_times}
 use Rattle.agg_store.specs.Stored.{IsSliced, Stored, tuples_of}
 use Rattle.window_spans.proofs.Parts.{filter_alike}

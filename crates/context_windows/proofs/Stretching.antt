@@ -1,6 +1,6 @@
 -- Spans that follow the intervals between marks, and what is told of them.
 use Rattle.std.proofs.Common.{◌≡◌, ◌∙◌, ℕ, ◌+◌, ◌<◌, ◌≤◌, Bool, true, false, cond, List, [], ◌∷◌, ◌++◌, length, map, max, Option, None, Some, ap, sym, refl, subst, arith, inl, inr}
-use Rattle.std.specs.Prelude.{◌&&◌, ◌^◌, nat_le, nat_lt, option_to_list}
+use Rattle.std.specs.Prelude.{◌&&◌, nat_le, nat_lt, option_to_list}
 use Rattle.std.specs.BTreeSet.{insert_key}
 use Rattle.std.specs.List.{All, Contains, filter}
 use Rattle.std.specs.Ordering.{nat_cmp}

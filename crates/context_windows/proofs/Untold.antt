@@ -1,13 +1,12 @@
 -- Where the watermark isn't behind a tuple's time, no session near it stands, and neither does the one that it makes.
-use Rattle.std.proofs.Common.{◌≡◌, ◌∙◌, ℕ, ◌+◌, ◌<◌, ◌≤◌, Bool, true, false, cond, List, [], ◌∷◌, length, take, ap, sym, refl, arith}
-use Rattle.std.specs.Prelude.{◌&&◌, nat_le, nat_lt}
-use Rattle.std.specs.List.{All, filter}
+use Rattle.std.proofs.Common.{◌≡◌, ℕ, ◌+◌, ◌<◌, ◌≤◌, false, cond, List, [], length, take, ap, arith}
+use Rattle.std.specs.Prelude.{nat_lt}
+use Rattle.std.specs.List.{filter}
 use Rattle.std.proofs.lemmas.Bool.{and_parts, ltb-true}
 use Rattle.std.proofs.lemmas.Bool.Decides.{nat_tests}
-use Rattle.std.proofs.lemmas.List.Elements.{All-weaker}
 use Rattle.stream_base.proofs.Filters.{filter_none}
 use Rattle.window_spans.specs.declared.span.Span.{Span}
-use Rattle.window_spans.specs.Spans.{asked_of, changes_of_joining, goes, is_near, joined_span, near_of, over_both, put_changes, span_alone, stands}
+use Rattle.window_spans.specs.Spans.{asked_of, goes, is_near, joined_span, near_of, put_changes, span_alone, stands}
 use Rattle.window_spans.proofs.Apart.{All_filtered, high_rises}
 
 module _ (gap time water : ℕ) (ahead : water ≤ time) where

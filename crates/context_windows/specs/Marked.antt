@@ -1,5 +1,5 @@
 -- What the intervals between the marks of a key are in contracts.
-use Rattle.std.specs.Prelude.{◌≡◌, ◌≤◌, ◌<◌, ◌^◌, ◌⊎◌, ℕ, List, [], ◌∷◌, filter, length, map, max, nat_lt, nat_le, All, Option, None, Some, option_to_list, if◌then◌else◌}
+use Rattle.std.specs.Prelude.{◌≡◌, ◌≤◌, ◌<◌, ◌⊎◌, ℕ, List, [], ◌∷◌, filter, map, max, nat_lt, nat_le, All, Option, None, Some, option_to_list, if◌then◌else◌}
 use Rattle.std.specs.List.{Contains}
 use Rattle.std.specs.List.Sorted.{IsStrictlyIncreasing}
 use Rattle.stream_base.specs.declared.def.Def.{Def}

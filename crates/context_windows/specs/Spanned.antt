@@ -1,5 +1,5 @@
 -- What the sessions of a key are in contracts.
-use Rattle.std.specs.Prelude.{◌≡◌, ◌≤◌, ◌<◌, ◌^◌, ◌++◌, ℕ, List, filter, length, map, max, nat_lt, slice_index_or, All}
+use Rattle.std.specs.Prelude.{◌≡◌, ◌≤◌, ◌<◌, ◌++◌, ℕ, List, filter, length, map, max, nat_lt, slice_index_or, All}
 use Rattle.stream_base.specs.declared.change.Change.{Change}
 use Rattle.stream_base.specs.declared.def.Def.{Def}
 use Rattle.stream_base.specs.declared.func.Func.TheVariants.{Count}

@@ -4,8 +4,7 @@ use Rattle.std.specs.Prelude.{option_to_list}
 use Rattle.std.specs.List.{All}
 use Rattle.run_laws.proofs.Order.{All-split}
 use Rattle.window_spans.specs.Held.{IsAlignedWith}
-use Rattle.window_spans.specs.Spans.{AreApart, asked_of, is_near}
-use Rattle.window_spans.proofs.Apart.{apart_filter}
+use Rattle.window_spans.specs.Spans.{asked_of}
 use Rattle.context_windows.specs.Spanned.{gap_at, window_at}
 use Rattle.context_windows.proofs.Changing.{remembered}
 use Rattle.context_windows.proofs.sessions.Sessions.before.Goals as goal
