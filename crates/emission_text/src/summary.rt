@@ -3,14 +3,15 @@ ghost use Rattle.stream_base.specs.Model.Final.{summary_of, window_lines};
 ghost use Rattle.emission_text.specs.Sending.{Puts, Writes};
 ghost use Rattle.emission_text.specs.Summary.{last_line, lines_behind, tally_line, windows_lines};
 
-use crate::change_line::put_row;
+use crate::change_line::put_change;
 use crate::pending::Pending;
 use crate::pieces::{put_numbered, put_pieces};
 use crate::sink_fault::SinkFault;
 use crate::tally::Tally;
 use itoa::Buffer;
 use outside::Sink;
-use stream_base::Row;
+use report_lines::ReportForm;
+use stream_base::{Change, Row};
 
 /// Writes the summary of rows: a line with the number of tuples that were made; for each of so many
 /// windows how many of the rows are its own, the sum of their numbers, and the line of the last of
@@ -116,6 +117,6 @@ fn put_last<K: Sink>(last: &Option<Row>, out: &mut Pending, sink: &mut K) -> Res
 {
     match last {
         None => Ok(()),
-        Some(row) => put_row(b"+", row, out, sink),
+        Some(row) => put_change(ReportForm::One, &Change::New(*row), out, sink),
     }
 }

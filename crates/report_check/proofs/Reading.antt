@@ -1,14 +1,8 @@
 -- Headers, and entries at the end of the last journal.
-use Rattle.std.proofs.Common.{◌≡◌, ◌∙◌, ℕ, ◌-◌, ◌^◌, ◌<◌, suc, Bool, true, false, List, [], ◌∷◌, ◌++◌, length, set, get_or, min, refl, sym, ap, subst, arith, codes, ltb, IfOk, OnOk, Result, Ok, Err, Some, cond}
+use Rattle.std.proofs.Common.{◌≡◌, ◌∙◌, ℕ, ◌-◌, ◌<◌, suc, false, List, [], ◌∷◌, ◌++◌, length, set, get_or, refl, ap, subst, arith, OnOk, Result, Ok, Err, Some, cond}
 use Rattle.std.specs.Option.{option_map_or}
-use Rattle.std.specs.Prelude.{decimal, ◌&&◌}
-use Rattle.std.specs.Str.{bytes_eq}
-use Rattle.std.proofs.lemmas.Bool.Decides.{nat_tests}
 use Rattle.stream_base.specs.declared.entry.Entry.{Entry}
-use Rattle.stream_base.specs.Model.Journals.{after_line, after_word, entry_in, is_header, number_in, with_entry}
-use Rattle.stream_base.specs.Model.Text.{line_of}
-use Rattle.model_laws.proofs.Absent.{bytes_eq_true}
-use Rattle.report_laws.proofs.ReadBackExact.{is_header-exact}
+use Rattle.stream_base.specs.Model.Journals.{after_line, entry_in, is_header, with_entry}
 
 -- one entry more at the last place
 put_at_last : (journals : List (List Entry)) (e : Entry) (d : List Entry) → 0 < length journals

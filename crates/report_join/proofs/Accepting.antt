@@ -1,8 +1,8 @@
 -- The reports of runs over parts are accepted as those of their shards.
-use Rattle.std.proofs.Common.{◌≡◌, ◌∙◌, ◌+◌, ◌<◌, ◌++◌, ℕ, zero, suc, Bool, true, false, cond, List, [], ◌∷◌, length, get_or, filter, Option, None, Some, ap, sym, subst, refl, arith, append_assoc, append-nil, codes}
+use Rattle.std.proofs.Common.{◌≡◌, ◌∙◌, ◌+◌, ◌<◌, ◌++◌, ℕ, zero, suc, Bool, true, false, cond, List, [], ◌∷◌, length, get_or, filter, None, Some, ap, sym, subst, refl, arith, append_assoc, append-nil, codes}
 use Rattle.std.specs.Prelude.{◌&&◌, ◌==◌, All, decimal, not}
-use Rattle.std.specs.Fmt.{digits, signed_decimal}
-use Rattle.std.specs.List.{flat_map, list_all, position_from}
+use Rattle.std.specs.Fmt.{digits}
+use Rattle.std.specs.List.{list_all, position_from}
 use Rattle.std.proofs.lemmas.Bool.{and_parts, eq-eqb}
 use Rattle.std.proofs.lemmas.Iterator.Adapters.{position_from-zero}
 use Rattle.stream_base.specs.Limits.{Definitions}
@@ -10,14 +10,14 @@ use Rattle.stream_base.specs.declared.change.Change.{Change}
 use Rattle.stream_base.specs.declared.change.Change.TheVariants.{Gone, New, Again, Dropped}
 use Rattle.stream_base.specs.declared.entry.Entry.{Entry}
 use Rattle.stream_base.specs.Model.Journals.{AreEntriesWithin}
-use Rattle.stream_base.specs.Model.Routes.{IsLawful, entries_from, goes_to, routed}
-use Rattle.stream_base.specs.Model.Text.{Form, change_line, change_line_2, change_lines, changes_under, end_text, entry_line, journal_lines, line_of, report_1, report_2, report_of, row_fields, updated_fields}
+use Rattle.stream_base.specs.Model.Routes.{IsLawful, goes_to}
+use Rattle.stream_base.specs.Model.Text.{change_lines, changes_under, end_text, entry_line, journal_lines, line_of, report_of, row_fields, updated_fields}
 use Rattle.stream_base.specs.Model.What.{what_fields}
 use Rattle.report_lines.specs.Lines.{header_line}
-use Rattle.report_laws.specs.ReadBack.{AreWithin, IsToldFromJournals}
+use Rattle.report_laws.specs.ReadBack.{IsToldFromJournals}
 use Rattle.report_laws.proofs.ReadBack.{journals_of-report_of}
 use Rattle.report_laws.proofs.ReadBackChanges.{report_1-told, report_2-told}
-use Rattle.report_join.specs.ShardReports.{HasEnds, IsOfOneShard, IsShardReport, first_misplaced, form_told}
+use Rattle.report_join.specs.ShardReports.{HasEnds, IsShardReport, first_misplaced, form_told}
 
 -- ---- lines
 -- a line feed ends the text

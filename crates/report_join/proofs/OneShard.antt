@@ -1,5 +1,5 @@
 -- Texts that are reports of one shard.
-use Rattle.std.proofs.Common.{◌≡◌, ◌∙◌, ◌+◌, ◌-◌, ◌<◌, ◌≤◌, ◌++◌, ℕ, suc, List, [], ◌∷◌, length, drop, take, get_or, Option, None, Some, ap, sym, subst, refl, arith, codes}
+use Rattle.std.proofs.Common.{◌≡◌, ◌∙◌, ◌+◌, ◌-◌, ◌<◌, ◌≤◌, ℕ, List, [], ◌∷◌, length, drop, take, get_or, Option, None, Some, ap, sym, subst, refl, arith}
 use Rattle.std.specs.Prelude.{IfNone, IfSome}
 use Rattle.std.specs.Fmt.{digits}
 use Rattle.stream_base.specs.declared.entry.Entry.{Entry}
