@@ -1,3 +1,12 @@
+pub mod Rest
+pub mod OfSessions
+pub mod Starts
+pub mod Settling
+pub mod SessionSettling
+pub mod Edges
+pub mod OfMarks
+pub mod Dues
+pub mod Begun
 pub mod Following
 pub mod Changing
 pub mod Thirds

@@ -1,3 +1,5 @@
+pub mod SessionsStand
+pub mod MarksStand
 pub mod Spanned
 pub mod Marked
 pub mod Aligned

@@ -15,8 +15,8 @@ use Rattle.slice_lists.proofs.LeaveFacts.{from_place}
 use Rattle.slice_lists.proofs.NearFacts.{IsEdit}
 use Rattle.slice_lists.proofs.PutFacts.{near_length}
 use Rattle.slice_lists.proofs.SliceFacts.{one_between}
-use Rattle.slice_partials.specs.Following.{refolded}
-use Rattle.slice_partials.proofs.CostFacts.{spends_more}
+use Rattle.slice_store.specs.Following.{refolded}
+use Rattle.slice_store.proofs.CostFacts.{spends_more}
 
 -- none of the slices up to the place is left out
 not_before : (cut : ℕ → ℕ → Bool) (slices : List (List Kept)) (at time to : ℕ) → IsLastEntered cut slices at time to → at ≤ to

@@ -8,7 +8,7 @@ use Rattle.slice_store.specs.declared.placed.Placed.{Placed}
 use Rattle.slice_store.specs.declared.placed.Placed.TheVariants.{Appended, Joined, Added, Merged}
 use Rattle.partials.specs.Apart.{IsReachOver, SpendsNear}
 use Rattle.slice_lists.specs.Touched.{slices_from}
-use Rattle.slice_partials.specs.Following.{refolded}
+use Rattle.slice_store.specs.Following.{refolded}
 use Rattle.agg_store.specs.Entered.{slices_near}
 use Rattle.agg_store.specs.Stored.{IsAsBefore, IsSliced, Stored, tuples_of}
 

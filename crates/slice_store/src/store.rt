@@ -17,13 +17,15 @@ ghost use Rattle.agg_store.specs.Entered.{IsPut, slices_near};
 ghost use Rattle.agg_store.specs.Stored.{IsSliced, IsStore, tuples_of};
 ghost use Rattle.slice_store.specs.Placing.{MayTake, PutsNear, Reserves, is_last, placed_in};
 
+use crate::entering::enter;
+use crate::leaving::take_first;
 use crate::placed::Placed;
+use crate::splitting::split;
 use agg_laws::{AggTree, Steps};
 use agg_store::AggStore;
 use aggregates::Bundle;
 use partials::Partials;
 use slice_lists::Slice;
-use slice_partials::{enter, split, take_first};
 use slice_runs::{Marks, Runs, first_entered, last_entered};
 use std::alloc::Global;
 use std::marker::Model;

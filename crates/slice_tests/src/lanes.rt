@@ -2,7 +2,7 @@ ghost use Rattle.std.specs.Prelude.{◌≡◌, ◌≤◌, IfOk, true};
 ghost use Rattle.stream_base.specs.declared.limits.TheConstants.{TIME_MAX};
 ghost use Rattle.stream_base.specs.Laws.{is_timed};
 ghost use Rattle.agg_store.specs.Stored.{IsSliced};
-ghost use Rattle.interval_walks.specs.Spans.{IsWater, is_served};
+ghost use Rattle.time_lanes.specs.Spans.{IsWater, is_served};
 
 use crate::told::{Work, again, new};
 use agg_laws::{AggQueue, AggTree, Steps};

@@ -14,14 +14,14 @@ use Rattle.run_laws.specs.Runs.{AreInOrder, runs_within}
 use Rattle.window_laws.specs.Walk.{due_from, next_start}
 use Rattle.window_laws.proofs.WalkFacts.{to_next}
 use Rattle.agg_store.specs.Stored.{Stored}
-use Rattle.interval_walks.specs.Held.{Holding, HoldsFrom, partials_of}
+use Rattle.time_lanes.specs.Held.{Holding, HoldsFrom, partials_of}
 use Rattle.time_lanes.specs.Lane.{Knows, KnowsAll, Laned, fresh_partials, fresh_to}
-use Rattle.interval_walks.specs.Told.{new_at}
+use Rattle.time_lanes.specs.Told.{new_at}
 use Rattle.time_lanes.specs.Moves.{AreApartAbove, moment}
-use Rattle.interval_walks.specs.Spans.{IsEdge, IsSpan, last_end}
+use Rattle.time_lanes.specs.Spans.{IsEdge, IsSpan, last_end}
 use Rattle.time_lanes.proofs.MoveFacts.{completions_told}
-use Rattle.interval_walks.proofs.Ranges.{fewer_from, none_turned, number_in_two}
-use Rattle.interval_walks.proofs.WalkFacts.{end_by, start_behind, times_mono}
+use Rattle.time_lanes.proofs.Ranges.{fewer_from, none_turned, number_in_two}
+use Rattle.time_lanes.proofs.WalkFacts.{end_by, start_behind, times_mono}
 
 module _ (len slide : ℕ) (span : IsSpan len slide) where
   -- ---- starts and ends rise with the watermark

@@ -10,7 +10,7 @@ use Rattle.window_laws.specs.Due.{first_open}
 use Rattle.window_laws.specs.Late.{length_of, slide_of}
 use Rattle.window_laws.specs.Walk.{IsFirstFrom, next_start, next_start_of}
 use Rattle.window_laws.proofs.NextFacts.{next_of_timed, none_next_of_timed}
-use Rattle.interval_walks.specs.Held.{IsEndFrom}
+use Rattle.time_lanes.specs.Held.{IsEndFrom}
 use Rattle.time_lanes.specs.Moves.{moment}
 
 -- that is the bound of the first interval that isn't complete

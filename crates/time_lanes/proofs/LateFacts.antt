@@ -24,12 +24,12 @@ use Rattle.window_laws.proofs.LateFacts.{timed_late_emissions}
 use Rattle.run_laws.proofs.Order.{nd_split}
 use Rattle.run_laws.proofs.RunFacts.{put_behind, put_first}
 use Rattle.agg_store.specs.Stored.{Stored, tuples_of}
-use Rattle.interval_walks.specs.Joined.{is_order_free, joined_at}
-use Rattle.interval_walks.specs.Told.{again_or_new, complete_starts, former_at, former_if, starts_from, told_at, told_late}
+use Rattle.time_lanes.specs.Joined.{is_order_free, joined_at}
+use Rattle.time_lanes.specs.Told.{again_or_new, complete_starts, former_at, former_if, starts_from, told_at, told_late}
 use Rattle.time_lanes.specs.Late.{AreApartAt, IsLate, complete_holding, formers_of}
 use Rattle.time_lanes.specs.Moves.{moment}
-use Rattle.interval_walks.specs.Spans.{IsSpan}
-use Rattle.interval_walks.proofs.JoinedFacts.{joined_is_told}
+use Rattle.time_lanes.specs.Spans.{IsSpan}
+use Rattle.time_lanes.proofs.JoinedFacts.{joined_is_told}
 
 told_of_map : (told : ℕ → Option Former → Change) (g : ℕ → Option Former) (lows : List ℕ) → told_late told lows (map g lows) ≡ map (λ low. told low (g low)) lows
 told_of_map told g [] = refl

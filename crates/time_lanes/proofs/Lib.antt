@@ -1,3 +1,12 @@
+pub mod Counts
+pub mod HeldFacts
+pub mod JoinedFacts
+pub mod NextFacts
+pub mod Ranges
+pub mod ServedFacts
+pub mod ShareFacts
+pub mod ToldFacts
+pub mod WalkFacts
 pub mod EndFacts
 pub mod LateFacts
 pub mod MoveFacts

@@ -23,9 +23,9 @@ use Rattle.stream_base.proofs.Spans.{starts_of_has, starts_of_is_sorted, starts_
 use Rattle.window_laws.specs.Late.{length_of, slide_of}
 use Rattle.window_laws.specs.Walk.{due_from, next_start, next_start_of}
 use Rattle.window_laws.proofs.WalkFacts.{completed_from, to_next}
-use Rattle.interval_walks.specs.Told.{new_at}
+use Rattle.time_lanes.specs.Told.{new_at}
 use Rattle.time_lanes.specs.Moves.{AreApartAbove, completed_starts, moment}
-use Rattle.interval_walks.specs.Spans.{IsSpan}
+use Rattle.time_lanes.specs.Spans.{IsSpan}
 use Rattle.time_lanes.proofs.LateFacts.{nothing_dropped, over}
 
 -- ---- without what was dropped

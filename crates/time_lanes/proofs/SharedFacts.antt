@@ -6,11 +6,11 @@ use Rattle.stream_base.specs.declared.kind.Kind.{Kind}
 use Rattle.run_laws.specs.Runs.{runs_within}
 use Rattle.window_laws.specs.Late.{length_of, slide_of}
 use Rattle.agg_store.specs.Stored.{Stored}
-use Rattle.interval_walks.specs.declared.late.Complete.{Complete}
-use Rattle.interval_walks.specs.declared.span.Span.{Span}
-use Rattle.interval_walks.specs.Folds.{IsShared, slices_under}
-use Rattle.interval_walks.specs.Told.{complete_starts, starts_from}
-use Rattle.interval_walks.proofs.ToldFacts.{start_at, starts_length}
+use Rattle.time_lanes.specs.declared.late.Complete.{Complete}
+use Rattle.time_lanes.specs.declared.span.Span.{Span}
+use Rattle.time_lanes.specs.Folds.{IsShared, slices_under}
+use Rattle.time_lanes.specs.Told.{complete_starts, starts_from}
+use Rattle.time_lanes.proofs.ToldFacts.{start_at, starts_length}
 use Rattle.time_lanes.specs.Late.{complete_holding}
 use Rattle.time_lanes.specs.Shared.{IsSharedAt, slices_holding}
 

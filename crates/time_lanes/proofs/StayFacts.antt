@@ -27,11 +27,11 @@ use Rattle.agg_store.specs.Entered.{IsPut, slices_near}
 use Rattle.slice_lists.specs.Slices.{joined}
 use Rattle.agg_store.specs.Stored.{IsSliced, IsStore, Stored}
 use Rattle.slice_lists.proofs.SliceOrder.{IsApart, IsNear, first_below_last, times_of_order}
-use Rattle.interval_walks.specs.Held.{partials_of}
+use Rattle.time_lanes.specs.Held.{partials_of}
 use Rattle.time_lanes.specs.Lane.{IsAsBefore, IsSameUpTo, Knows, KnowsAll, Laned}
-use Rattle.interval_walks.specs.Spans.{ArePartedAt, IsEdge, IsWindowAt, last_end, last_end_of}
-use Rattle.interval_walks.proofs.Ranges.{begins_in, before_it, behind_it, passed, skipped}
-use Rattle.interval_walks.proofs.ServedFacts.{parted_at_edges, stands_among}
+use Rattle.time_lanes.specs.Spans.{ArePartedAt, IsEdge, IsWindowAt, last_end, last_end_of}
+use Rattle.time_lanes.proofs.Ranges.{begins_in, before_it, behind_it, passed, skipped}
+use Rattle.time_lanes.proofs.ServedFacts.{parted_at_edges, stands_among}
 
 -- ---- an edge of a window cuts
 edge_cuts : (kind : Kind) (edge a b : ℕ) → is_timed kind ≡ true → IsEdge (length_of kind) (slide_of kind) edge → a < edge → edge ≤ b → CutsBetween kind a b

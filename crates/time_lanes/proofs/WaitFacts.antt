@@ -25,15 +25,15 @@ use Rattle.run_laws.proofs.Order.{All-split}
 use Rattle.window_laws.proofs.WalkFacts.{from_next}
 use Rattle.slice_lists.specs.Slices.{joined}
 use Rattle.agg_store.specs.Stored.{IsStore, Stored, tuples_of}
-use Rattle.interval_walks.specs.Held.{partials_of}
+use Rattle.time_lanes.specs.Held.{partials_of}
 use Rattle.time_lanes.specs.Lane.{Knows, Laned}
-use Rattle.interval_walks.specs.Told.{new_at}
+use Rattle.time_lanes.specs.Told.{new_at}
 use Rattle.time_lanes.specs.Moves.{completed_starts}
-use Rattle.interval_walks.specs.Spans.{IsSpan, IsWindowAt, is_served}
+use Rattle.time_lanes.specs.Spans.{IsSpan, IsWindowAt, is_served}
 use Rattle.time_lanes.proofs.AdvanceFacts.{ends_above, last_at_most, last_rises, next_rises}
 use Rattle.time_lanes.proofs.MoveFacts.{completions_told}
-use Rattle.interval_walks.proofs.Ranges.{before_it, begins_in, behind_it}
-use Rattle.interval_walks.proofs.ServedFacts.{span_of_kind, stands_among}
+use Rattle.time_lanes.proofs.Ranges.{before_it, begins_in, behind_it}
+use Rattle.time_lanes.proofs.ServedFacts.{span_of_kind, stands_among}
 
 -- what holds of the times of all tuples holds of the first time of each slice
 firsts : (P : ℕ → Type 0) (runs : List (List Kept)) → AreInOrder runs → All (λ (x : Kept). P x.time) (joined runs) → All (λ (run : List Kept). P (first_time run)) runs

@@ -3,7 +3,7 @@ use Rattle.std.specs.Prelude.{◌≡◌, ◌≤◌, ◌+◌, ◌-◌, ◌*◌, �
 use Rattle.stream_base.specs.declared.def.Def.{Def}
 use Rattle.stream_base.specs.declared.limits.TheConstants.{TIME_MAX}
 use Rattle.agg_store.specs.Stored.{Stored}
-use Rattle.interval_walks.specs.Spans.{IsServedOver, IsWater, is_served}
+use Rattle.time_lanes.specs.Spans.{IsServedOver, IsWater, is_served}
 
 -- the window at a place is tumbling or sliding, and its intervals may hold a time
 pub record MayHold (windows : List Def) (window time : ℕ) : Type 0 where

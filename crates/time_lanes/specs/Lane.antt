@@ -6,8 +6,8 @@ use Rattle.window_laws.specs.Late.{length_of, slide_of}
 use Rattle.run_laws.specs.Runs.{runs_within}
 use Rattle.window_laws.specs.Walk.{next_start_of}
 use Rattle.agg_store.specs.Stored.{Stored}
-use Rattle.interval_walks.specs.Held.{partials_of}
-use Rattle.interval_walks.specs.Spans.{IsEdge, last_end_of}
+use Rattle.time_lanes.specs.Held.{partials_of}
+use Rattle.time_lanes.specs.Spans.{IsEdge, last_end_of}
 
 -- the partials of the slices that it holds, oldest first; up to where it holds them; whether one of them has changed since; for how many more there is room; and what is left of the steps that were paid for
 pub record Laned : Type 0 where

@@ -9,7 +9,7 @@ use Rattle.stream_base.specs.Model.Journal.{put_in_order}
 use Rattle.stream_base.specs.Model.Windows.{starts_holding, within}
 use Rattle.window_laws.specs.Late.{length_of, slide_of}
 use Rattle.agg_store.specs.Stored.{Stored, tuples_of}
-use Rattle.interval_walks.specs.Told.{complete_starts, former_at}
+use Rattle.time_lanes.specs.Told.{complete_starts, former_at}
 
 -- the starts of a tumbling or sliding window's complete intervals that hold a time
 abbrev pub complete_holding : Kind → ℕ → ℕ → List ℕ

@@ -1,3 +1,9 @@
+pub mod Folds
+pub mod Spans
+pub mod Held
+pub mod Told
+pub mod Joined
+pub mod Walks
 pub mod Calls
 pub mod Lane
 pub mod Late

@@ -9,7 +9,7 @@ use Rattle.run_laws.specs.Runs.{runs_within}
 use Rattle.window_laws.specs.Walk.{due_from, next_start_of}
 use Rattle.agg_store.specs.Stored.{Stored}
 use Rattle.time_lanes.specs.Lane.{Knows, Laned, fresh_to}
-use Rattle.interval_walks.specs.Spans.{last_end_of}
+use Rattle.time_lanes.specs.Spans.{last_end_of}
 
 -- a key's tuples and marks under a watermark
 abbrev pub moment : List Kept → List ℕ → ℕ → Moment

@@ -18,16 +18,20 @@ ghost use Rattle.time_lanes.specs.Lane.{HasMoreRoom, HoldsTheSame, IsRefreshed, 
 ghost use Rattle.time_lanes.specs.Late.{AreApartAt, IsLate, complete_holding, formers_of};
 ghost use Rattle.time_lanes.specs.Shared.{IsSharedAt};
 ghost use Rattle.time_lanes.specs.Moves.{MayMove, completed_starts, moment, slices_between, slices_due, slices_in_last, slices_until};
-ghost use Rattle.interval_walks.specs.Joined.{is_order_free};
-ghost use Rattle.interval_walks.specs.Spans.{IsWindowAt, is_served, last_end_of};
+ghost use Rattle.time_lanes.specs.Joined.{is_order_free};
+ghost use Rattle.time_lanes.specs.Spans.{IsWindowAt, is_served, last_end_of};
 
+use crate::due::{count_due, tell_due};
+use crate::held::Held;
+use crate::joined::{append_joined, is_order_free};
+use crate::late::{append_formers, append_late, complete_at};
+use crate::next::end_from;
+use crate::owner::Owner;
+use crate::served::{Served, serve, window_at};
+use crate::span::Span;
 use agg_laws::{AggQueue, Steps};
 use agg_store::AggStore;
 use aggregates::Bundle;
-use interval_walks::{
-    Held, Owner, Served, Span, append_formers, append_joined, append_late, complete_at, count_due,
-    end_from, is_order_free, serve, tell_due, window_at,
-};
 use std::alloc::Global;
 use std::marker::Model;
 use stream_base::{Change, Defs, Former, KeyText, NoMemory};

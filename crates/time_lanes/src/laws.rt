@@ -14,7 +14,7 @@ ghost use Rattle.slice_lists.specs.Touched.{slices_from};
 ghost use Rattle.agg_store.specs.Entered.{IsPut};
 ghost use Rattle.agg_store.specs.Stored.{IsSliced, IsStore, Stored, tuples_of};
 ghost use Rattle.time_lanes.specs.Lane.{IsAsBefore, IsSameUpTo, Knows, KnowsAll, Laned};
-ghost use Rattle.interval_walks.specs.Spans.{IsWindowAt};
+ghost use Rattle.time_lanes.specs.Spans.{IsWindowAt};
 
 /// A tuple or a mark leaves the slices up to each end of an interval that lies at or before it.
 pub fn what_comes_leaves_earlier_slices()

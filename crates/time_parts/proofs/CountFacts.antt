@@ -25,7 +25,7 @@ use Rattle.window_laws.proofs.NextFacts.{next_of_counts}
 use Rattle.count_shift.specs.Counting.{IsNextPosition, count_of, moment, next_filled, upper}
 use Rattle.count_shift.specs.Lane.{Follows, HasMoreRoom, Laned}
 use Rattle.count_shift.proofs.Behind.{follows_later, follows_with_room}
-use Rattle.interval_walks.proofs.WalkFacts.{one_time_more}
+use Rattle.time_lanes.proofs.WalkFacts.{one_time_more}
 use Rattle.key_parts.specs.Calls.{window_at}
 use Rattle.key_parts.specs.Work.{change_work, row_work}
 use Rattle.key_parts.specs.Moves.{AreLists}

@@ -32,7 +32,7 @@ use Rattle.stream_base.proofs.Filters.{filter_none}
 use Rattle.run_laws.proofs.Order.{nd_head, nd_tail}
 use Rattle.window_laws.proofs.SettledFacts.{all_member}
 use Rattle.agg_store.specs.Stored.{Stored, tuples_of}
-use Rattle.interval_walks.specs.Told.{former_at}
+use Rattle.time_lanes.specs.Told.{former_at}
 use Rattle.time_lanes.specs.Late.{IsLate, complete_holding, formers_of}
 use Rattle.time_lanes.specs.Moves.{moment}
 use Rattle.key_parts.specs.Calls.{window_at}

@@ -33,9 +33,9 @@ use Rattle.window_laws.proofs.SettleTimes.{timed_settles}
 use Rattle.window_laws.proofs.WalkFacts.{from_next}
 use Rattle.time_lanes.specs.Late.{AreApartAt}
 use Rattle.time_lanes.specs.Moves.{AreApartAbove}
-use Rattle.interval_walks.specs.Spans.{IsSpan, IsWindowAt}
-use Rattle.interval_walks.proofs.ServedFacts.{span_of_kind, stands_among}
-use Rattle.interval_walks.proofs.WalkFacts.{start_behind, times_mono}
+use Rattle.time_lanes.specs.Spans.{IsSpan, IsWindowAt}
+use Rattle.time_lanes.proofs.ServedFacts.{span_of_kind, stands_among}
+use Rattle.time_lanes.proofs.WalkFacts.{start_behind, times_mono}
 use Rattle.key_parts.specs.Calls.{window_at}
 use Rattle.key_parts.specs.Moves.{SettlesUpTo}
 use Rattle.time_parts.specs.Lanes.{IsTimedAt, kind_at, open_from}

@@ -11,11 +11,11 @@ use Rattle.window_laws.specs.After.{at_water}
 use Rattle.run_laws.specs.Runs.{runs_within}
 use Rattle.window_laws.specs.Walk.{next_start_of}
 use Rattle.agg_store.specs.Stored.{IsAsBefore, IsStore, Stored, tuples_of}
-use Rattle.interval_walks.specs.Held.{partials_of}
+use Rattle.time_lanes.specs.Held.{partials_of}
 use Rattle.time_lanes.specs.Lane.{Knows, KnowsAll, Laned}
 use Rattle.time_lanes.specs.Late.{complete_holding, formers_of}
 use Rattle.time_lanes.specs.Moves.{completed_starts, slices_between, slices_due, slices_in_last}
-use Rattle.interval_walks.specs.Spans.{is_served, last_end_of}
+use Rattle.time_lanes.specs.Spans.{is_served, last_end_of}
 use Rattle.time_lanes.proofs.StayFacts.{last_by}
 use Rattle.time_lanes.proofs.WaitFacts.{serves_on as lane_serves_on}
 use Rattle.key_parts.specs.Calls.{window_at}

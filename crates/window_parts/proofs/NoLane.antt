@@ -10,8 +10,8 @@ use Rattle.window_laws.specs.Late.{length_of}
 use Rattle.run_laws.specs.Runs.{runs_within}
 use Rattle.agg_store.specs.Stored.{Stored}
 use Rattle.time_lanes.specs.Moves.{slices_between, slices_in_last}
-use Rattle.interval_walks.specs.Spans.{last_end, last_end_of}
-use Rattle.interval_walks.proofs.Ranges.{behind_it, skipped}
+use Rattle.time_lanes.specs.Spans.{last_end, last_end_of}
+use Rattle.time_lanes.proofs.Ranges.{behind_it, skipped}
 
 times_zero : (n : ℕ) → n * 0 + 0 ≡ 0
 times_zero n = omega arith

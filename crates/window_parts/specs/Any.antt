@@ -11,8 +11,8 @@ use Rattle.window_spans.specs.Spans.{due_of, put_changes}
 use Rattle.context_windows.specs.Marked.{holder_in, most_changes}
 use Rattle.context_windows.specs.Spanned.{gap_at}
 use Rattle.key_parts.specs.Calls.{StandsAt, window_at}
-use Rattle.context_parts.specs.MarksStand.{DoStandBetween, RemembersHolderAt, do_stand_between_on}
-use Rattle.context_parts.specs.SessionsStand.{AreAsked, DoStand, do_stand_on}
+use Rattle.context_windows.specs.MarksStand.{DoStandBetween, RemembersHolderAt, do_stand_between_on}
+use Rattle.context_windows.specs.SessionsStand.{AreAsked, DoStand, do_stand_on}
 use Rattle.time_parts.specs.Lanes.{CanMove, HasTold, MissesNone, Serves, late_room, misses_with_room, open_from, rows_due, serves_on, serves_with_room}
 use Rattle.time_parts.specs.Counted.{Counts, KeepsFew, counts_on, fill_room, shift_room}
 use Rattle.window_parts.specs.declared.window_part.WindowPart.{WindowPart}

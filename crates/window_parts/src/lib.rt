@@ -1,7 +1,7 @@
 //! The part of a window of any kind in the state of a key.
 //!
 //! *From* the tuples and marks of a key in its store of slices and moves of the watermark, *to* the
-//! changes of one window of any kind. *Stands on* `time_parts` and `context_parts`, whose parts it
+//! changes of one window of any kind. *Stands on* `time_parts` and `context_windows`, whose parts it
 //! hands each call on to. *Promise*: that of `key_parts`, for the window at each place of all
 //! definitions.
 #![tactic(auto)]

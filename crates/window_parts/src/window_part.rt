@@ -2,7 +2,7 @@
 use agg_laws::{AggQueue, Steps};
 use agg_store::AggStore;
 use aggregates::Bundle;
-use context_parts::{MarkPart, SessionPart};
+use context_windows::{MarkPart, SessionPart};
 use key_parts::{AnyPart, KeyPart};
 use std::alloc::Global;
 use stream_base::{Change, Defs, KeyText, Kind, NoMemory};

@@ -7,7 +7,7 @@ use Rattle.stream_base.specs.Model.Cuts.{has_cut}
 use Rattle.stream_base.specs.Model.Windows.{first_time}
 use Rattle.partials.specs.Apart.{SpendsNear}
 use Rattle.slice_lists.specs.Sides.{IsLastEntered}
-use Rattle.slice_partials.specs.Following.{refolded}
+use Rattle.slice_store.specs.Following.{refolded}
 use Rattle.slice_store.proofs.PutCosts.{near_put}
 use Rattle.slice_store.specs.Placing.{placed_in}
 use Rattle.slice_lists.specs.Slices.{kept_at}

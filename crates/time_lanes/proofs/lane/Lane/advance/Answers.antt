@@ -5,13 +5,13 @@ use Rattle.stream_base.specs.Laws.{completions}
 use Rattle.run_laws.specs.Runs.{runs_within}
 use Rattle.window_laws.specs.Walk.{due_from, next_start}
 use Rattle.agg_store.specs.Stored.{tuples_of}
-use Rattle.interval_walks.specs.Held.{HoldsFrom}
+use Rattle.time_lanes.specs.Held.{HoldsFrom}
 use Rattle.time_lanes.specs.Lane.{Knows, KnowsAll, Laned, fresh_to}
 use Rattle.time_lanes.specs.Moves.{MayMove, completed_starts, moment, slices_between, slices_in_last, slices_until}
-use Rattle.interval_walks.specs.Spans.{IsEdge, last_end}
+use Rattle.time_lanes.specs.Spans.{IsEdge, last_end}
 use Rattle.time_lanes.proofs.AdvanceFacts.{begins, between_is, due_is, ends_above, fresh_at_most, goes_to, held_and_taken, in_last_is, knows_at, knows_of, last_at_most, last_is_edge, last_rises, left_at_most, missed_at, move_changes, next_rises, none_missed_at, taken_at_most, taken_is, taken_where_none_missed, until_is}
-use Rattle.interval_walks.proofs.HeldFacts.{partials_length}
-use Rattle.interval_walks.proofs.ServedFacts.{same_window, span_of_kind}
+use Rattle.time_lanes.proofs.HeldFacts.{partials_length}
+use Rattle.time_lanes.proofs.ServedFacts.{same_window, span_of_kind}
 use Rattle.time_lanes.proofs.lane.Lane.advance.Given as given
 use Rattle.time_lanes.proofs.lane.Lane.advance.Goals as goal
 

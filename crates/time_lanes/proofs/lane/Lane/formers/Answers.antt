@@ -6,7 +6,7 @@ use Rattle.time_lanes.specs.Late.{AreApartAt, formers_of}
 use Rattle.time_lanes.specs.Shared.{IsSharedAt}
 use Rattle.time_lanes.proofs.SharedFacts.{shared_at}
 use Rattle.time_lanes.proofs.LateFacts.{formers_told}
-use Rattle.interval_walks.proofs.ServedFacts.{same_window}
+use Rattle.time_lanes.proofs.ServedFacts.{same_window}
 use Rattle.time_lanes.proofs.lane.Lane.formers.Goals as goal
 
 pub returns-clause-formers : goal.returns-clause-formers

@@ -11,8 +11,8 @@ use Rattle.time_lanes.specs.Moves.{moment}
 use Rattle.time_lanes.specs.Shared.{IsSharedAt}
 use Rattle.time_lanes.proofs.SharedFacts.{shared_at}
 use Rattle.time_lanes.proofs.LateFacts.{lane_joined, lane_late}
-use Rattle.interval_walks.specs.Joined.{is_order_free}
-use Rattle.interval_walks.proofs.ServedFacts.{same_window, span_of_kind}
+use Rattle.time_lanes.specs.Joined.{is_order_free}
+use Rattle.time_lanes.proofs.ServedFacts.{same_window, span_of_kind}
 use Rattle.time_lanes.proofs.lane.Lane.late.Goals as goal
 
 pub returns-then-is_order_free-clause-changes : goal.returns-then-is_order_free-clause-changes

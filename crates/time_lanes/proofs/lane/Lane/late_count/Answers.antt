@@ -4,9 +4,9 @@ use Rattle.stream_base.specs.declared.def.Def.{Def}
 use Rattle.stream_base.specs.Model.Changes.{emissions}
 use Rattle.window_laws.specs.After.{with_tuple}
 use Rattle.time_lanes.specs.Moves.{moment}
-use Rattle.interval_walks.specs.Told.{complete_starts}
+use Rattle.time_lanes.specs.Told.{complete_starts}
 use Rattle.time_lanes.proofs.LateFacts.{late_number}
-use Rattle.interval_walks.proofs.ServedFacts.{same_window}
+use Rattle.time_lanes.proofs.ServedFacts.{same_window}
 use Rattle.time_lanes.proofs.lane.Lane.late_count.Goals as goal
 
 pub returns-clause-changes : goal.returns-clause-changes

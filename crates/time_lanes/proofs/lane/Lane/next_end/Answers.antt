@@ -5,7 +5,7 @@ use Rattle.window_laws.specs.Due.{first_open}
 use Rattle.agg_store.specs.Stored.{tuples_of}
 use Rattle.time_lanes.specs.Moves.{moment}
 use Rattle.time_lanes.proofs.EndFacts.{end_is_open}
-use Rattle.interval_walks.proofs.ServedFacts.{same_window}
+use Rattle.time_lanes.proofs.ServedFacts.{same_window}
 use Rattle.time_lanes.proofs.lane.Lane.next_end.Goals as goal
 
 pub returns : goal.returns

@@ -5,7 +5,7 @@ use Rattle.std.proofs.lemmas.Int.{to_z-of_z}
 use Rattle.stream_base.specs.declared.def.Def.{Def}
 use Rattle.time_lanes.specs.Lane.{Knows, KnowsAll, Laned}
 use Rattle.time_lanes.specs.Late.{complete_holding}
-use Rattle.interval_walks.proofs.ServedFacts.{same_window}
+use Rattle.time_lanes.proofs.ServedFacts.{same_window}
 use Rattle.time_lanes.proofs.StayFacts.{tuple_stays}
 use Rattle.key_windows.specs.Calls.{kept_at}
 use Rattle.key_parts.specs.Calls.{window_at}

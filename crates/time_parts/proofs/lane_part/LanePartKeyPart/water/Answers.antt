@@ -2,8 +2,8 @@
 use Rattle.std.proofs.Common.{◌≡◌, ◌≤◌, ◌+◌, ◌-◌, ◌*◌, ap, sym, take, length, subst, arith, vec_len}
 use Rattle.window_laws.specs.Walk.{next_start_of}
 use Rattle.agg_store.specs.Stored.{tuples_of}
-use Rattle.interval_walks.specs.Spans.{last_end_of}
-use Rattle.interval_walks.proofs.Ranges.{fewer_within}
+use Rattle.time_lanes.specs.Spans.{last_end_of}
+use Rattle.time_lanes.proofs.Ranges.{fewer_within}
 use Rattle.time_lanes.specs.Lane.{Knows, KnowsAll, Laned}
 use Rattle.time_lanes.specs.Moves.{MayMove}
 use Rattle.key_parts.specs.Calls.{window_at}

@@ -1,2 +1,0 @@
-pub mod SessionsStand
-pub mod MarksStand

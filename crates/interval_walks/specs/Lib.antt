@@ -1,6 +1,0 @@
-pub mod Folds
-pub mod Spans
-pub mod Held
-pub mod Told
-pub mod Joined
-pub mod Walks

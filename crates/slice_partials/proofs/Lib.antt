@@ -1,6 +1,0 @@
-pub mod PartialFacts
-pub mod EnterFacts
-pub mod CountFacts
-pub mod CostFacts
-pub mod SplitPartials
-pub mod LeavePartials

@@ -1,0 +1,16 @@
+-- What stood of the intervals so far is told.
+use Rattle.std.proofs.Common.{◌≡◌, ◌≤◌, ◌+◌, ◌*◌, ◌++◌, length, map, vec_len}
+use Rattle.std.specs.Prelude.{vec_capacity}
+use Rattle.agg_store.specs.Stored.{tuples_of}
+use Rattle.time_lanes.specs.Folds.{slices_under}
+use Rattle.time_lanes.specs.Told.{former_at, starts_from}
+use Rattle.time_lanes.proofs.late.append_each_former.Given as goal
+
+abbrev pub invariant-loop-k : goal.invariant-loop-k
+invariant-loop-k g l = record {
+  told : l.into.items ≡ l.initial.into.items ++ map (former_at l.func l.span.length (tuples_of (g.S.AggStore.stored l.store))) (starts_from l.span.slide l.complete.first l.k);
+  number : vec_len l.into ≡ vec_len l.initial.into + l.k;
+  capacity : vec_capacity l.into ≡ vec_capacity l.initial.into;
+  alone : l.complete.count ≤ 1 → l.steps ≤ l.initial.steps + length (slices_under l.span (g.S.AggStore.stored l.store).slices l.complete) * l.k;
+  cost : l.steps ≤ l.initial.steps + 64 * ((g.S.AggStore.stored l.store).reach + 2) * l.k;
+}

@@ -1,0 +1,126 @@
+//! The walk over the intervals that a move of the watermark completes.
+ghost use Rattle.std.specs.Prelude.{◌≡◌, ◌≤◌, ◌<◌, ◌+◌, ◌*◌, ◌^◌, ◌++◌, ◌∷◌, [], length, map, max};
+ghost use Rattle.stream_base.specs.declared.limits.TheConstants.{FINAL};
+ghost use Rattle.stream_base.specs.Vectors.{Adds, room};
+ghost use Rattle.run_laws.specs.Runs.{runs_within};
+ghost use Rattle.window_laws.specs.Walk.{due_from, next_start};
+ghost use Rattle.agg_store.specs.Stored.{tuples_of};
+ghost use Rattle.time_lanes.specs.Held.{HoldsFrom};
+ghost use Rattle.time_lanes.specs.Told.{new_at};
+ghost use Rattle.time_lanes.specs.Spans.{last_end};
+ghost use Rattle.time_lanes.specs.Walks.{MayWalk, StartsAt};
+
+use crate::held::Held;
+use crate::next::next_due;
+use crate::owner::Owner;
+use crate::span::Span;
+use agg_laws::{AggQueue, Steps};
+use agg_store::AggStore;
+use aggregates::Bundle;
+use stream_base::Change;
+
+/// Tells the intervals that are due from a start on, one after another. Answers from where on the
+/// slices are held then.
+pub fn tell_due<Q: AggQueue<Bundle>, S: AggStore, L>(
+    held: &mut Held<Q>,
+    owner: Owner,
+    span: &Span,
+    store: &S,
+    from: u64,
+    new: u64,
+    out: &mut Vec<Change>,
+    steps: &mut Steps<L>,
+) -> u64
+    requires walk { MayWalk span.now (S.stored store.now).slices from new }
+    requires room { length (runs_within (max from (held.old).to)
+        (last_end span.now.length span.now.slide new) (S.stored store.now).slices)
+        ≤ (held.old).spare }
+    requires spare { length
+        (due_from span.now.length span.now.slide (tuples_of (S.stored store.now)) from new)
+        ≤ room out.old }
+    ensures told { HoldsFrom from (S.stored store.now) held.old
+        → (held.old).to ≤ from + span.now.length
+        → out.new.items ≡ out.old.items
+        ++ map (new_at owner.entry.window owner.entry.key.now owner.entry.func span.now.length
+        (tuples_of (S.stored store.now)))
+        (due_from span.now.length span.now.slide (tuples_of (S.stored store.now)) from new) }
+    ensures held { HoldsFrom from (S.stored store.now) held.old
+        → HoldsFrom result (S.stored store.now) held.new }
+    ensures onward { from ≤ result }
+    ensures within { result ≤ max from (next_start span.now.length span.now.slide new) }
+    ensures to { (held.new).to
+        ≤ max (held.old).to (last_end span.now.length span.now.slide new) }
+    ensures adds { Adds (length (due_from span.now.length span.now.slide
+        (tuples_of (S.stored store.now)) from new)) out.old out.new }
+    ensures room { (held.old).spare + length (runs_within (max result (held.new).to)
+        (last_end span.now.length span.now.slide new) (S.stored store.now).slices)
+        ≤ (held.new).spare + length (runs_within (max from (held.old).to)
+        (last_end span.now.length span.now.slide new) (S.stored store.now).slices) }
+    ensures cost { steps.new + (held.new).credit + 10 * length
+        (runs_within (max result (held.new).to)
+        (last_end span.now.length span.now.slide new) (S.stored store.now).slices)
+        ≤ steps.old + (held.old).credit + 10 * length (runs_within (max from (held.old).to)
+        (last_end span.now.length span.now.slide new) (S.stored store.now).slices)
+        + length (due_from span.now.length span.now.slide (tuples_of (S.stored store.now))
+        from new) }
+{
+    let mut start = from;
+    while let Some(low) = next_due(store, span, start, new) {
+        tell_one(held, owner, span, store, low, out, steps);
+        start = low + span.slide;
+    }
+    start
+}
+
+// Tells the interval that starts so, and lets the slices go that the next one doesn't need.
+fn tell_one<Q: AggQueue<Bundle>, S: AggStore, L>(
+    held: &mut Held<Q>,
+    owner: Owner,
+    span: &Span,
+    store: &S,
+    low: u64,
+    out: &mut Vec<Change>,
+    steps: &mut Steps<L>,
+)
+    requires start { StartsAt span.now (S.stored store.now).slices low }
+    requires end { low + span.now.length ≤ FINAL }
+    requires room { length (runs_within (max low (held.old).to) (low + span.now.length)
+        (S.stored store.now).slices) ≤ (held.old).spare }
+    requires spare { 1 ≤ room out.old }
+    ensures told { HoldsFrom low (S.stored store.now) held.old
+        → (held.old).to ≤ low + span.now.length
+        → out.new.items ≡ out.old.items
+        ++ new_at owner.entry.window owner.entry.key.now owner.entry.func span.now.length
+        (tuples_of (S.stored store.now)) low ∷ [] }
+    ensures held { HoldsFrom low (S.stored store.now) held.old
+        → HoldsFrom (low + span.now.slide) (S.stored store.now) held.new }
+    ensures to { (held.new).to ≡ max (held.old).to (low + span.now.length) }
+    ensures adds { Adds 1 out.old out.new }
+    ensures room { (held.old).spare ≤ (held.new).spare + length
+        (runs_within (max low (held.old).to) (low + span.now.length) (S.stored store.now).slices) }
+    ensures cost { steps.new + (held.new).credit ≤ steps.old + (held.old).credit + 10 * length
+        (runs_within (max low (held.old).to) (low + span.now.length)
+        (S.stored store.now).slices) + 1 }
+{
+    let end = low + span.length;
+    held.pull(store, low, end, steps);
+    let bundle = held.fold(steps);
+    out.push_reserved(Change::New(owner.row(low, end, &bundle)));
+    held.shed(store, low, low + span.slide, steps);
+}
+
+/// How many intervals are due from a start on.
+pub fn count_due<S: AggStore>(store: &S, span: &Span, from: u64, new: u64) -> u64
+    requires { MayWalk span.now (S.stored store.now).slices from new }
+    ensures { result
+        ≡ length (due_from span.now.length span.now.slide (tuples_of (S.stored store.now))
+        from new) }
+{
+    let mut count = 0;
+    let mut start = from;
+    while let Some(low) = next_due(store, span, start, new) {
+        count += 1;
+        start = low + span.slide;
+    }
+    count
+}

@@ -1,0 +1,154 @@
+//! The slices that a lane holds.
+ghost use Rattle.std.specs.Prelude.{◌≡◌, ◌≤◌, ◌+◌, ◌*◌, ◌++◌, [], ◌∷◌, OnOk, drop, length, max, min};
+ghost use Rattle.aggregates.specs.Bundled.{bundles_combined, empty_bundle};
+ghost use Rattle.agg_laws.specs.Laws.{total};
+ghost use Rattle.run_laws.specs.Runs.{AreInOrder, runs_within};
+ghost use Rattle.agg_store.specs.Stored.{IsStore};
+ghost use Rattle.time_lanes.specs.Held.{HasMoreRoom, HoldsFrom, LetsGo, partials_of};
+
+use crate::next::next_slice;
+use agg_laws::{AggQueue, Steps};
+use agg_store::AggStore;
+use aggregates::Bundle;
+use std::alloc::Global;
+use std::marker::Model;
+use stream_base::NoMemory;
+
+/// The partials of slices in a row, and up to where they go. Each slice that is taken up pays for
+/// being let go: so a lane's credit is that of its queue, and 4 for each slice that it holds.
+#[derive(Drop)]
+pub struct Held<Q: AggQueue<Bundle>> {
+    queue: Q,
+    to: u64,
+}
+
+impl<Q: AggQueue<Bundle>> Model for Held<Q> {
+    ghost use Rattle.std.specs.Prelude.{◌+◌, ◌*◌, length};
+    ghost use Rattle.time_lanes.specs.Held.{Holding};
+
+    ghost Value = { Holding };
+
+    ghost view = { λ h. record {
+      partials = Q.items h.queue;
+      to = h.to;
+      spare = Q.spare h.queue;
+      credit = Q.credit h.queue + 4 * length (Q.items h.queue);
+    } };
+}
+
+impl<Q: AggQueue<Bundle>> Held<Q> {
+    /// Nothing.
+    pub fn new(alloc: Global) -> Held<Q>
+        ensures partials { (result).partials ≡ [] }
+        ensures to { (result).to ≡ 0 }
+        ensures credit { (result).credit ≡ 0 }
+    {
+        Held {
+            queue: Q::fresh(alloc),
+            to: 0,
+        }
+    }
+
+    /// Makes room for so many slices more.
+    pub fn reserve(&mut self, room: u64) -> Result<(), NoMemory>
+        ensures room { OnOk result (room ≤ (self.new).spare) }
+        ensures same { HasMoreRoom self.old self.new }
+    {
+        self.queue.reserve(room)
+    }
+
+    /// Up to where the slices go.
+    pub fn to(&self) -> u64
+        ensures { result ≡ (self.now).to }
+    {
+        self.to
+    }
+
+    /// Changes nothing, and tells a proof that at most 5 steps are left on credit for each slice.
+    pub fn vouch(&self)
+        ensures { (self.now).credit ≤ 5 * length (self.now).partials }
+    {
+        self.queue.len();
+    }
+
+    /// Lets all slices go, without a step, and leaves no credit.
+    pub fn clear(&mut self)
+        ensures lets_go { LetsGo [] self.old self.new 0 0 }
+        ensures to { (self.new).to ≡ 0 }
+        ensures credit { (self.new).credit ≡ 0 }
+    {
+        self.queue.clear();
+        self.to = 0;
+    }
+
+    /// The partials combined, oldest first.
+    pub fn fold<L>(&self, steps: &mut Steps<L>) -> Bundle
+        ensures value { result ≡ total empty_bundle bundles_combined (self.now).partials }
+        ensures cost { steps.new ≤ steps.old + 1 }
+    {
+        self.queue.fold(steps)
+    }
+
+    /// Takes up the slices from a time on, of those that aren't yet held, up to another.
+    pub fn pull<S: AggStore, L>(&mut self, store: &S, from: u64, to: u64, steps: &mut Steps<L>)
+        requires { length (runs_within (max from (self.old).to) to (S.stored store.now).slices)
+            ≤ (self.old).spare }
+        ensures partials { (self.new).partials ≡ (self.old).partials
+            ++ partials_of (runs_within (max from (self.old).to) to (S.stored store.now).slices) }
+        ensures held { HoldsFrom from (S.stored store.now) self.old
+            → HoldsFrom from (S.stored store.now) self.new }
+        ensures to { (self.new).to ≡ max (self.old).to to }
+        ensures spare { (self.new).spare
+            + length (runs_within (max from (self.old).to) to (S.stored store.now).slices)
+            ≡ (self.old).spare }
+        ensures cost { steps.new + (self.new).credit ≤ steps.old + (self.old).credit
+            + 10 * length (runs_within (max from (self.old).to) to (S.stored store.now).slices) }
+        ensures holds { IsStore (S.stored store.now) }
+    {
+        let mut at = from.max(self.to);
+        while let Some(slice) = next_slice(store, at, to) {
+            let partial = store.fold(slice.low, slice.high + 1, steps);
+            self.take(partial, steps);
+            at = slice.high + 1;
+        }
+        self.to = self.to.max(to);
+    }
+
+    /// Lets the slices go that begin from a time on, up to another.
+    pub fn shed<S: AggStore, L>(&mut self, store: &S, from: u64, to: u64, steps: &mut Steps<L>)
+        ensures lets_go { LetsGo
+            (drop (length (runs_within from (min to (self.old).to) (S.stored store.now).slices))
+            (self.old).partials) self.old self.new steps.old steps.new }
+        ensures held { from ≤ to → HoldsFrom from (S.stored store.now) self.old
+            → HoldsFrom to (S.stored store.now) self.new }
+        ensures to { (self.new).to ≡ (self.old).to }
+        ensures ordered { AreInOrder (S.stored store.now).slices }
+    {
+        let end = to.min(self.to);
+        let mut at = from;
+        while let Some(slice) = next_slice(store, at, end) {
+            self.let_go(steps);
+            at = slice.high + 1;
+        }
+    }
+
+    fn take<L>(&mut self, partial: Bundle, steps: &mut Steps<L>)
+        requires { 1 ≤ (self.old).spare }
+        ensures partials { (self.new).partials ≡ (self.old).partials ++ partial ∷ [] }
+        ensures to { (self.new).to ≡ (self.old).to }
+        ensures spare { (self.new).spare + 1 ≡ (self.old).spare }
+        ensures cost { steps.new + (self.new).credit ≤ steps.old + (self.old).credit + 9 }
+    {
+        self.queue.push(partial, steps);
+    }
+
+    fn let_go<L>(&mut self, steps: &mut Steps<L>)
+        ensures lets_go { LetsGo (drop 1 (self.old).partials)
+            self.old self.new steps.old steps.new }
+        ensures to { (self.new).to ≡ (self.old).to }
+    {
+        if self.queue.len() > 0 {
+            self.queue.pop(steps);
+        }
+    }
+}
