@@ -7,8 +7,8 @@ ghost use Rattle.plain_windows.specs.Changing.{come_of, gone_of, is_over, window
 ghost use Rattle.plain_windows.specs.Extents.{IsExtentIn, Tells, instance_in};
 
 use crate::extent::Extent;
-use crate::kinds::first_from;
 use crate::fold::{Owner, former_of, row_of, tuples_of};
+use crate::kinds::first_from;
 use crate::view::View;
 use crate::window::Window;
 use agg_laws::Steps;

@@ -98,7 +98,10 @@ pub fn bound_of(window: &Window, at: EventTime) -> Option<u64>
             let slide = length;
             Some(spans::bound_holding(Spacing { length, slide }, at))
         }
-        Kind::Sliding { length, slide } => Some(spans::bound_holding(Spacing { length, slide }, at)),
+        Kind::Sliding { length, slide } => Some(spans::bound_holding(
+            Spacing { length, slide },
+            at,
+        )),
         Kind::Session { .. } | Kind::Marks | Kind::Events { .. } => None,
     }
 }

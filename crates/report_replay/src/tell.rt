@@ -22,7 +22,11 @@ pub fn put_shard(form: ReportForm, shard: &Shard, out: &mut Vec<u8>) -> Result<(
 }
 
 // Puts the lines of changes, in their order and in a form.
-fn put_changes(form: ReportForm, changes: &ChangeRange<'_>, out: &mut Vec<u8>) -> Result<(), NoMemory>
+fn put_changes(
+    form: ReportForm,
+    changes: &ChangeRange<'_>,
+    out: &mut Vec<u8>,
+) -> Result<(), NoMemory>
     ensures { OnOk result
         (out.new.items ≡ out.old.items ++ change_lines (form_of form) changes.now) }
 {

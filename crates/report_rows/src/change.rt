@@ -104,5 +104,9 @@ fn spells(full: bool, line: &[u8], change: &Change) -> bool
 fn report_form(full: bool) -> ReportForm
     ensures { form_told result ≡ form_of full }
 {
-    if full { ReportForm::Two } else { ReportForm::One }
+    if full {
+        ReportForm::Two
+    } else {
+        ReportForm::One
+    }
 }

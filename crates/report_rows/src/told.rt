@@ -98,11 +98,7 @@ impl ToldText {
 }
 
 // Takes a line of the last shard, where there is one.
-fn last_line(
-    full: bool,
-    line: &[u8],
-    shards: &mut Vec<ShardRows>,
-) -> Result<bool, NoMemory>
+fn last_line(full: bool, line: &[u8], shards: &mut Vec<ShardRows>) -> Result<bool, NoMemory>
     ensures { Steps (in_last full line.now shards.old.items)
         shards.old.items shards.new.items result }
 {
