@@ -1,10 +1,9 @@
 -- What two stacks come to, and how the back becomes the front.
-use Rattle.std.proofs.Common.{◌≡◌, ◌≤◌, ◌<◌, ◌+◌, ◌-◌, ℕ, zero, suc, List, [], ◌∷◌, length, get_or, take, drop, set, sym, ap, subst, ◌∙◌, arith}
+use Rattle.std.proofs.Common.{◌≡◌, ◌≤◌, ◌<◌, ◌+◌, ◌-◌, ℕ, zero, suc, List, [], ◌∷◌, length, get_or, take, drop, set, sym, ap, subst, ◌∙◌, arith, inl, inr}
 use Rattle.std.specs.List.{All}
 use Rattle.std.proofs.lemmas.List.{take-append-drop, drop_more, get_or-set_same, get_or-set_other, length-set, length-take-le, take_all, drop_all}
 use Rattle.std.proofs.lemmas.List.Elements.{All-take, All-drop, All-get_or, All-tail}
 use Rattle.std.proofs.lemmas.Bool.{cases_eq}
-use Rattle.std.proofs.Common.{inl, inr}
 use Rattle.agg_laws.specs.Counters.{next_count}
 use Rattle.agg_laws.specs.Laws.{MonoidLaws, total}
 use Rattle.agg_laws.proofs.Totals.{total-append, total-cons}

@@ -14,8 +14,8 @@ use Rattle.agg_laws.specs.Laws.{total}
 use Rattle.agg_laws.specs.Pairs as pairs
 use Rattle.aggregates.proofs.Bundles.{bundle_is_value, bundle_of-append}
 use Rattle.agg_laws.proofs.Totals.{total-cons}
-use Rattle.run_laws.specs.Runs.{IsAligned, runs_within}
-use Rattle.run_laws.proofs.Order.{All-map_of, All-split}
+use Rattle.slice_lists.specs.Runs.{IsAligned, runs_within}
+use Rattle.slice_lists.proofs.Order.{All-map_of, All-split}
 use Rattle.slice_lists.specs.Slices.{AreSlices, joined, values_of}
 use Rattle.agg_store.specs.Stored.{partial_of}
 use Rattle.slice_lists.proofs.WithinFacts.{within_aligned, all_joined}

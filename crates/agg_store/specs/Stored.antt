@@ -7,7 +7,7 @@ use Rattle.stream_base.specs.Laws.{TimesDoNotFall}
 use Rattle.stream_base.specs.Model.Slices.{runs_of}
 use Rattle.stream_base.specs.Model.Windows.{first_time}
 use Rattle.aggregates.specs.Bundled.{Bundled, bundle_of}
-use Rattle.run_laws.specs.Runs.{IsAligned}
+use Rattle.slice_lists.specs.Runs.{IsAligned}
 use Rattle.slice_lists.specs.Slices.{AreSlices, joined, values_of}
 
 -- the slices of a key, oldest first; its marks, rising; the greatest time up to which slices were dropped; for how many more tuples or marks there is room; and what the bounds on steps go by

@@ -3,7 +3,7 @@ ghost use Rattle.std.specs.Option.{option_map};
 ghost use Rattle.stream_base.specs.declared.limits.TheConstants.{TIME_MAX};
 ghost use Rattle.stream_base.specs.Model.Windows.{first_time, last_time, within};
 ghost use Rattle.aggregates.specs.Bundled.{bundle_of};
-ghost use Rattle.run_laws.specs.Runs.{runs_within};
+ghost use Rattle.slice_lists.specs.Runs.{runs_within};
 ghost use Rattle.slice_lists.specs.Slices.{slice_of, values_of};
 ghost use Rattle.agg_store.specs.Stored.{AreBounds, IsStore, Stored, tuples_of};
 

@@ -6,7 +6,7 @@ use agg_laws::{AggTree, Lift, Monoid, Probes, Steps};
 use aggregates::{Sum, Trace};
 use fiba_arena::{ArenaTree, Item, Node, Nodes};
 use fiba_finger::FingerTree;
-use flat_tree::FlatTree;
+use pair_row::FlatTree;
 use std::process::Abort;
 use stream_base::NoMemory;
 

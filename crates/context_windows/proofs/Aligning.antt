@@ -10,14 +10,15 @@ use Rattle.stream_base.specs.declared.kind.Kind.TheVariants.{Tumbling, Sliding, 
 use Rattle.stream_base.specs.declared.limits.TheConstants.{FINAL}
 use Rattle.stream_base.specs.Laws.{TimesDoNotFall}
 use Rattle.stream_base.specs.Model.Journal.{put_in_order}
-use Rattle.stream_base.specs.Model.Slices.{is_events, runs_of}
+use Rattle.stream_base.specs.Model.Slices.{runs_of}
+use Rattle.stream_base.specs.Kinds.{is_events}
 use Rattle.stream_base.specs.Model.Windows.{Instance, instances_of, sessions}
 use Rattle.stream_base.proofs.Distinct.{All_from_members}
 use Rattle.stream_base.proofs.Members.{filter_members}
 use Rattle.stream_base.proofs.Rising.{Contains-head}
-use Rattle.run_laws.specs.Runs.{IsAligned}
+use Rattle.slice_lists.specs.Runs.{IsAligned}
 use Rattle.window_laws.proofs.EdgeFacts.{aligned, end_is_cut, marks_align, start_is_cut}
-use Rattle.run_laws.proofs.Order.{All-map_of}
+use Rattle.slice_lists.proofs.Order.{All-map_of}
 use Rattle.agg_store.specs.Stored.{Stored, tuples_of}
 use Rattle.window_spans.specs.declared.span.Span.{Span}
 use Rattle.window_spans.specs.Held.{AreAlignedWith, IsAlignedWith}

@@ -12,12 +12,12 @@ use Rattle.stream_base.specs.declared.kept.Kept.{Kept}
 use Rattle.stream_base.specs.Limits.{Definitions}
 use Rattle.stream_base.specs.Model.Changes.{Moment}
 use Rattle.stream_base.specs.Model.Cuts.{has_cut}
-use Rattle.stream_base.specs.Model.Slices.{is_events}
+use Rattle.stream_base.specs.Kinds.{is_events}
 use Rattle.stream_base.specs.Model.Windows.{first_time, last_time}
 use Rattle.stream_base.proofs.EventOrder.{All_put}
 use Rattle.stream_base.proofs.Rising.{Contains-insert_key, Contains-insert_key_cases, Contains-insert_key_self}
-use Rattle.run_laws.specs.Runs.{AreParted, IsAligned}
-use Rattle.run_laws.proofs.Order.{All-split, IsApart, IsNear, pieces_in_order}
+use Rattle.slice_lists.specs.Runs.{AreParted, IsAligned}
+use Rattle.slice_lists.proofs.Order.{All-split, IsApart, IsNear, pieces_in_order}
 use Rattle.slice_lists.specs.Slices.{joined}
 use Rattle.agg_store.specs.Stored.{Stored, tuples_of}
 use Rattle.window_spans.specs.declared.span.Span.{Span}

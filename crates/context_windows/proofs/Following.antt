@@ -11,18 +11,18 @@ use Rattle.stream_base.specs.declared.kept.Kept.{Kept}
 use Rattle.stream_base.specs.declared.kind.Kind.{Kind}
 use Rattle.stream_base.specs.declared.kind.Kind.TheVariants.{Tumbling, Sliding, Session, Marks, Events}
 use Rattle.stream_base.specs.Laws.{TimesDoNotFall, becomes_complete, completions}
-use Rattle.stream_base.specs.Limits.{IsKindWithin}
+use Rattle.stream_base.specs.Kinds.{IsKindWithin}
 use Rattle.stream_base.specs.Model.Changes.{Moment, row_of}
 use Rattle.stream_base.specs.Model.Journal.{put_in_order}
 use Rattle.stream_base.specs.Model.Windows.{Instance, first_time, instances_of, last_time, pieces_of, session, sessions}
 use Rattle.stream_base.proofs.Members.{filter_map_of}
 use Rattle.window_laws.specs.After.{complete_at}
-use Rattle.run_laws.specs.Runs.{AreInOrder, AreParted, IsPartFrom, IsRun}
+use Rattle.slice_lists.specs.Runs.{AreInOrder, AreParted, IsPartFrom, IsRun}
 use Rattle.window_laws.specs.Sessions.{IsPutInSessions, joined_session}
 use Rattle.window_laws.proofs.InstanceFacts.{gap_cut, session_far, session_near, session_runs}
 use Rattle.stream_base.proofs.Filters.{filter_all}
-use Rattle.run_laws.proofs.Order.{All-map_of, All-split, IsApart, IsNear, run_spans, runs_are_runs}
-use Rattle.run_laws.proofs.RunEdits.{parted}
+use Rattle.slice_lists.proofs.Order.{All-map_of, All-split, IsApart, IsNear, run_spans, runs_are_runs}
+use Rattle.slice_lists.proofs.RunEdits.{parted}
 use Rattle.slice_lists.specs.declared.slice.Slice.{Slice}
 use Rattle.slice_lists.specs.Slices.{joined}
 use Rattle.slice_lists.proofs.SliceEdits.{entered_shown}

@@ -15,14 +15,14 @@ use Rattle.stream_base.specs.declared.limits.TheConstants.{FINAL, TIME_MAX}
 use Rattle.stream_base.specs.Limits.{Definitions}
 use Rattle.stream_base.specs.Model.Changes.{Moment}
 use Rattle.stream_base.specs.Model.Journal.{rising}
-use Rattle.stream_base.specs.Model.Slices.{is_events}
+use Rattle.stream_base.specs.Kinds.{is_events}
 use Rattle.stream_base.specs.Model.Windows.{Instance, between_times, instances_of, interval, is_selecting, stretches, within}
 use Rattle.stream_base.proofs.Distinct.{lt_from_less}
 use Rattle.stream_base.proofs.Rising.{Contains-cons_cases, Contains-from_rising, below_tail, nat_rising_is_sorted, none_in_nil}
 use Rattle.window_laws.specs.After.{at_water}
 use Rattle.window_laws.specs.Settled.{MayLeave, without_first}
 use Rattle.window_laws.proofs.InstanceFacts.{between_ends}
-use Rattle.run_laws.proofs.Order.{All-map_of}
+use Rattle.slice_lists.proofs.Order.{All-map_of}
 use Rattle.agg_store.specs.Stored.{Stored, tuples_of}
 use Rattle.window_spans.specs.declared.span.Span.{Span}
 use Rattle.window_spans.specs.Ahead.{start_after}

@@ -9,7 +9,7 @@ use Rattle.stream_base.specs.declared.kind.Kind.TheVariants.{Tumbling, Sliding, 
 use Rattle.stream_base.specs.Laws.{TimesDoNotFall}
 use Rattle.stream_base.specs.Limits.{Definitions}
 use Rattle.stream_base.specs.Model.Changes.{Moment, emissions, retractions}
-use Rattle.stream_base.specs.Model.Slices.{is_events}
+use Rattle.stream_base.specs.Kinds.{is_events}
 use Rattle.stream_base.specs.Model.Windows.{Instance, instances_of, is_complete, sessions, within}
 use Rattle.stream_base.proofs.ChangeFacts.{none_emitted, none_retracted}
 use Rattle.stream_base.proofs.Distinct.{All_from_members, standing_rises}

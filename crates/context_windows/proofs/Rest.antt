@@ -12,10 +12,11 @@ use Rattle.stream_base.specs.declared.kept.Kept.{Kept}
 use Rattle.stream_base.specs.declared.kind.Kind.TheVariants.{Marks}
 use Rattle.stream_base.specs.declared.limits.TheConstants.{FINAL, TIME_MAX}
 use Rattle.stream_base.specs.Laws.{TimesDoNotFall}
-use Rattle.stream_base.specs.Limits.{Definitions, IsKindWithin}
+use Rattle.stream_base.specs.Limits.{Definitions}
+use Rattle.stream_base.specs.Kinds.{IsKindWithin, is_events}
 use Rattle.stream_base.specs.Model.Changes.{Moment}
 use Rattle.stream_base.specs.Model.Journal.{put_in_order}
-use Rattle.stream_base.specs.Model.Slices.{is_events, is_settled, is_settled_in}
+use Rattle.stream_base.specs.Model.Slices.{is_settled, is_settled_in}
 use Rattle.stream_base.specs.Model.Windows.{Instance, instances_of, within}
 use Rattle.window_laws.specs.After.{with_tuple}
 use Rattle.window_laws.specs.Positions.{AreKept, HaveDistinctPositions}

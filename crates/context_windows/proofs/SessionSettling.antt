@@ -14,10 +14,10 @@ use Rattle.stream_base.specs.Model.Windows.{Instance, first_time, is_within, las
 use Rattle.stream_base.proofs.Distinct.{All_from_members}
 use Rattle.stream_base.proofs.Members.{filter_members}
 use Rattle.window_laws.specs.After.{at_water}
-use Rattle.run_laws.specs.Runs.{AreParted}
+use Rattle.slice_lists.specs.Runs.{AreParted}
 use Rattle.window_laws.specs.Settled.{MayLeave, without_first}
 use Rattle.window_laws.proofs.InstanceFacts.{gap_cut, session_far, session_near, session_runs, sessions_select}
-use Rattle.run_laws.proofs.Order.{All-map_of, IsApart, IsNear, run_spans, runs_behind}
+use Rattle.slice_lists.proofs.Order.{All-map_of, IsApart, IsNear, run_spans, runs_behind}
 use Rattle.window_laws.proofs.SettledMoves.{session_last}
 use Rattle.window_spans.specs.declared.span.Span.{Span}
 use Rattle.window_spans.specs.Ahead.{start_after}

@@ -7,9 +7,10 @@ use Rattle.std.proofs.lemmas.List.Elements.{All-contains}
 use Rattle.stream_base.specs.declared.def.Def.{Def}
 use Rattle.stream_base.specs.declared.kept.Kept.{Kept}
 use Rattle.stream_base.specs.declared.limits.TheConstants.{FINAL, TIME_MAX}
-use Rattle.stream_base.specs.Limits.{Definitions, IsKindWithin}
+use Rattle.stream_base.specs.Limits.{Definitions}
+use Rattle.stream_base.specs.Kinds.{IsKindWithin, is_events}
 use Rattle.stream_base.specs.Model.Changes.{Moment}
-use Rattle.stream_base.specs.Model.Slices.{is_events, is_settled_in}
+use Rattle.stream_base.specs.Model.Slices.{is_settled_in}
 use Rattle.stream_base.specs.Model.Windows.{Instance, instances_of}
 use Rattle.stream_base.proofs.Members.{filter_map_of, map_has}
 use Rattle.window_laws.specs.After.{at_water}

@@ -22,7 +22,7 @@ use Rattle.window_laws.specs.After.{complete_at}
 use Rattle.window_laws.specs.Stretches.{IsMarkedInStretches, IsPutInStretches, if_selecting}
 use Rattle.window_laws.proofs.InstanceFacts.{between_ends}
 use Rattle.stream_base.proofs.Filters.{filter_all}
-use Rattle.run_laws.proofs.Order.{All-split}
+use Rattle.slice_lists.proofs.Order.{All-split}
 use Rattle.window_laws.proofs.SessionFacts.{put_times}
 use Rattle.window_laws.proofs.StretchFacts.{edges_of, span_of_holder, stretches_after_mark, stretches_after_put}
 use Rattle.slice_lists.specs.Touched.{marks_left}

@@ -5,7 +5,7 @@ ghost use Rattle.std.specs.Prelude.{◌≡◌, ◌≤◌, ℕ, List};
 ghost use Rattle.stream_base.specs.declared.def.Def.{Def};
 ghost use Rattle.stream_base.specs.declared.kept.Kept.{Kept};
 ghost use Rattle.stream_base.specs.Model.Journal.{put_in_order};
-ghost use Rattle.run_laws.specs.Runs.{IsAligned};
+ghost use Rattle.slice_lists.specs.Runs.{IsAligned};
 ghost use Rattle.slice_lists.specs.Touched.{marks_left};
 ghost use Rattle.agg_store.specs.Stored.{Stored};
 ghost use Rattle.window_spans.specs.Held.{AreAlignedWith};

@@ -12,7 +12,7 @@ use Rattle.stream_base.specs.declared.kept.Kept.{Kept}
 use Rattle.stream_base.specs.declared.kind.Kind.{Kind}
 use Rattle.stream_base.specs.declared.kind.Kind.TheVariants.{Tumbling, Sliding, Session, Marks, Events}
 use Rattle.stream_base.specs.declared.def.Def.{Def}
-use Rattle.stream_base.specs.Limits.{IsKindWithin}
+use Rattle.stream_base.specs.Kinds.{IsKindWithin}
 use Rattle.stream_base.specs.Laws.{TimesDoNotFall, RiseByStart, becomes_complete, completions}
 use Rattle.stream_base.specs.Model.Changes.{row_of, former_of, is_same, are_same_tuples, retraction, emitted, emission, retractions, emissions}
 use Rattle.stream_base.specs.Model.Journal.{put_in_order}

@@ -1,8 +1,7 @@
 -- The lanes are opened one by one, each with a sender for each source.
-use Rattle.std.proofs.Common.{◌≡◌, ◌≤◌, ◌<◌, ◌+◌, arith, length-append, ℕ, zero, suc, List, [], ◌∷◌, ◌++◌, length, drop, get_or, set, slice_get, sym, refl, ap, subst, ◌∙◌, Some}
+use Rattle.std.proofs.Common.{◌≡◌, ◌≤◌, ◌<◌, ◌+◌, arith, length-append, ℕ, zero, suc, List, [], ◌∷◌, ◌++◌, length, drop, get_or, set, slice_get, sym, refl, ap, subst, ◌∙◌, Some, ⊎_elim}
 use Rattle.std.specs.Prelude.{All, Vec}
 use Rattle.std.specs.declared.alloc.Global.{Global}
-use Rattle.std.proofs.Common.{⊎_elim}
 use Rattle.std.proofs.lemmas.Bool.{cases_lt}
 use Rattle.std.proofs.lemmas.List.{get_or_append_left, get_or-set_other, get_or_push, length-set, map-append}
 use Rattle.std.proofs.lemmas.List.Elements.{All-push}

@@ -20,7 +20,7 @@ use Rattle.stream_base.proofs.Distinct.{All_from_members}
 use Rattle.model_laws.proofs.Lawful.{never_dropped, told_in_order}
 use Rattle.stream_base.proofs.Members.{filter_members, flat_map_members, map_has, map_members, range_members}
 use Rattle.stream_base.proofs.Rising.{Contains-cons_cases, Contains-head, none_in_nil}
-use Rattle.run_laws.proofs.Order.{All-split}
+use Rattle.slice_lists.proofs.Order.{All-split}
 use Rattle.source_feed.specs.Generated.{dealt, made_entries, made_events, made_sources, told_of_indices}
 use Rattle.source_feed.specs.Stream.{entry_of}
 use Rattle.source_feed.specs.declared.made_feed.TheConstants.{MADE_ROWS_MAX}

@@ -11,7 +11,8 @@ use Rattle.stream_base.specs.declared.def.Def.{Def}
 use Rattle.stream_base.specs.declared.entry.Entry.{Entry}
 use Rattle.stream_base.specs.declared.limits.TheConstants.{FINAL}
 use Rattle.stream_base.specs.Laws.{RiseByStart, by_row}
-use Rattle.stream_base.specs.Limits.{AreWithinLimits, Definitions, IsKindWithin}
+use Rattle.stream_base.specs.Limits.{AreWithinLimits, Definitions}
+use Rattle.stream_base.specs.Kinds.{IsKindWithin}
 use Rattle.stream_base.specs.Model.Changes.{rows_at, standing_at}
 use Rattle.stream_base.specs.Model.Final.{all_entries, final_moment, final_rows}
 use Rattle.stream_base.specs.Model.Journal.{keys_of}

@@ -19,7 +19,7 @@ use Rattle.stream_base.specs.Model.What.{is_late, mark_in, tuple_in, water_time}
 use Rattle.model_laws.proofs.Accepted.{kept_exactly, marks_exactly}
 use Rattle.stream_base.proofs.EventOrder.{kept_in_event_order}
 use Rattle.model_laws.proofs.WatermarkBounds.{water_at_most}
-use Rattle.run_laws.proofs.Order.{All-split}
+use Rattle.slice_lists.proofs.Order.{All-split}
 use Rattle.final_rows.specs.AtEnd.{NothingIsDropped}
 
 -- ---- nothing was dropped

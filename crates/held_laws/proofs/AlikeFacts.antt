@@ -9,9 +9,10 @@ use Rattle.std.proofs.lemmas.List.Sorted.{IsNonDecreasingBy-drop}
 use Rattle.stream_base.specs.declared.def.Def.{Def}
 use Rattle.stream_base.specs.declared.kept.Kept.{Kept}
 use Rattle.stream_base.specs.declared.limits.TheConstants.{FINAL}
-use Rattle.stream_base.specs.Limits.{Definitions, IsKindWithin}
+use Rattle.stream_base.specs.Limits.{Definitions}
+use Rattle.stream_base.specs.Kinds.{IsKindWithin, is_events}
 use Rattle.stream_base.specs.Model.Changes.{Moment}
-use Rattle.stream_base.specs.Model.Slices.{is_events, is_settled, is_settled_in, unsettled}
+use Rattle.stream_base.specs.Model.Slices.{is_settled, is_settled_in, unsettled}
 use Rattle.stream_base.specs.Model.Windows.{Instance, instances_of}
 use Rattle.stream_base.proofs.Members.{filter_has, filter_members, filter_same}
 use Rattle.window_laws.specs.Instances.{incomplete}

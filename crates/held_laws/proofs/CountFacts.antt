@@ -11,7 +11,7 @@ use Rattle.stream_base.specs.Model.Windows.{first_time}
 use Rattle.stream_base.proofs.Distinct.{All_from_members}
 use Rattle.stream_base.proofs.Members.{filter_same}
 use Rattle.window_laws.specs.After.{at_water}
-use Rattle.run_laws.specs.Runs.{IsAligned}
+use Rattle.slice_lists.specs.Runs.{IsAligned}
 use Rattle.window_laws.specs.Settled.{without_first}
 use Rattle.stream_base.proofs.Filters.{filter_none}
 use Rattle.slice_lists.specs.Touched.{slices_from}

@@ -11,10 +11,11 @@ use Rattle.std.proofs.lemmas.List.Elements.{All-contains, All-nil, All-weaker}
 use Rattle.stream_base.specs.declared.def.Def.{Def}
 use Rattle.stream_base.specs.declared.kept.Kept.{Kept}
 use Rattle.stream_base.specs.declared.limits.TheConstants.{FINAL}
-use Rattle.stream_base.specs.Limits.{Definitions, IsKindWithin}
+use Rattle.stream_base.specs.Limits.{Definitions}
+use Rattle.stream_base.specs.Kinds.{IsKindWithin, is_events}
 use Rattle.stream_base.specs.Model.Changes.{Moment}
 use Rattle.stream_base.specs.Model.Journal.{put_in_order}
-use Rattle.stream_base.specs.Model.Slices.{is_events, is_settled, is_settled_in}
+use Rattle.stream_base.specs.Model.Slices.{is_settled, is_settled_in}
 use Rattle.stream_base.proofs.Distinct.{All_from_members}
 use Rattle.stream_base.proofs.Members.{Contains-insert_cases}
 use Rattle.stream_base.proofs.Rising.{Contains-insert_key, Contains-insert_key_cases, Contains-insert_key_self}
@@ -22,7 +23,7 @@ use Rattle.window_laws.specs.After.{at_water, with_mark, with_tuple}
 use Rattle.window_laws.specs.Positions.{AreKept}
 use Rattle.window_laws.proofs.KeptFacts.{put_is_kept}
 use Rattle.window_laws.proofs.LeaveChanges.{may_leave_after_mark, may_leave_after_move, may_leave_after_tuple, tuple_enters_the_rest}
-use Rattle.run_laws.proofs.Order.{nd_nil}
+use Rattle.slice_lists.proofs.Order.{nd_nil}
 use Rattle.window_laws.proofs.SettledFacts.{all_from, all_member, not_all}
 use Rattle.slice_lists.specs.Slices.{joined}
 use Rattle.agg_store.specs.Stored.{IsSliced, Stored, tuples_of}

@@ -8,18 +8,19 @@ use Rattle.stream_base.specs.declared.kept.Kept.{Kept}
 use Rattle.stream_base.specs.declared.def.Def.{Def}
 use Rattle.stream_base.specs.Limits.{Definitions}
 use Rattle.stream_base.specs.Model.Changes.{Moment}
-use Rattle.stream_base.specs.Model.Cuts.{cuts_between, has_cut}
+use Rattle.stream_base.specs.Model.Cuts.{has_cut}
+use Rattle.stream_base.specs.Kinds.{cuts_between, is_events}
 use Rattle.stream_base.specs.Model.Journal.{put_in_order}
-use Rattle.stream_base.specs.Model.Slices.{is_events, is_settled, runs_of, unsettled}
+use Rattle.stream_base.specs.Model.Slices.{is_settled, runs_of, unsettled}
 use Rattle.stream_base.specs.Model.Windows.{first_time, last_time}
 use Rattle.stream_base.proofs.Distinct.{All_from_members}
 use Rattle.stream_base.proofs.Members.{Contains-insert_cases, filter_members, filter_same}
 use Rattle.window_laws.specs.After.{at_water, with_mark, with_tuple}
 use Rattle.window_laws.specs.Positions.{AreKept}
-use Rattle.run_laws.specs.Runs.{IsRun}
+use Rattle.slice_lists.specs.Runs.{IsRun}
 use Rattle.window_laws.specs.Settled.{without_first}
 use Rattle.stream_base.proofs.Filters.{filter_all}
-use Rattle.run_laws.proofs.Order.{runs_are_runs}
+use Rattle.slice_lists.proofs.Order.{runs_are_runs}
 use Rattle.window_laws.proofs.SettledFacts.{not_all}
 use Rattle.window_laws.proofs.SettledMoves.{mark_settles_none, move_keeps_settled, new_tuple_is_unsettled, tuple_settles_no_other}
 use Rattle.slice_lists.specs.Touched.{is_near, slices_from}

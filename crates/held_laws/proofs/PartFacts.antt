@@ -9,11 +9,12 @@ use Rattle.stream_base.specs.declared.kept.Kept.{Kept}
 use Rattle.stream_base.specs.declared.kind.Kind.TheVariants.{Marks, Session}
 use Rattle.stream_base.specs.declared.limits.TheConstants.{FINAL, JOURNAL_MAX}
 use Rattle.stream_base.specs.Laws.{TimesDoNotFall}
-use Rattle.stream_base.specs.Limits.{Definitions, IsKindWithin}
+use Rattle.stream_base.specs.Limits.{Definitions}
+use Rattle.stream_base.specs.Kinds.{IsKindWithin}
 use Rattle.stream_base.specs.Model.Changes.{Moment}
 use Rattle.stream_base.specs.Model.Windows.{Instance, instances_of, sessions, stretches, within}
 use Rattle.window_laws.specs.Positions.{AreKept}
-use Rattle.run_laws.specs.Runs.{IsAligned}
+use Rattle.slice_lists.specs.Runs.{IsAligned}
 use Rattle.window_laws.proofs.InstanceFacts.{sessions_select, spans_hold_selections}
 use Rattle.agg_store.specs.Stored.{IsStore, Stored, tuples_of}
 use Rattle.context_windows.specs.Aligned.{IsOfSessions, IsOfWindows}

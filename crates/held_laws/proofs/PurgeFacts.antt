@@ -18,11 +18,11 @@ use Rattle.stream_base.specs.Model.Windows.{first_time, last_time}
 use Rattle.stream_base.proofs.Distinct.{All_from_members}
 use Rattle.stream_base.proofs.Members.{filter_has, filter_members, flat_map_has, flat_map_members}
 use Rattle.stream_base.proofs.Rising.{Contains-cons_cases, Contains-head, Contains-tail, none_in_nil}
-use Rattle.run_laws.specs.Runs.{AreParted, IsAligned, IsRun}
+use Rattle.slice_lists.specs.Runs.{AreParted, IsAligned, IsRun}
 use Rattle.window_laws.specs.Positions.{AreKept}
 use Rattle.window_laws.specs.Settled.{MayLeave, without_first}
 use Rattle.window_laws.proofs.EdgeFacts.{aligned}
-use Rattle.run_laws.proofs.Order.{IsApart, IsNear, pieces_in_order, run_spans, runs_are_runs}
+use Rattle.slice_lists.proofs.Order.{IsApart, IsNear, pieces_in_order, run_spans, runs_are_runs}
 use Rattle.window_laws.proofs.SettledFacts.{cut_behind_settled}
 use Rattle.slice_lists.specs.Touched.{marks_left}
 use Rattle.slice_lists.specs.Places.{IsPlaceOf}

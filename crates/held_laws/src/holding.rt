@@ -1,7 +1,8 @@
 //! What a store holds of a key it goes on to hold.
 ghost use Rattle.std.specs.Prelude.{◌≡◌, ◌≤◌, [], ℕ, All};
 ghost use Rattle.stream_base.specs.declared.kept.Kept.{Kept};
-ghost use Rattle.stream_base.specs.Limits.{Definitions, IsKindWithin};
+ghost use Rattle.stream_base.specs.Limits.{Definitions};
+ghost use Rattle.stream_base.specs.Kinds.{IsKindWithin};
 ghost use Rattle.stream_base.specs.Model.Changes.{Moment};
 ghost use Rattle.window_laws.specs.After.{at_water, with_mark, with_tuple};
 ghost use Rattle.agg_store.specs.Stored.{IsSliced, Stored};

@@ -6,7 +6,7 @@ ghost use Rattle.stream_base.specs.declared.def.Def.{Def};
 ghost use Rattle.stream_base.specs.declared.kind.Kind.TheVariants.{Session};
 ghost use Rattle.stream_base.specs.Limits.{Definitions};
 ghost use Rattle.stream_base.specs.Model.Changes.{Moment};
-ghost use Rattle.run_laws.specs.Runs.{IsAligned};
+ghost use Rattle.slice_lists.specs.Runs.{IsAligned};
 ghost use Rattle.agg_store.specs.Stored.{IsStore, Stored, tuples_of};
 ghost use Rattle.context_windows.specs.Aligned.{IsOfSessions, IsOfWindows};
 ghost use Rattle.context_windows.specs.Spanned.{HoldsSessions, IsSession};

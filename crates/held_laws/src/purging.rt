@@ -5,7 +5,7 @@ ghost use Rattle.stream_base.specs.declared.kept.Kept.{Kept};
 ghost use Rattle.stream_base.specs.Limits.{Definitions};
 ghost use Rattle.stream_base.specs.Model.Changes.{Moment};
 ghost use Rattle.stream_base.specs.Model.Slices.{is_settled, runs_of};
-ghost use Rattle.run_laws.specs.Runs.{IsAligned};
+ghost use Rattle.slice_lists.specs.Runs.{IsAligned};
 ghost use Rattle.window_laws.specs.Settled.{without_first};
 ghost use Rattle.agg_store.specs.Stored.{IsSliced, IsStore, Stored, tuples_of};
 ghost use Rattle.key_parts.specs.Held.{IsHeld};

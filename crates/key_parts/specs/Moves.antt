@@ -10,9 +10,10 @@ use Rattle.stream_base.specs.declared.kept.Kept.{Kept}
 use Rattle.stream_base.specs.declared.limits.TheConstants.{JOURNAL_MAX, TIME_MAX}
 use Rattle.stream_base.specs.Model.Changes.{Moment}
 use Rattle.stream_base.specs.Model.Journal.{put_in_order}
-use Rattle.stream_base.specs.Model.Slices.{is_events, is_settled_in}
+use Rattle.stream_base.specs.Model.Slices.{is_settled_in}
+use Rattle.stream_base.specs.Kinds.{is_events}
 use Rattle.window_laws.specs.Positions.{AreKept}
-use Rattle.run_laws.specs.Runs.{parted_at}
+use Rattle.slice_lists.specs.Runs.{parted_at}
 use Rattle.slice_lists.specs.Touched.{slices_from}
 use Rattle.agg_store.specs.Entered.{IsPut}
 use Rattle.agg_store.specs.Stored.{IsSliced, IsStore, Stored, tuples_of}

@@ -1,31 +1,19 @@
 -- How many changes a call appends at most, and how many combines the changes of a window take.
-use Rattle.std.specs.Prelude.{◌≡◌, ◌≤◌, ◌+◌, ◌*◌, ℕ, Vec, vec_capacity, vec_len}
+use Rattle.std.specs.Prelude.{◌≡◌, ◌≤◌, ◌+◌, ◌*◌, ℕ, if◌then◌else◌, Vec, vec_capacity, vec_len}
+use Rattle.stream_base.specs.Kinds.{events_in, is_events, is_timed}
 use Rattle.stream_base.specs.declared.kind.Kind.{Kind}
-use Rattle.stream_base.specs.declared.kind.Kind.TheVariants.{Tumbling, Sliding, Session, Marks, Events}
 
 -- the most that one change by a tuple takes in a window of this kind, over a tree of this reach: that of one fold, or where the window counts events two for each tuple of the instance
 abbrev pub change_work : Kind → ℕ → ℕ
-change_work (Tumbling length) reach = 64 * (reach + 2)
-change_work (Sliding length slide) reach = 64 * (reach + 2)
-change_work (Session gap) reach = 64 * (reach + 2)
-change_work Marks reach = 64 * (reach + 2)
-change_work (Events count) reach = 2 * count
+change_work kind reach = if is_events kind then 2 * events_in kind else 64 * (reach + 2)
 
 -- the most that one row takes that a move completes in a window of this kind: one step where a lane folds it, that of one fold, or where the window counts events one for each tuple of the instance
 abbrev pub row_work : Kind → ℕ → ℕ
-row_work (Tumbling length) reach = 1
-row_work (Sliding length slide) reach = 1
-row_work (Session gap) reach = 64 * (reach + 2)
-row_work Marks reach = 64 * (reach + 2)
-row_work (Events count) reach = count
+row_work kind reach = if is_timed kind then 1 else if is_events kind then events_in kind else 64 * (reach + 2)
 
 -- the most that a move takes for each slice of its store in a window of this kind: a lane takes it up once, and lets it go
 abbrev pub slice_work : Kind → ℕ
-slice_work (Tumbling length) = 10
-slice_work (Sliding length slide) = 10
-slice_work (Session gap) = 0
-slice_work Marks = 0
-slice_work (Events count) = 0
+slice_work kind = if is_timed kind then 10 else 0
 
 -- the most that a move takes in a window of this kind, whatever came before it, by how many slices the store has, its reach, and how many rows become complete
 abbrev pub most_moved : Kind → ℕ → ℕ → ℕ → ℕ

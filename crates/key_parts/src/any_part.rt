@@ -1,6 +1,6 @@
 //! A part that a window of any kind can have.
 ghost use Rattle.std.specs.Prelude.{◌≡◌, ◌≤◌, ◌<◌, ℕ, true, length};
-ghost use Rattle.stream_base.specs.Laws.{is_timed};
+ghost use Rattle.stream_base.specs.Kinds.{is_timed};
 ghost use Rattle.stream_base.specs.Limits.{Definitions};
 ghost use Rattle.stream_base.specs.Model.Changes.{Moment};
 ghost use Rattle.stream_base.specs.declared.kept.Kept.{Kept};
@@ -14,7 +14,7 @@ use crate::key_part::KeyPart;
 /// A part that a window of any kind can have.
 pub trait AnyPart: KeyPart {
     ghost use Rattle.std.specs.Prelude.{◌≡◌, ◌≤◌, ◌<◌, ℕ, true, length};
-    ghost use Rattle.stream_base.specs.Laws.{is_timed};
+    ghost use Rattle.stream_base.specs.Kinds.{is_timed};
     ghost use Rattle.stream_base.specs.Limits.{Definitions};
     ghost use Rattle.stream_base.specs.Model.Changes.{Moment};
     ghost use Rattle.stream_base.specs.declared.kept.Kept.{Kept};

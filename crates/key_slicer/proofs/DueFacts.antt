@@ -8,16 +8,17 @@ use Rattle.stream_base.specs.declared.def.Def.{Def}
 use Rattle.stream_base.specs.declared.kept.Kept.{Kept}
 use Rattle.stream_base.specs.declared.kind.Kind.{Kind}
 use Rattle.stream_base.specs.declared.kind.Kind.TheVariants.{Tumbling, Sliding, Session, Marks, Events}
-use Rattle.stream_base.specs.Laws.{HoldsTime, TimesDoNotFall, completions, is_timed}
+use Rattle.stream_base.specs.Laws.{HoldsTime, TimesDoNotFall, completions}
+use Rattle.stream_base.specs.Kinds.{CutsBetween, IsKindWithin, is_events, is_timed}
 use Rattle.stream_base.specs.Model.Changes.{Moment}
-use Rattle.stream_base.specs.Model.Cuts.{CutsBetween, has_cut}
+use Rattle.stream_base.specs.Model.Cuts.{has_cut}
 use Rattle.stream_base.specs.Model.Journal.{put_in_order}
 use Rattle.stream_base.specs.Model.Windows.{Instance, first_time, instances_of, interval, last_time, spans, starts_of}
 use Rattle.stream_base.proofs.CutFacts.{cut_decides}
 use Rattle.stream_base.proofs.Rising.{Contains-head}
 use Rattle.stream_base.proofs.Spans.{starts_after_put, starts_hold_kept}
-use Rattle.stream_base.specs.Limits.{Definitions, IsKindWithin}
-use Rattle.stream_base.specs.Model.Slices.{is_events, is_settled, is_settled_in, unsettled}
+use Rattle.stream_base.specs.Limits.{Definitions}
+use Rattle.stream_base.specs.Model.Slices.{is_settled, is_settled_in, unsettled}
 use Rattle.stream_base.proofs.ChangeFacts.{changes_at_water}
 use Rattle.stream_base.proofs.Distinct.{All_from_members}
 use Rattle.stream_base.proofs.Members.{Contains-insert_cases, Contains-insert_new, Contains-insert_old, filter_has, filter_members, filter_same, flat_map_has, map_has, map_members}
@@ -26,8 +27,8 @@ use Rattle.window_laws.specs.Positions.{AreKept}
 use Rattle.window_laws.specs.Settled.{IsSettledAt}
 use Rattle.window_laws.proofs.SettledFacts.{all_from, all_member, settled_before, settled_by_times, times_settle}
 use Rattle.window_laws.proofs.SettledMoves.{span_of_other, tuple_settles_no_other}
-use Rattle.run_laws.specs.Runs.{IsRun}
-use Rattle.run_laws.proofs.Order.{runs_are_runs}
+use Rattle.slice_lists.specs.Runs.{IsRun}
+use Rattle.slice_lists.proofs.Order.{runs_are_runs}
 use Rattle.slice_lists.specs.Touched.{is_near}
 use Rattle.slice_lists.proofs.SliceOrder.{IsApart, IsNear, first_below_last, times_of_order}
 use Rattle.agg_store.specs.Entered.{slices_near}

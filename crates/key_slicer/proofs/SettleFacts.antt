@@ -8,7 +8,8 @@ use Rattle.stream_base.specs.Limits.{Definitions}
 use Rattle.stream_base.specs.declared.kept.Kept.{Kept}
 use Rattle.stream_base.specs.declared.limits.TheConstants.{FINAL, TIME_MAX}
 use Rattle.stream_base.specs.Model.Changes.{Moment}
-use Rattle.stream_base.specs.Model.Slices.{is_events, is_settled, unsettled}
+use Rattle.stream_base.specs.Model.Slices.{is_settled, unsettled}
+use Rattle.stream_base.specs.Kinds.{is_events}
 use Rattle.stream_base.specs.Model.Windows.{first_time, last_time}
 use Rattle.stream_base.proofs.Members.{filter_has, filter_members}
 use Rattle.stream_base.proofs.Rising.{Contains-head}
@@ -16,7 +17,7 @@ use Rattle.window_laws.specs.After.{at_water}
 use Rattle.window_laws.specs.Settled.{without_first}
 use Rattle.window_laws.proofs.SettledMoves.{move_keeps_settled}
 use Rattle.stream_base.proofs.Filters.{filter_all}
-use Rattle.run_laws.proofs.Order.{runs_behind}
+use Rattle.slice_lists.proofs.Order.{runs_behind}
 use Rattle.slice_lists.specs.declared.slice.Slice.{Slice}
 use Rattle.slice_lists.specs.Touched.{slices_from}
 use Rattle.slice_lists.specs.Slices.{AreSlices, joined, slice_of}

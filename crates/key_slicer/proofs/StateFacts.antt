@@ -8,7 +8,8 @@ use Rattle.std.specs.List.Sorted.{IsStrictlyIncreasing}
 use Rattle.std.proofs.Math.Seq.{drop-nil}
 use Rattle.std.proofs.lemmas.Bool.{cases_Bool}
 use Rattle.std.proofs.lemmas.List.Elements.{All-contains, All-nil, All-weaker}
-use Rattle.stream_base.specs.Limits.{AreWithinLimits, Definitions, IsKindWithin}
+use Rattle.stream_base.specs.Limits.{AreWithinLimits, Definitions}
+use Rattle.stream_base.specs.Kinds.{IsKindWithin, is_events}
 use Rattle.stream_base.specs.declared.change.Change.{Change}
 use Rattle.stream_base.specs.declared.change.Change.TheVariants.{New}
 use Rattle.stream_base.specs.Laws.{becomes_complete, completions}
@@ -18,7 +19,7 @@ use Rattle.stream_base.specs.Model.Changes.{Moment, row_of}
 use Rattle.stream_base.specs.declared.def.Def.{Def}
 use Rattle.stream_base.specs.declared.func.Func.TheVariants.{Count}
 use Rattle.stream_base.specs.declared.kind.Kind.TheVariants.{Marks}
-use Rattle.stream_base.specs.Model.Slices.{is_events, is_settled, runs_of, unsettled}
+use Rattle.stream_base.specs.Model.Slices.{is_settled, runs_of, unsettled}
 use Rattle.stream_base.specs.Model.Windows.{first_time, instances_of, last_time}
 use Rattle.model_laws.proofs.Absent.{no_instances}
 use Rattle.stream_base.proofs.ChangeFacts.{changes_at_water, flat_map_none}
@@ -27,7 +28,7 @@ use Rattle.stream_base.proofs.Distinct.{All_from_members}
 use Rattle.stream_base.proofs.Members.{Contains-insert_cases}
 use Rattle.stream_base.proofs.Rising.{Contains-insert_key_cases, none_in_nil}
 use Rattle.window_laws.specs.After.{at_water, with_mark, with_tuple}
-use Rattle.run_laws.specs.Runs.{IsAligned, parted_at}
+use Rattle.slice_lists.specs.Runs.{IsAligned, parted_at}
 use Rattle.window_laws.specs.Settled.{without_first}
 use Rattle.window_laws.proofs.SettledFacts.{not_all}
 use Rattle.window_laws.proofs.KeptFacts.{put_is_kept}

@@ -5,7 +5,8 @@ use Rattle.std.specs.List.Sorted.{IsStrictlyIncreasing}
 use Rattle.std.proofs.lemmas.Bool.{cases_lt, false≢true}
 use Rattle.std.proofs.lemmas.List.Elements.{All-cons, All-drop, All-filter, All-nil}
 use Rattle.std.proofs.lemmas.List.Kept.{IsStrictlyIncreasing-filter}
-use Rattle.stream_base.specs.Limits.{Definitions, IsKindWithin}
+use Rattle.stream_base.specs.Limits.{Definitions}
+use Rattle.stream_base.specs.Kinds.{IsKindWithin}
 use Rattle.stream_base.specs.declared.def.Def.{Def}
 use Rattle.stream_base.specs.declared.kept.Kept.{Kept}
 use Rattle.stream_base.specs.declared.limits.TheConstants.{TIME_MAX}
@@ -15,8 +16,8 @@ use Rattle.stream_base.specs.Model.Cuts.{has_cut}
 use Rattle.stream_base.specs.Model.Slices.{runs_of}
 use Rattle.stream_base.proofs.EventOrder.{All_put}
 use Rattle.model_laws.proofs.CutLaws.{no_cut_at_one_time}
-use Rattle.run_laws.specs.Runs.{AreInOrder, AreParted, IsPartFrom, IsRun}
-use Rattle.run_laws.proofs.Order.{All-split, IsApart, IsNear, pieces_in_order}
+use Rattle.slice_lists.specs.Runs.{AreInOrder, AreParted, IsPartFrom, IsRun}
+use Rattle.slice_lists.proofs.Order.{All-split, IsApart, IsNear, pieces_in_order}
 use Rattle.slice_lists.specs.Slices.{AreSlices, joined}
 use Rattle.slice_lists.specs.Touched.{marks_left, slices_from}
 use Rattle.slice_lists.proofs.MarkFacts.{rising_more}

@@ -2,8 +2,9 @@
 use Rattle.std.proofs.Common.{◌≡◌, ◌∙◌, ◌≤◌, ◌<◌, ◌++◌, ℕ, true, false, List, [], length, get_or, ap, append-nil, arith, refl, sym}
 use Rattle.std.specs.Prelude.{All}
 use Rattle.std.proofs.lemmas.List.Elements.{All-contains}
-use Rattle.stream_base.specs.Laws.{TimesDoNotFall, is_timed}
-use Rattle.stream_base.specs.Limits.{Definitions, IsKindWithin}
+use Rattle.stream_base.specs.Laws.{TimesDoNotFall}
+use Rattle.stream_base.specs.Kinds.{IsKindWithin, is_events, is_timed}
+use Rattle.stream_base.specs.Limits.{Definitions}
 use Rattle.stream_base.specs.declared.change.Change.{Change}
 use Rattle.stream_base.specs.declared.def.Def.{Def}
 use Rattle.stream_base.specs.declared.func.Func.TheVariants.{Count}
@@ -13,7 +14,6 @@ use Rattle.stream_base.specs.declared.kind.Kind.TheVariants.{Tumbling, Sliding, 
 use Rattle.stream_base.specs.declared.limits.TheConstants.{TIME_MAX}
 use Rattle.stream_base.specs.Model.Changes.{Moment}
 use Rattle.stream_base.specs.Model.Journal.{put_in_order}
-use Rattle.stream_base.specs.Model.Slices.{is_events}
 use Rattle.stream_base.proofs.ChangeFacts.{no_changes, standing_at_rises}
 use Rattle.window_laws.specs.After.{with_tuple}
 use Rattle.window_laws.proofs.AfterFacts.{tuple_at_stands}

@@ -16,7 +16,7 @@ use Rattle.stream_base.specs.Laws.{completions}
 use Rattle.stream_base.specs.Model.Changes.{Moment, changes_between}
 use Rattle.stream_base.specs.Model.Cuts.{has_cut}
 use Rattle.stream_base.specs.Model.Windows.{first_time}
-use Rattle.run_laws.specs.Runs.{parted_at}
+use Rattle.slice_lists.specs.Runs.{parted_at}
 use Rattle.partials.specs.Apart.{IsReachOver}
 use Rattle.slice_lists.specs.Touched.{is_across, is_near, slices_from}
 use Rattle.agg_store.specs.Entered.{slices_near}
@@ -28,7 +28,8 @@ use Rattle.key_parts.specs.Work.{change_work, most_moved}
 use Rattle.held_laws.specs.Settling.{NoneSettled}
 use Rattle.held_laws.proofs.OpenFacts.{near_under_all_marks, unsettled_slices_are_held}
 use Rattle.key_slicer.specs.Parts.{turns}
-use Rattle.key_slicer.specs.Work.{bounds_mark, bounds_move, bounds_put, counting_work, entry_work, events_in, mark_over, mark_work, move_over, put_work, slices_gone, turn_work, turns_work, walk_work}
+use Rattle.key_slicer.specs.Work.{bounds_mark, bounds_move, bounds_put, counting_work, entry_work, mark_over, mark_work, move_over, put_work, slices_gone, turn_work, turns_work, walk_work}
+use Rattle.stream_base.specs.Kinds.{events_in}
 use Rattle.key_slicer.proofs.Loops.{summed_more}
 use Rattle.key_slicer.proofs.SortFacts.{as_many_turns}
 

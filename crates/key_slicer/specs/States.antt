@@ -1,7 +1,7 @@
 -- For which lists the state of a key stands, and for which call it has room.
 use Rattle.std.specs.Prelude.{◌≡◌, ◌≤◌, ◌⊎◌, ◌&&◌, ℕ, Bool, false, List, [], All, length, nat_le}
 use Rattle.std.specs.List.{Contains, list_all}
-use Rattle.stream_base.specs.Laws.{is_timed}
+use Rattle.stream_base.specs.Kinds.{is_timed}
 use Rattle.stream_base.specs.Limits.{Definitions}
 use Rattle.stream_base.specs.declared.change.Change.{Change}
 use Rattle.stream_base.specs.declared.kept.Kept.{Kept}

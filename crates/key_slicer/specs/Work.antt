@@ -1,15 +1,14 @@
 -- How many steps a tuple, a mark or a move of the watermark takes at most in an engine on slices.
 use Rattle.std.specs.Prelude.{◌≡◌, ◌+◌, ◌-◌, ◌*◌, ℕ, List, filter, length, sum_by}
 use Rattle.std.specs.List.{enumerate_from, flat_map}
+use Rattle.stream_base.specs.Kinds.{events_in}
 use Rattle.stream_base.specs.Limits.{Definitions}
 use Rattle.stream_base.specs.declared.def.Def.{Def}
 use Rattle.stream_base.specs.declared.kept.Kept.{Kept}
-use Rattle.stream_base.specs.declared.kind.Kind.{Kind}
-use Rattle.stream_base.specs.declared.kind.Kind.TheVariants.{Tumbling, Sliding, Session, Marks, Events}
 use Rattle.stream_base.specs.Laws.{completions}
 use Rattle.stream_base.specs.Model.Changes.{Moment, changes_between}
 use Rattle.stream_base.specs.Model.Cuts.{has_cut}
-use Rattle.run_laws.specs.Runs.{parted_at}
+use Rattle.slice_lists.specs.Runs.{parted_at}
 use Rattle.partials.specs.Apart.{IsReachOver}
 use Rattle.slice_lists.specs.Touched.{is_across, is_near}
 use Rattle.slice_lists.specs.Slices.{joined}
@@ -25,14 +24,6 @@ turn_work key old new reach w = change_work (w.1).kind reach * length (turns key
 -- and all windows
 abbrev pub turns_work : Definitions → List ℕ → Moment → Moment → ℕ → ℕ
 turns_work d key old new reach = sum_by (turn_work key old new reach) (enumerate_from 0 d.windows)
-
--- how many events an instance of a window of this kind has, where the window counts them
-abbrev pub events_in : Kind → ℕ
-events_in (Tumbling length) = 0
-events_in (Sliding length slide) = 0
-events_in (Session gap) = 0
-events_in Marks = 0
-events_in (Events count) = count
 
 -- the steps of the windows that count events: twice its count for each change of such a window from one moment of a key to another
 abbrev pub counting_work : Definitions → List ℕ → Moment → Moment → ℕ

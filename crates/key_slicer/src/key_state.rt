@@ -1,9 +1,8 @@
 //! The state of a key.
 ghost use Rattle.std.specs.Prelude.{◌≡◌, ◌≤◌, ◌+◌, ◌-◌, ◌*◌, [], ℕ, length, true, All, IfNone, IfSome, OnOk, vec_capacity, vec_len};
 ghost use Rattle.std.specs.List.{list_all};
-ghost use Rattle.stream_base.specs.Laws.{is_timed};
+ghost use Rattle.stream_base.specs.Kinds.{is_events, is_timed};
 ghost use Rattle.stream_base.specs.Model.Journal.{put_in_order};
-ghost use Rattle.stream_base.specs.Model.Slices.{is_events};
 ghost use Rattle.partials.specs.Apart.{IsReachOver};
 ghost use Rattle.agg_store.specs.Entered.{slices_near};
 ghost use Rattle.agg_store.specs.Stored.{tuples_of};

@@ -3,7 +3,8 @@ ghost use Rattle.std.specs.Prelude.{◌≡◌, ◌≢◌, ◌≤◌, ◌<◌, �
 ghost use Rattle.std.specs.List.{Contains, list_all};
 ghost use Rattle.stream_base.specs.declared.kept.Kept.{Kept};
 ghost use Rattle.stream_base.specs.declared.limits.TheConstants.{FINAL};
-ghost use Rattle.stream_base.specs.Model.Slices.{is_events, is_settled, unsettled};
+ghost use Rattle.stream_base.specs.Model.Slices.{is_settled, unsettled};
+ghost use Rattle.stream_base.specs.Kinds.{is_events};
 ghost use Rattle.agg_store.specs.Stored.{tuples_of};
 ghost use Rattle.key_windows.specs.Calls.{IsWater, moment};
 ghost use Rattle.held_laws.specs.Settling.{NoneSettled};

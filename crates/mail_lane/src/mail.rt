@@ -1,8 +1,7 @@
 ghost use Rattle.std.specs.Prelude.{◌≡◌, ◌<◌, ◌+◌, ◌^◌, ◌∷◌, [], ◌++◌, ℕ, slice_get, All, length, map, OnOk, OnErr, IfOk, IfErr, IfNone, IfSome};
 ghost use Rattle.crossbeam_queue.specs.SegTies.{IsSegPassOf};
 ghost use Rattle.mail_lane.specs.declared.role.Role.TheVariants.{Receiving};
-ghost use Rattle.mail_lane.specs.Lane.{with_message, with_back, ReceivesOne, HasWhole, IsSenderOf};
-ghost use Rattle.mail_lane.specs.Lane.{AreNumberedFrom, AreRestOf, AreSendersOf, IsReceiverOf, TakenInOrder};
+ghost use Rattle.mail_lane.specs.Lane.{with_message, with_back, ReceivesOne, HasWhole, IsSenderOf, AreNumberedFrom, AreRestOf, AreSendersOf, IsReceiverOf, TakenInOrder};
 
 use crate::back::Back;
 use crate::letter::Letter;

@@ -2,7 +2,8 @@
 ghost use Rattle.std.specs.Prelude.{◌≡◌, true, false, [], ◌∷◌, Some, None, pos, negsuc, replicate};
 ghost use Rattle.stream_base.specs.Examples.{window, are_within};
 ghost use Rattle.stream_base.specs.Key.{key_fault};
-ghost use Rattle.stream_base.specs.Limits.{is_value, definitions_of, is_kind_within, limit_fault};
+ghost use Rattle.stream_base.specs.Limits.{is_value, definitions_of, limit_fault};
+ghost use Rattle.stream_base.specs.Kinds.{is_kind_within};
 ghost use Rattle.stream_base.specs.declared.defs.LimitFault.TheVariants.{Many, Limit};
 ghost use Rattle.stream_base.specs.declared.func.Func.TheVariants.{Sum};
 ghost use Rattle.stream_base.specs.declared.key_text.KeyFault.TheVariants.{Length, Control};

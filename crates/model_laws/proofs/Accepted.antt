@@ -20,11 +20,10 @@ use Rattle.stream_base.specs.declared.what.What.TheVariants.{Tuple, Mark, Water,
 use Rattle.stream_base.specs.Limits.{is_value}
 use Rattle.stream_base.specs.Key.{is_key}
 use Rattle.stream_base.specs.Model.Journal.{kept_of, marks_of, put_in_order}
-use Rattle.stream_base.specs.Model.Journals.{is_entry_within}
+use Rattle.stream_base.specs.Model.Journals.{is_entry_within, AreEntriesWithin}
 use Rattle.stream_base.specs.Model.Watermark.{water_of}
 use Rattle.stream_base.specs.Model.What.{is_late, is_what_within, mark_in, tuple_in}
 use Rattle.stream_base.specs.Laws.{IsAcceptedTuple, IsAcceptedMark, accepted_tuple, accepted_mark}
-use Rattle.stream_base.specs.Model.Journals.{AreEntriesWithin}
 use Rattle.stream_base.proofs.Distinct.{All_from_members}
 use Rattle.stream_base.proofs.EventOrder.{from_the_front, position_of_tuple}
 use Rattle.model_laws.proofs.Fronts.{slice_get_front, slice_get_seam}

@@ -21,7 +21,8 @@ use Rattle.stream_base.specs.declared.def.Def.{Def}
 use Rattle.stream_base.specs.declared.entry.Entry.{Entry}
 use Rattle.stream_base.specs.declared.what.What.{What}
 use Rattle.stream_base.specs.declared.what.What.TheVariants.{Tuple, Mark, Water, Idle, End}
-use Rattle.stream_base.specs.Limits.{Definitions, AreWithinLimits, IsKindWithin}
+use Rattle.stream_base.specs.Limits.{Definitions, AreWithinLimits}
+use Rattle.stream_base.specs.Kinds.{IsKindWithin, is_timed}
 use Rattle.stream_base.specs.declared.kept.Kept.{Kept}
 use Rattle.stream_base.specs.declared.kind.Kind.{Kind}
 use Rattle.stream_base.specs.declared.kind.Kind.TheVariants.{Tumbling, Sliding, Session, Marks, Events}
@@ -30,7 +31,7 @@ use Rattle.stream_base.specs.Model.Journal.{put_in_order, keys_of, kept_of, mark
 use Rattle.stream_base.specs.Model.Watermark.{water_of}
 use Rattle.stream_base.specs.Model.What.{is_late, is_progress, key_in, mark_in, tuple_in}
 use Rattle.stream_base.specs.Model.Changes.{moment_of, standing_at, changes_between, changes_of_key, changes_after}
-use Rattle.stream_base.specs.Laws.{RiseByStart, AreInOrder, by_place, IsCausedBy, completions, completions_after, is_timed}
+use Rattle.stream_base.specs.Laws.{RiseByStart, AreInOrder, by_place, IsCausedBy, completions, completions_after}
 use Rattle.stream_base.proofs.Rising.{none_in_nil, Contains-cons_cases, below_tail, not_below_itself, Contains-head, key_rising_is_sorted, sorted_cons, sorted_nil}
 use Rattle.stream_base.proofs.Growing.{kept_of_tuple, kept_of_other, marks_of_other, keys_of_push, kept_of_late, marks_of_late}
 use Rattle.model_laws.proofs.WatermarkFacts.{water_of_same, water_rises}

@@ -10,9 +10,8 @@ use Rattle.std.proofs.lemmas.Map.Lookups.{exact_unsigned}
 use Rattle.stream_base.specs.declared.def.Def.{Def}
 use Rattle.stream_base.specs.declared.kind.Kind.{Kind}
 use Rattle.stream_base.specs.declared.kind.Kind.TheVariants.{Tumbling, Sliding, Session, Marks, Events}
-use Rattle.stream_base.specs.Limits.{IsKindWithin}
-use Rattle.stream_base.specs.Model.Cuts.{CutsBetween, HasBound, HasCut, cuts_between, has_cut}
-use Rattle.stream_base.specs.Laws.{is_session}
+use Rattle.stream_base.specs.Kinds.{CutsBetween, HasBound, IsKindWithin, cuts_between, is_session}
+use Rattle.stream_base.specs.Model.Cuts.{HasCut, has_cut}
 use Rattle.stream_base.proofs.CutFacts.{cut_decides}
 
 -- ---- times that move apart

@@ -11,7 +11,7 @@ use Rattle.stream_base.specs.declared.limits.TheConstants.{FINAL}
 use Rattle.stream_base.specs.declared.kept.Kept.{Kept}
 use Rattle.stream_base.specs.declared.kind.Kind.{Kind}
 use Rattle.stream_base.specs.declared.kind.Kind.TheVariants.{Tumbling, Sliding, Session, Marks, Events}
-use Rattle.stream_base.specs.Limits.{IsKindWithin}
+use Rattle.stream_base.specs.Kinds.{IsKindWithin}
 use Rattle.stream_base.specs.Model.Journal.{rising}
 use Rattle.stream_base.specs.Model.Windows.{Instance, is_within, within, interval, starts_of, spans, pieces_of, session, sessions, is_selecting, between_times, stretches, ranks, counted, instances_of, is_complete, standing_of}
 use Rattle.stream_base.proofs.Members.{range_members, map_members, filter_members, filter_has}

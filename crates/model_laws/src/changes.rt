@@ -1,7 +1,8 @@
 //! Laws of the changes that an entry causes.
 ghost use Rattle.std.specs.List.{Contains};
 ghost use Rattle.std.specs.Prelude.{◌≡◌, ◌≤◌, ◌<◌, ◌↔◌, ◌++◌, ℕ, true, false, List, [], ◌∷◌, length, Some, All};
-ghost use Rattle.stream_base.specs.Laws.{IsCausedBy, AreInOrder, completions_after, is_timed};
+ghost use Rattle.stream_base.specs.Laws.{IsCausedBy, AreInOrder, completions_after};
+ghost use Rattle.stream_base.specs.Kinds.{is_timed};
 ghost use Rattle.stream_base.specs.Limits.{Definitions, AreWithinLimits};
 ghost use Rattle.stream_base.specs.Model.Changes.{changes_of_key, changes_after, changes_at};
 ghost use Rattle.stream_base.specs.Model.Watermark.{water_of};

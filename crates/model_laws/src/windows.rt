@@ -3,7 +3,7 @@ ghost use Rattle.std.specs.List.{Contains, find, flat_map};
 ghost use Rattle.std.specs.List.Sorted.{IsStrictlyIncreasing};
 ghost use Rattle.std.specs.Prelude.{◌≡◌, ◌≤◌, ◌<◌, ◌-◌, ◌↔◌, ◌⊎◌, ◌++◌, ℕ, List, [], ◌∷◌, length, Some, All};
 ghost use Rattle.stream_base.specs.Laws.{RiseByStart, TimesDoNotFall, HoldsTime, HoldsKept, selections_of};
-ghost use Rattle.stream_base.specs.Limits.{IsKindWithin};
+ghost use Rattle.stream_base.specs.Kinds.{IsKindWithin};
 ghost use Rattle.stream_base.specs.Model.Changes.{is_same};
 ghost use Rattle.stream_base.specs.Model.Journal.{put_in_order};
 ghost use Rattle.stream_base.specs.Model.Windows.{Instance, within, starts_of, sessions, instances_of};

@@ -1,7 +1,6 @@
 -- The answer to a command, by what became of its files.
 use Rattle.std.proofs.Common.{◌≡◌, ◌⊎◌, ℕ, List, sym, subst, refl, inl, inr}
-use Rattle.window_defs.specs.declared.defs_fault.DefsFault.TheVariants.{Long, Toml, Shape, Limit, Many}
-use Rattle.window_defs.specs.declared.defs_fault.DefsFault.TheVariants.{NoMemory as NoRoom}
+use Rattle.window_defs.specs.declared.defs_fault.DefsFault.TheVariants.{Long, Toml, Shape, Limit, Many, NoMemory as NoRoom}
 use Rattle.emission_text.specs.Sending.{Appends, Fails}
 use Rattle.emission_text.specs.declared.fault.Fault.TheVariants.{Usage, Defs, Unopened, Row, Read, FullSource, FullShard, ReportOpen, ReportRead, ReportFull, NoMemory}
 use Rattle.run_inputs.specs.declared.status.Status.{Status}

@@ -19,7 +19,7 @@ use Rattle.stream_base.specs.declared.kind.Kind.{Kind}
 use Rattle.stream_base.specs.declared.kind.Kind.TheVariants.{Tumbling, Sliding, Session, Marks, Events}
 use Rattle.stream_base.specs.declared.limits.TheConstants.{FINAL}
 use Rattle.stream_base.specs.Laws.{TimesDoNotFall}
-use Rattle.stream_base.specs.Limits.{IsKindWithin}
+use Rattle.stream_base.specs.Kinds.{IsKindWithin}
 use Rattle.stream_base.specs.Model.Journal.{put_in_order, rising}
 use Rattle.stream_base.specs.Model.Windows.{Instance, between_times, counted, glued, instances_of, interval, is_complete, is_selecting, last_time, pieces_of, ranks, session, sessions, standing_of}
 use Rattle.stream_base.proofs.Members.{flat_map_has, map_members, map_same, range_members}

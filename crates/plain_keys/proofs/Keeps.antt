@@ -12,7 +12,8 @@ use Rattle.stream_base.specs.declared.def.Def.{Def}
 use Rattle.stream_base.specs.declared.kept.Kept.{Kept}
 use Rattle.stream_base.specs.declared.limits.TheConstants.{FINAL, JOURNAL_MAX, TIME_MAX}
 use Rattle.stream_base.specs.Laws.{completions}
-use Rattle.stream_base.specs.Limits.{AreWithinLimits, Definitions, IsKindWithin}
+use Rattle.stream_base.specs.Limits.{AreWithinLimits, Definitions}
+use Rattle.stream_base.specs.Kinds.{IsKindWithin}
 use Rattle.stream_base.specs.Model.Journal.{put_in_order}
 use Rattle.stream_base.proofs.ChangeFacts.{changes_at_water, no_changes, standing_at_rises}
 use Rattle.stream_base.proofs.EventOrder.{All_put, event_order_total, put_in_event_order, put_in_order_cons, times_do_not_fall}

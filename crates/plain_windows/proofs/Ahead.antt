@@ -1,8 +1,7 @@
 -- The least bound above the watermark is that of the first instance there.
 use Rattle.std.proofs.Common.{◌≡◌, ◌∙◌, ◌≤◌, ◌<◌, ◌+◌, ◌++◌, ℕ, Bool, true, false, cond, List, [], ◌∷◌, length, get_or, drop, map, ap, sym, refl, subst, inl, inr, ⊎_elim, arith, None, Some}
-use Rattle.std.specs.Prelude.{Option}
+use Rattle.std.specs.Prelude.{Option, ◌≢◌, ◌⊎◌, ◌&&◌, min, nat_le, nat_lt}
 use Rattle.std.specs.Option.{option_map}
-use Rattle.std.specs.Prelude.{◌≢◌, ◌⊎◌, ◌&&◌, min, nat_le, nat_lt}
 use Rattle.std.specs.List.{Contains, enumerate_from, filter, find, flat_map, fold}
 use Rattle.std.proofs.lemmas.Bool.{cases_lt, le-leb, lt-ltb, ltb-true}
 use Rattle.std.proofs.lemmas.Bool.Decides.{nat_tests}

@@ -8,7 +8,7 @@ use Rattle.std.proofs.lemmas.Map.Keys.{Less-from_sorted}
 use Rattle.stream_base.specs.declared.kept.Kept.{Kept}
 use Rattle.stream_base.specs.declared.kind.Kind.{Kind}
 use Rattle.stream_base.specs.declared.kind.Kind.TheVariants.{Tumbling, Sliding, Session, Marks, Events}
-use Rattle.stream_base.specs.Limits.{IsKindWithin}
+use Rattle.stream_base.specs.Kinds.{IsKindWithin}
 use Rattle.stream_base.specs.Laws.{by_start, RiseByStart, TimesDoNotFall}
 use Rattle.stream_base.specs.Model.Windows.{Instance, glued, last_time, ranks, session, sessions, spans, stretches, counted, instances_of}
 use Rattle.stream_base.proofs.Distinct.{instances_rise, lt_from_less}

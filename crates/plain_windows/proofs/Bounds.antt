@@ -13,7 +13,7 @@ use Rattle.stream_base.specs.declared.limits.TheConstants.{FINAL, TIME_MAX}
 use Rattle.stream_base.specs.declared.kept.Kept.{Kept}
 use Rattle.stream_base.specs.declared.kind.Kind.{Kind}
 use Rattle.stream_base.specs.declared.kind.Kind.TheVariants.{Tumbling, Sliding, Session, Marks, Events}
-use Rattle.stream_base.specs.Limits.{IsKindWithin}
+use Rattle.stream_base.specs.Kinds.{IsKindWithin}
 use Rattle.stream_base.specs.Laws.{by_start, RiseByStart, TimesDoNotFall}
 use Rattle.stream_base.specs.Model.Journal.{rising}
 use Rattle.stream_base.specs.Model.Windows.{Instance, is_within, within, interval, starts_of, spans, pieces_of, first_time, last_time, session, sessions, is_selecting, between_times, ranks, counted, instances_of}

@@ -5,11 +5,10 @@ use Rattle.std.specs.List.{All, Contains, find, range_with_len}
 use Rattle.std.proofs.lemmas.Bool.{ltb-true, ltb-false, le-leb, lt-ltb, le-ltb, lt-leb}
 use Rattle.std.proofs.lemmas.Nat.{div-add-mod'}
 use Rattle.stream_base.specs.declared.kept.Kept.{Kept}
-use Rattle.stream_base.specs.Model.Windows.{Instance, last_time, ranks, counted}
+use Rattle.stream_base.specs.Model.Windows.{Instance, last_time, ranks, counted, instances_of}
 use Rattle.stream_base.specs.declared.kind.Kind.TheVariants.{Events}
-use Rattle.stream_base.specs.Limits.{IsKindWithin}
+use Rattle.stream_base.specs.Kinds.{IsKindWithin}
 use Rattle.stream_base.specs.Laws.{RiseByStart, TimesDoNotFall}
-use Rattle.stream_base.specs.Model.Windows.{instances_of}
 use Rattle.stream_base.proofs.Distinct.{instances_rise}
 use Rattle.plain_windows.specs.Places.{IsPlaceOf}
 use Rattle.plain_windows.proofs.Found.{find_first, find_none}

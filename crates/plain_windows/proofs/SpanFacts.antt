@@ -8,7 +8,7 @@ use Rattle.std.proofs.lemmas.List.Elements.{All-contains, Contains-get_or}
 use Rattle.std.proofs.lemmas.Nat.{div_below}
 use Rattle.stream_base.specs.declared.kept.Kept.{Kept}
 use Rattle.stream_base.specs.declared.kind.Kind.TheVariants.{Sliding}
-use Rattle.stream_base.specs.Limits.{IsKindWithin}
+use Rattle.stream_base.specs.Kinds.{IsKindWithin}
 use Rattle.stream_base.specs.Laws.{RiseByStart, TimesDoNotFall}
 use Rattle.stream_base.specs.Model.Journal.{put_in_order}
 use Rattle.stream_base.specs.Model.Windows.{Instance, interval, starts_of, spans, instances_of}

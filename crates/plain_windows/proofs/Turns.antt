@@ -12,9 +12,10 @@ use Rattle.stream_base.specs.declared.def.Def.{Def}
 use Rattle.stream_base.specs.declared.kept.Kept.{Kept}
 use Rattle.stream_base.specs.declared.limits.TheConstants.{FINAL, TIME_MAX}
 use Rattle.stream_base.specs.Laws.{by_start, RiseByStart}
-use Rattle.stream_base.specs.Limits.{Definitions, IsKindWithin}
+use Rattle.stream_base.specs.Limits.{Definitions}
+use Rattle.stream_base.specs.Kinds.{IsKindWithin, is_events}
 use Rattle.stream_base.specs.Model.Changes.{Moment}
-use Rattle.stream_base.specs.Model.Slices.{is_events, is_settled, is_settled_in, unsettled}
+use Rattle.stream_base.specs.Model.Slices.{is_settled, is_settled_in, unsettled}
 use Rattle.stream_base.specs.Model.Windows.{Instance, instances_of, is_within, within}
 use Rattle.stream_base.proofs.Distinct.{by_start_total, instances_rise, lt_from_less}
 use Rattle.stream_base.proofs.EventOrder.{times_do_not_fall}

@@ -7,7 +7,7 @@ use Rattle.std.proofs.lemmas.Bool.Decides.{nat_tests}
 use Rattle.stream_base.specs.declared.kept.Kept.{Kept}
 use Rattle.stream_base.specs.declared.kind.Kind.{Kind}
 use Rattle.stream_base.specs.declared.limits.TheConstants.{TIME_MAX}
-use Rattle.stream_base.specs.Limits.{IsKindWithin}
+use Rattle.stream_base.specs.Kinds.{IsKindWithin}
 use Rattle.stream_base.specs.Laws.{becomes_complete}
 use Rattle.stream_base.specs.Model.Windows.{Instance, instances_of, is_complete}
 use Rattle.stream_base.proofs.Members.{filter_same}

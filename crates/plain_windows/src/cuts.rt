@@ -2,7 +2,8 @@
 ghost use Rattle.std.specs.Prelude.{◌≡◌, ◌≤◌, ◌&&◌, nat_le, nat_lt};
 ghost use Rattle.std.specs.List.{list_any};
 ghost use Rattle.stream_base.specs.declared.limits.TheConstants.{TIME_MAX};
-ghost use Rattle.stream_base.specs.Model.Cuts.{bounds_up_to, cuts_between, has_bound, has_cut};
+ghost use Rattle.stream_base.specs.Model.Cuts.{has_cut};
+ghost use Rattle.stream_base.specs.Kinds.{bounds_up_to, cuts_between, has_bound};
 
 use crate::kinds::cuts_between;
 use crate::places::marks_before;

@@ -3,8 +3,7 @@
 ghost use Rattle.std.specs.Prelude.{◌≡◌, IfSome, nat_le, nat_lt};
 ghost use Rattle.std.specs.List.{find};
 ghost use Rattle.std.specs.Option.{option_map};
-ghost use Rattle.stream_base.specs.Model.Cuts.{cuts_between};
-ghost use Rattle.stream_base.specs.Model.Slices.{is_events};
+ghost use Rattle.stream_base.specs.Kinds.{cuts_between, is_events};
 ghost use Rattle.stream_base.specs.Model.Windows.{instances_of};
 ghost use Rattle.plain_windows.specs.Changing.{BringsBound, BringsNoneBelow, KeepsBounds};
 ghost use Rattle.plain_windows.specs.Extents.{Tells};

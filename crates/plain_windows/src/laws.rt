@@ -4,7 +4,7 @@ ghost use Rattle.std.specs.List.Sorted.{IsNonDecreasingBy};
 ghost use Rattle.stream_base.specs.declared.kept.Kept.{Kept};
 ghost use Rattle.stream_base.specs.declared.kind.Kind.{Kind};
 ghost use Rattle.stream_base.specs.Laws.{TimesDoNotFall};
-ghost use Rattle.stream_base.specs.Limits.{IsKindWithin};
+ghost use Rattle.stream_base.specs.Kinds.{IsKindWithin};
 ghost use Rattle.stream_base.specs.Model.Windows.{instances_of};
 
 /// The bounds of a window's instances don't fall as their starts rise, so that those which are

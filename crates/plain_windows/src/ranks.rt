@@ -3,7 +3,7 @@ ghost use Rattle.std.specs.Prelude.{◌≡◌, ◌≤◌, ◌<◌, ◌/◌, [], 
 ghost use Rattle.std.specs.List.{find};
 ghost use Rattle.std.specs.Option.{option_map};
 ghost use Rattle.stream_base.specs.declared.kind.Kind.TheVariants.{Events};
-ghost use Rattle.stream_base.specs.Limits.{IsKindWithin};
+ghost use Rattle.stream_base.specs.Kinds.{IsKindWithin};
 ghost use Rattle.stream_base.specs.Model.Windows.{counted, ranks};
 ghost use Rattle.plain_windows.specs.Extents.{IsExtentIn, Tells, instance_in};
 

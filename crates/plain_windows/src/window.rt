@@ -1,6 +1,6 @@
 ghost use Rattle.std.specs.Prelude.{All, ◌≡◌, ◌≤◌, length};
 ghost use Rattle.stream_base.specs.declared.limits.TheConstants.{WINDOWS_MAX};
-ghost use Rattle.stream_base.specs.Limits.{IsKindWithin};
+ghost use Rattle.stream_base.specs.Kinds.{IsKindWithin};
 
 use std::marker::Model;
 use stream_base::{Def, Defs, Func};
@@ -13,7 +13,7 @@ pub struct Window<'a> {
 
 impl<'a> Model for Window<'a> {
     ghost use Rattle.stream_base.specs.declared.def.Def.{Def};
-    ghost use Rattle.stream_base.specs.Limits.{IsKindWithin};
+    ghost use Rattle.stream_base.specs.Kinds.{IsKindWithin};
 
     ghost Value = { Def };
 

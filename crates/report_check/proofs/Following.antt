@@ -1,5 +1,5 @@
 -- What is known of a key after one entry more, and what that changes.
-use Rattle.std.proofs.Common.{◌≡◌, ◌∙◌, ℕ, ℤ, ◌+◌, ◌<◌, ◌≤◌, Bool, true, false, List, [], ◌∷◌, ◌++◌, length, length-set, get_or, set, drop, append_assoc, Option, None, Some, ap, sym, refl, subst, arith, append-nil, Ordering, cond}
+use Rattle.std.proofs.Common.{◌≡◌, ◌∙◌, ℕ, ℤ, ◌+◌, ◌<◌, ◌≤◌, Bool, true, false, List, [], ◌∷◌, ◌++◌, length, length-set, get_or, set, drop, append_assoc, Option, None, Some, ap, sym, refl, subst, arith, append-nil, Ordering, cond, ⊎_elim}
 use Rattle.std.specs.BTreeSet.{insert_key}
 use Rattle.std.specs.Cmp.Lexicographic.{slice_cmp}
 use Rattle.std.specs.List.{All, AllWithin, Contains, filter_map, flat_map}
@@ -8,7 +8,6 @@ use Rattle.std.specs.Ordering.{match_ordering, nat_cmp}
 use Rattle.std.specs.Option.{option_map_or}
 use Rattle.std.specs.declared.cmp.Ordering.TheVariants.{Less, Equal, Greater}
 use Rattle.std.specs.Prelude.{◌^◌, ◌&&◌, nat_le, nat_lt}
-use Rattle.std.proofs.Common.{⊎_elim}
 use Rattle.std.proofs.lemmas.List.{drop_more, get_or-map, get_or_push, get_or-set_other, length-map, length_push, map-set, set-get_or, take_at}
 use Rattle.std.proofs.lemmas.List.Elements.{All-take, All-nil, All-cons, All-head, All-tail, All-weaker, AllWithin-more_set}
 use Rattle.std.proofs.lemmas.Cmp.{nat_list_cmp_total}
@@ -23,13 +22,12 @@ use Rattle.std.specs.Str.{bytes_eq}
 use Rattle.stream_base.specs.Laws.{accepted_tuple}
 use Rattle.stream_base.specs.Limits.{Definitions, is_value}
 use Rattle.stream_base.specs.Model.Changes.{Moment, changes_between, moment_of}
-use Rattle.stream_base.specs.Model.Journals.{is_entry_within}
+use Rattle.stream_base.specs.Model.Journals.{is_entry_within, AreEntriesWithin}
 use Rattle.stream_base.specs.Model.Journal.{keys_of, kept_of, marks_of, on_time, put_in_order}
 use Rattle.stream_base.specs.Model.Watermark.{least_water, water_of}
 use Rattle.stream_base.specs.Model.What.{is_late, is_progress, is_what_within, key_in, mark_in, tuple_in}
 use Rattle.stream_base.specs.Key.{is_key}
 use Rattle.stream_base.specs.declared.limits.TheConstants.{FINAL, TIME_MAX}
-use Rattle.stream_base.specs.Model.Journals.{AreEntriesWithin}
 use Rattle.model_laws.proofs.Absent.{key_comes, keys_stay, nothing_kept}
 use Rattle.model_laws.proofs.Accepted.{kept_times_within, marks_within}
 use Rattle.stream_base.proofs.ChangeFacts.{changes_at_water, no_changes_at_rest}

@@ -1,7 +1,6 @@
 -- The lines of a journal, entry by entry, and of shards, one by one.
-use Rattle.std.proofs.Common.{◌≡◌, ◌∙◌, ℕ, ◌+◌, ◌<◌, List, [], ◌∷◌, ◌++◌, length, get_or, take, drop, ap, sym, append_assoc}
+use Rattle.std.proofs.Common.{◌≡◌, ◌∙◌, ℕ, ◌+◌, ◌<◌, List, [], ◌∷◌, ◌++◌, length, get_or, take, drop, ap, sym, append_assoc, subst}
 use Rattle.std.specs.Prelude.{codes, decimal}
-use Rattle.std.proofs.Common.{subst}
 use Rattle.std.proofs.lemmas.List.{at_drop_more, take_more}
 use Rattle.stream_base.specs.declared.entry.Entry.{Entry}
 use Rattle.stream_base.specs.Limits.{Definitions}

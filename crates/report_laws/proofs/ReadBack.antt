@@ -9,8 +9,7 @@ use Rattle.std.specs.Prelude.{◌&&◌, Option, None, Some, codes}
 use Rattle.stream_base.specs.Limits.{Definitions}
 use Rattle.stream_base.specs.declared.entry.Entry.{Entry}
 use Rattle.stream_base.specs.Model.Text.{entry_line, journal_lines, shard_lines, text_of, changes_under, Form, report_of}
-use Rattle.stream_base.specs.Model.Journals.{lines_of, is_entry_within, with_entry, guessed_entry, entry_in, is_header, after_line, journals_of}
-use Rattle.stream_base.specs.Model.Journals.{AreEntriesWithin}
+use Rattle.stream_base.specs.Model.Journals.{lines_of, is_entry_within, with_entry, guessed_entry, entry_in, is_header, after_line, journals_of, AreEntriesWithin}
 use Rattle.report_laws.specs.ReadBack.{AreWithin, is_other_line, AreOtherLines, AreOtherLinesUnder, IsToldFromJournals}
 use Rattle.report_laws.proofs.ReadBackLines.{Lacks, lines_of-line, lines_of-append}
 use Rattle.report_laws.proofs.ReadBackChanges.{changes_under-others}

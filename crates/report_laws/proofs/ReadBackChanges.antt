@@ -29,9 +29,8 @@ use Rattle.stream_base.specs.Model.Watermark.{water_of}
 use Rattle.stream_base.specs.Model.What.{is_late, key_in, is_what_within}
 use Rattle.stream_base.specs.Model.Windows.{Instance}
 use Rattle.stream_base.specs.Model.Changes.{Moment, retraction, emitted, emission, retractions, emissions, standing_at, changes_between, changes_of_key, changes_after, moment_of, is_same, are_same_tuples, row_of, former_of}
-use Rattle.stream_base.specs.Model.Journals.{lines_of, is_entry_within}
+use Rattle.stream_base.specs.Model.Journals.{lines_of, is_entry_within, AreEntriesWithin}
 use Rattle.stream_base.specs.Key.{is_key}
-use Rattle.stream_base.specs.Model.Journals.{AreEntriesWithin}
 use Rattle.report_laws.specs.ReadBack.{is_other_line, is_change_within, AreOtherLines, AreOtherLinesUnder, IsToldFromJournals}
 use Rattle.report_laws.proofs.ReadBackLines.{Lacks, Lacks-append, lines_of-line, lines_of-append, is_whole-append, is_whole-line}
 use Rattle.report_laws.proofs.ReadBackWords.{Lacks-decimal, Lacks-signed_decimal}

@@ -1,9 +1,8 @@
 //! A report holds its journals: they are read back from its text.
 ghost use Rattle.std.specs.Prelude.{◌≡◌, ◌<◌, ◌^◌, ◌↔◌, ◌++◌, ℕ, true, List, [], ◌∷◌, Some, All, codes, decimal};
 ghost use Rattle.stream_base.specs.Limits.{Definitions};
-ghost use Rattle.stream_base.specs.Model.Journals.{is_entry_within, entry_in, is_header, journals_of};
+ghost use Rattle.stream_base.specs.Model.Journals.{is_entry_within, entry_in, is_header, journals_of, AreEntriesWithin};
 ghost use Rattle.stream_base.specs.Model.Text.{line_of, entry_line, Form, report_1, report_2, change_lines, text_of, changes_under, report_of};
-ghost use Rattle.stream_base.specs.Model.Journals.{AreEntriesWithin};
 ghost use Rattle.report_laws.specs.ReadBack.{AreWithin, AreOtherLines, AreOtherLinesUnder, is_change_within, IsToldFromJournals};
 ghost use Rattle.stream_base.specs.declared.change.Change.{Change};
 ghost use Rattle.stream_base.specs.declared.entry.Entry.{Entry};

@@ -11,7 +11,8 @@ use Rattle.std.proofs.lemmas.List.Elements.{All-contains, All-head, All-nil, All
 use Rattle.std.proofs.lemmas.List.Sorted.{IsPermutation-insert, length_permutation}
 use Rattle.std.proofs.lemmas.Option.{get_or_from_slice_get, slice_get_within}
 use Rattle.std.proofs.Math.Nat.{div-mul-le_self, mul-le-mul_right}
-use Rattle.stream_base.specs.Limits.{AreWithinLimits, Definitions, IsKindWithin, is_value}
+use Rattle.stream_base.specs.Limits.{AreWithinLimits, Definitions, is_value}
+use Rattle.stream_base.specs.Kinds.{IsKindWithin}
 use Rattle.stream_base.specs.declared.change.Change.{Change}
 use Rattle.stream_base.specs.declared.change.Change.TheVariants.{Gone, New, Again, Dropped}
 use Rattle.stream_base.specs.declared.def.Def.{Def}

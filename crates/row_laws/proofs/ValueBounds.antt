@@ -10,7 +10,6 @@ use Rattle.stream_base.specs.declared.func.Func.TheVariants.{Count, Sum, Min, Ma
 use Rattle.stream_base.specs.declared.shown.Shown.{Shown}
 use Rattle.stream_base.specs.declared.shown.Shown.TheVariants.{Whole, Ratio}
 use Rattle.stream_base.specs.Model.Functions.{Aggregate, averaging, count_sum, counting, earliest, fold_of, greatest, latest, least, rising, shown_of, show_value, summing, tracing}
-use Rattle.stream_base.specs.declared.shown.Shown.TheVariants.{Whole, Ratio}
 use Rattle.row_laws.specs.Fitting.{is_shown_fit, is_wide}
 
 abbrev pub IsWide : ℤ → Type 0

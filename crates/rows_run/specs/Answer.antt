@@ -2,8 +2,7 @@
 -- `taken` says which bytes the sink took so far, and `faults` how many writes failed.
 use Rattle.std.specs.Prelude.{◌≡◌, ◌<◌, ◌++◌, ◌⊎◌, ℕ, true, List}
 use Rattle.outside.specs.Outside.{Came, Reads, back, refused}
-use Rattle.row_laws.specs.Told.{ToldShard, read_text, tells}
-use Rattle.row_laws.specs.Told.{refused as refuses}
+use Rattle.row_laws.specs.Told.{ToldShard, read_text, tells, refused as refuses}
 use Rattle.row_text.specs.Lines.{rows_text}
 use Rattle.rows_run.specs.Sending.{Appends, Fails}
 use Rattle.rows_run.specs.Statuses.{fault_line, status_of}

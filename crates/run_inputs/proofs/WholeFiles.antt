@@ -12,8 +12,7 @@ use Rattle.source_feed.specs.declared.whole_fault.WholeFault.TheVariants.{Read a
 use Rattle.window_defs.specs.Reading.{reading_of}
 use Rattle.window_defs.specs.declared.read.TheConstants.{BYTES_MAX}
 use Rattle.window_defs.specs.declared.defs_fault.DefsFault.{DefsFault}
-use Rattle.window_defs.specs.declared.defs_fault.DefsFault.TheVariants.{Long, Toml, Shape, Limit, Many}
-use Rattle.window_defs.specs.declared.defs_fault.DefsFault.TheVariants.{NoMemory as NoRoom}
+use Rattle.window_defs.specs.declared.defs_fault.DefsFault.TheVariants.{Long, Toml, Shape, Limit, Many, NoMemory as NoRoom}
 use Rattle.emission_text.specs.declared.fault.Fault.{Fault}
 use Rattle.run_inputs.specs.Causes.{AreDefinitionsRead, AreRefused, StopsAtBytes, StopsAtDefs, StopsAtReading}
 use Rattle.run_inputs.specs.Judging.{IsReportRead, StopsAtReport, report_fault}

@@ -17,8 +17,7 @@ use Rattle.source_feed.specs.declared.whole.TheConstants.{SOURCE_MAX}
 use Rattle.window_defs.specs.Reading.{reading_of}
 use Rattle.window_defs.specs.declared.read.TheConstants.{BYTES_MAX}
 use Rattle.window_defs.specs.declared.defs_fault.DefsFault.{DefsFault}
-use Rattle.window_defs.specs.declared.defs_fault.DefsFault.TheVariants.{Long}
-use Rattle.window_defs.specs.declared.defs_fault.DefsFault.TheVariants.{NoMemory as NoRoom}
+use Rattle.window_defs.specs.declared.defs_fault.DefsFault.TheVariants.{Long, NoMemory as NoRoom}
 use Rattle.emission_text.specs.Report.{AreAlike}
 use Rattle.emission_text.specs.declared.fault.Fault.{Fault}
 use Rattle.emission_text.specs.declared.fault.Fault.TheVariants.{Usage, Defs, Unopened, Row, Read, FullSource, FullShard, ReportOpen, ReportRead, ReportFull, NoMemory}

@@ -1,8 +1,7 @@
 -- The statuses of a run.
 use Rattle.std.specs.Prelude.{ℕ}
 use Rattle.window_defs.specs.declared.defs_fault.DefsFault.{DefsFault}
-use Rattle.window_defs.specs.declared.defs_fault.DefsFault.TheVariants.{Long, Toml, Shape, Limit, Many}
-use Rattle.window_defs.specs.declared.defs_fault.DefsFault.TheVariants.{NoMemory as NoRoom}
+use Rattle.window_defs.specs.declared.defs_fault.DefsFault.TheVariants.{Long, Toml, Shape, Limit, Many, NoMemory as NoRoom}
 use Rattle.emission_text.specs.declared.fault.Fault.{Fault}
 use Rattle.emission_text.specs.declared.fault.Fault.TheVariants as fault
 use Rattle.report_check.specs.declared.finding.Finding.{Finding}

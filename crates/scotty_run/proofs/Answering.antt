@@ -2,11 +2,10 @@
 use Rattle.std.proofs.Common.{◌≡◌, ◌∙◌, ◌<◌, ◌≤◌, ℕ, List, [], ◌∷◌, All, length, map, get_or, ap, sym, subst, arith}
 use Rattle.std.proofs.lemmas.List.{get_or-map, length-map, get_or_default}
 use Rattle.std.proofs.lemmas.List.Elements.{All-map}
-use Rattle.stream_base.specs.Model.Journals.{AreEntriesWithin}
+use Rattle.stream_base.specs.Model.Journals.{AreEntriesWithin, journals_of}
 use Rattle.report_laws.specs.ReadBack.{AreWithin, IsToldFromJournals}
 use Rattle.stream_base.specs.declared.entry.Entry.{Entry}
 use Rattle.stream_base.specs.declared.limits.TheConstants.{JOURNAL_MAX}
-use Rattle.stream_base.specs.Model.Journals.{journals_of}
 use Rattle.stream_base.specs.Model.Routes.{IsLawful, entries_from, routed}
 use Rattle.stream_base.specs.Model.Text.{report_of}
 use Rattle.report_laws.proofs.ReadBack.{journals_of-report_of}

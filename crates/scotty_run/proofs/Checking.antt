@@ -1,8 +1,7 @@
 -- The answer to a check, by what became of its files.
 use Rattle.std.proofs.Common.{◌≡◌, ◌⊎◌, ℕ, List, [], ◌∷◌, sym, subst, refl, inl, inr}
 use Rattle.stream_base.specs.Limits.{Definitions}
-use Rattle.window_defs.specs.declared.defs_fault.DefsFault.TheVariants.{Long, Toml, Shape, Limit, Many}
-use Rattle.window_defs.specs.declared.defs_fault.DefsFault.TheVariants.{NoMemory as NoRoom}
+use Rattle.window_defs.specs.declared.defs_fault.DefsFault.TheVariants.{Long, Toml, Shape, Limit, Many, NoMemory as NoRoom}
 use Rattle.report_check.specs.declared.finding.Finding.{Finding}
 use Rattle.report_check.specs.declared.finding.Finding.TheVariants as found
 use Rattle.emission_text.specs.Findings.{finding_line}

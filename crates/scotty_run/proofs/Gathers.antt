@@ -10,8 +10,7 @@ use Rattle.source_feed.specs.declared.feed_fault.FeedFault.{FeedFault}
 use Rattle.source_feed.specs.declared.feed_fault.FeedFault.TheVariants.{Read as FeedRead, TooLong as FeedTooLong, Row as FeedRow, NoMemory as FeedMemory}
 use Rattle.emission_text.specs.declared.fault.Fault.{Fault}
 use Rattle.fan_in.specs.declared.outcome.Outcome.{Outcome}
-use Rattle.fan_in.specs.declared.outcome.Outcome.TheVariants.{Done, Full}
-use Rattle.fan_in.specs.declared.outcome.Outcome.TheVariants.{Fault as Failed}
+use Rattle.fan_in.specs.declared.outcome.Outcome.TheVariants.{Done, Full, Fault as Failed}
 use Rattle.fan_in.specs.Gathering.{HoldsFirst, IsFault, IsGathered, NamesOneOf}
 use Rattle.run_inputs.specs.Causes.{AreAllRead, AreShardsOf, IsOverfull, IsSourceRead, StopsAtSources, count_routed}
 use Rattle.run_inputs.specs.Outside.{Asks, Opens}

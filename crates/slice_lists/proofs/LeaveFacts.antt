@@ -12,15 +12,16 @@ use Rattle.std.proofs.lemmas.List.Folds.{list_any_at, list_any_none}
 use Rattle.stream_base.specs.declared.def.Def.{Def}
 use Rattle.stream_base.specs.declared.kept.Kept.{Kept}
 use Rattle.stream_base.specs.declared.limits.TheConstants.{TIME_MAX}
-use Rattle.stream_base.specs.Model.Cuts.{cuts_between, has_cut}
+use Rattle.stream_base.specs.Model.Cuts.{has_cut}
+use Rattle.stream_base.specs.Kinds.{cuts_between}
 use Rattle.stream_base.specs.Model.Slices.{runs_of}
 use Rattle.stream_base.specs.Model.Windows.{first_time, last_time}
 use Rattle.stream_base.proofs.Distinct.{All_from_members}
 use Rattle.stream_base.proofs.Members.{filter_map_of, filter_members}
-use Rattle.run_laws.specs.Runs.{AreInOrder, AreRuns, IsAligned, IsPartFrom, IsRun}
+use Rattle.slice_lists.specs.Runs.{AreInOrder, AreRuns, IsAligned, IsPartFrom, IsRun}
 use Rattle.stream_base.proofs.Filters.{filter_all, filter_none}
-use Rattle.run_laws.proofs.Order.{All-split}
-use Rattle.run_laws.proofs.RunEdits.{parted}
+use Rattle.slice_lists.proofs.Order.{All-split}
+use Rattle.slice_lists.proofs.RunEdits.{parted}
 use Rattle.slice_lists.specs.declared.slice.Slice.{Slice}
 use Rattle.slice_lists.specs.Touched.{marks_left, slices_from}
 use Rattle.slice_lists.specs.Places.{IsPlaceOf}

@@ -1,3 +1,8 @@
+pub mod RunFacts
+pub mod RunEdits
+pub mod RunSlices
+pub mod Order
+pub mod MarkRuns
 pub mod CutFacts
 pub mod PlaceFacts
 pub mod SliceOrder

@@ -10,13 +10,13 @@ use Rattle.stream_base.specs.declared.def.Def.{Def}
 use Rattle.stream_base.specs.declared.kept.Kept.{Kept}
 use Rattle.stream_base.specs.declared.kind.Kind.{Kind}
 use Rattle.stream_base.specs.declared.kind.Kind.TheVariants.{Tumbling, Sliding, Session, Marks, Events}
-use Rattle.stream_base.specs.Limits.{IsKindWithin}
-use Rattle.stream_base.specs.Model.Cuts.{has_cut, cuts_between}
+use Rattle.stream_base.specs.Kinds.{IsKindWithin, cuts_between}
+use Rattle.stream_base.specs.Model.Cuts.{has_cut}
 use Rattle.stream_base.specs.Model.Windows.{first_time, last_time}
-use Rattle.run_laws.specs.Runs.{AreInOrder, AreParted, ArePartFrom, AreRuns, IsPartFrom}
-use Rattle.run_laws.proofs.MarkRuns.{earlier_cut, later_cut}
+use Rattle.slice_lists.specs.Runs.{AreInOrder, AreParted, ArePartFrom, AreRuns, IsPartFrom}
+use Rattle.slice_lists.proofs.MarkRuns.{earlier_cut, later_cut}
 use Rattle.stream_base.proofs.Filters.{filter_all, filter_none}
-use Rattle.run_laws.proofs.RunEdits.{added, entered, extended, fronted, merged}
+use Rattle.slice_lists.proofs.RunEdits.{added, entered, extended, fronted, merged}
 use Rattle.slice_lists.specs.Touched.{is_near}
 use Rattle.slice_lists.specs.Places.{IsPlaceOf}
 use Rattle.slice_lists.specs.Sides.{IsApartBefore, IsApartBehind, IsFirstEntered, IsLastEntered, IsNearBefore, IsNearBehind}

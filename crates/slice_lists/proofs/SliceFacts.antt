@@ -11,9 +11,9 @@ use Rattle.stream_base.specs.declared.kept.Kept.{Kept}
 use Rattle.stream_base.specs.declared.limits.TheConstants.{TIME_MAX}
 use Rattle.stream_base.specs.Model.Journal.{put_in_order}
 use Rattle.stream_base.specs.Model.Windows.{first_time, last_time}
-use Rattle.run_laws.specs.Runs.{AreInOrder, IsRun}
-use Rattle.run_laws.proofs.Order.{All-map_of, All-split}
-use Rattle.run_laws.proofs.RunFacts.{put_behind, put_first}
+use Rattle.slice_lists.specs.Runs.{AreInOrder, IsRun}
+use Rattle.slice_lists.proofs.Order.{All-map_of, All-split}
+use Rattle.slice_lists.proofs.RunFacts.{put_behind, put_first}
 use Rattle.slice_lists.specs.Slices.{AreSlices, entered_at, joined, slices_between, values_of}
 use Rattle.slice_lists.proofs.SliceOrder.{IsNear, first_below_last, part_at, put_far, run_below_last}
 use Rattle.slice_lists.proofs.SliceEdits.{put_length}

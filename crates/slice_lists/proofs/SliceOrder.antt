@@ -10,10 +10,10 @@ use Rattle.stream_base.specs.Laws.{TimesDoNotFall}
 use Rattle.stream_base.specs.Model.Journal.{put_in_order}
 use Rattle.stream_base.specs.Model.Windows.{first_time, last_time}
 use Rattle.stream_base.proofs.Members.{Contains-insert_new}
-use Rattle.run_laws.specs.Runs.{AreInOrder, IsPartFrom, IsRun}
+use Rattle.slice_lists.specs.Runs.{AreInOrder, IsPartFrom, IsRun}
 use Rattle.stream_base.proofs.Filters.{cases_of}
-use Rattle.run_laws.proofs.RunFacts.{put_first, put_behind}
-use Rattle.run_laws.proofs.RunEdits.{parted}
+use Rattle.slice_lists.proofs.RunFacts.{put_first, put_behind}
+use Rattle.slice_lists.proofs.RunEdits.{parted}
 use Rattle.slice_lists.specs.Slices.{joined}
 
 abbrev pub IsNear : ℕ → ℕ → Type 0

@@ -11,9 +11,9 @@ use Rattle.stream_base.specs.declared.kept.Kept.{Kept}
 use Rattle.stream_base.specs.declared.limits.TheConstants.{TIME_MAX}
 use Rattle.stream_base.specs.Laws.{TimesDoNotFall}
 use Rattle.stream_base.specs.Model.Windows.{first_time, last_time}
-use Rattle.run_laws.specs.Runs.{AreInOrder, IsPartFrom, IsRun}
+use Rattle.slice_lists.specs.Runs.{AreInOrder, IsPartFrom, IsRun}
 use Rattle.stream_base.proofs.Filters.{filter_all, filter_none}
-use Rattle.run_laws.proofs.RunEdits.{parted, replaced}
+use Rattle.slice_lists.proofs.RunEdits.{parted, replaced}
 use Rattle.slice_lists.specs.declared.slice.Slice.{Slice}
 use Rattle.slice_lists.specs.Places.{IsPlaceOf}
 use Rattle.slice_lists.specs.Slices.{AreSlices, joined, slice_of, split_at}

@@ -6,7 +6,7 @@ use Rattle.std.proofs.lemmas.Bool.{le-leb, lt-ltb, lt-leb, le-ltb, and_from, and
 use Rattle.std.proofs.lemmas.List.Elements.{All-append, All-head, All-nil, All-tail, All-weaker, filter-append}
 use Rattle.stream_base.specs.declared.kept.Kept.{Kept}
 use Rattle.stream_base.specs.Model.Windows.{first_time, is_within, last_time, within}
-use Rattle.run_laws.specs.Runs.{AreInOrder, IsAligned, runs_within}
+use Rattle.slice_lists.specs.Runs.{AreInOrder, IsAligned, runs_within}
 use Rattle.stream_base.proofs.Filters.{filter_all, filter_none}
 use Rattle.slice_lists.specs.Places.{IsPlaceOf}
 use Rattle.slice_lists.specs.Slices.{joined}

@@ -1,3 +1,4 @@
+pub mod Runs
 pub mod Slices
 pub mod Places
 pub mod Sides

@@ -6,7 +6,7 @@ use Rattle.stream_base.specs.declared.kept.Kept.{Kept}
 use Rattle.stream_base.specs.declared.limits.TheConstants.{TIME_MAX}
 use Rattle.stream_base.specs.Model.Journal.{put_in_order}
 use Rattle.stream_base.specs.Model.Windows.{first_time, last_time}
-use Rattle.run_laws.specs.Runs.{AreInOrder}
+use Rattle.slice_lists.specs.Runs.{AreInOrder}
 use Rattle.slice_lists.specs.declared.slice.Slice.{Slice}
 
 -- the tuples of slices, one slice behind another

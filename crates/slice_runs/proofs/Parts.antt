@@ -9,8 +9,8 @@ use Rattle.stream_base.specs.declared.kept.Kept.{Kept}
 use Rattle.stream_base.specs.Laws.{TimesDoNotFall}
 use Rattle.stream_base.specs.Model.Windows.{first_time, is_within, last_time, within}
 use Rattle.stream_base.proofs.Filters.{filter_all, filter_none}
-use Rattle.run_laws.specs.Runs.{AreInOrder, IsRun}
-use Rattle.run_laws.proofs.Order.{nd_head, nd_tail}
+use Rattle.slice_lists.specs.Runs.{AreInOrder, IsRun}
+use Rattle.slice_lists.proofs.Order.{nd_head, nd_tail}
 use Rattle.slice_lists.specs.declared.slice.Slice.{Slice}
 use Rattle.slice_lists.specs.Slices.{joined, slice_of}
 use Rattle.slice_lists.proofs.SliceOrder.{IsNear, above_slice, behind_at, below_slice, part_at, run_above_first, run_below_last}

@@ -5,10 +5,10 @@ ghost use Rattle.slice_runs.specs.Begun.{IsPlaceAt, IsPlaceBehind};
 ghost use Rattle.stream_base.specs.Model.Cuts.{has_cut};
 ghost use Rattle.slice_lists.specs.Sides.{IsApartBefore, IsFirstEntered, IsLastEntered, IsNearBefore};
 
+use crate::cut::have_cut;
 use crate::marks::Marks;
 use crate::runs::Runs;
 use stream_base::Def;
-use window_cuts::have_cut;
 
 /// Whether there is a cut between two times, by the definitions or by a mark.
 #[tactic(auto, using(slice_lists::proofs::CutFacts::cut_by_mark))]

@@ -1,7 +1,7 @@
 //! Tuples in event order, parted into slices.
 ghost use Rattle.std.specs.Prelude.{◌≡◌, ◌≤◌, ◌<◌, ◌+◌, [], length, drop, slice_index_or, nat_le, OnOk, IfSome, IfNone, All, false};
 ghost use Rattle.stream_base.specs.Model.Windows.{first_time, last_time};
-ghost use Rattle.run_laws.specs.Runs.{IsAligned};
+ghost use Rattle.slice_lists.specs.Runs.{IsAligned};
 ghost use Rattle.aggregates.specs.Bundled.{bundle_of};
 ghost use Rattle.slice_lists.specs.Touched.{is_across};
 ghost use Rattle.slice_lists.specs.Sides.{IsAcrossAt};

@@ -5,7 +5,7 @@ use Rattle.std.proofs.lemmas.List.Elements.{All-head, All-tail}
 use Rattle.stream_base.specs.declared.kept.Kept.{Kept}
 use Rattle.stream_base.specs.declared.limits.TheConstants.{TIME_MAX}
 use Rattle.stream_base.specs.Model.Windows.{first_time, last_time}
-use Rattle.run_laws.specs.Runs.{AreInOrder}
+use Rattle.slice_lists.specs.Runs.{AreInOrder}
 use Rattle.slice_lists.specs.Slices.{AreSlices}
 use Rattle.slice_lists.proofs.SliceFacts.{all_end}
 use Rattle.slice_lists.proofs.SliceOrder.{first_below_last}

@@ -6,7 +6,7 @@ use Rattle.stream_base.specs.Model.Windows.{first_time, last_time}
 use Rattle.aggregates.specs.Bundled.{bundle_of}
 use Rattle.agg_laws.specs.Pairs.{without}
 use Rattle.agg_laws.proofs.RisingPairs.{without-middle}
-use Rattle.run_laws.specs.Runs.{AreInOrder}
+use Rattle.slice_lists.specs.Runs.{AreInOrder}
 use Rattle.slice_lists.specs.Slices.{values_of}
 use Rattle.agg_store.specs.Stored.{partial_of}
 use Rattle.slice_store.proofs.PartialFacts.{firsts_above}

@@ -12,7 +12,7 @@ use Rattle.agg_laws.specs.Pairs.{distance, has_key, inserted, replaced, value_at
 use Rattle.aggregates.proofs.Bundles.{bundle_is_value}
 use Rattle.agg_laws.proofs.Distances.{distance-middle}
 use Rattle.agg_laws.proofs.RisingPairs.{has_key-between, has_key-middle, inserted-parts, replaced-middle, value_at-middle, without-middle}
-use Rattle.run_laws.specs.Runs.{AreInOrder, IsPartFrom, IsRun}
+use Rattle.slice_lists.specs.Runs.{AreInOrder, IsPartFrom, IsRun}
 use Rattle.slice_lists.specs.Slices.{AreSlices, entered_at, values_of}
 use Rattle.agg_store.specs.Stored.{partial_of}
 use Rattle.slice_lists.proofs.SliceOrder.{IsApart, IsNear, behind_at, first_below_last, first_of_both, part_at, reach}

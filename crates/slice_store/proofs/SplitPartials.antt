@@ -7,7 +7,7 @@ use Rattle.stream_base.specs.declared.kept.Kept.{Kept}
 use Rattle.stream_base.specs.Model.Windows.{first_time}
 use Rattle.aggregates.specs.Bundled.{Bundled, bundle_of}
 use Rattle.agg_laws.specs.Pairs.{has_key, inserted, replaced}
-use Rattle.run_laws.specs.Runs.{AreInOrder}
+use Rattle.slice_lists.specs.Runs.{AreInOrder}
 use Rattle.slice_lists.specs.Slices.{split_at, values_of}
 use Rattle.agg_store.specs.Stored.{partial_of}
 use Rattle.slice_store.proofs.PartialFacts.{more_absent, more_there, partial_other}

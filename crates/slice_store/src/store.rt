@@ -9,7 +9,7 @@ ghost use Rattle.stream_base.specs.declared.kept.Kept.{Kept};
 ghost use Rattle.stream_base.specs.declared.limits.TheConstants.{TIME_MAX};
 ghost use Rattle.stream_base.specs.Model.Journal.{put_in_order};
 ghost use Rattle.stream_base.specs.Model.Windows.{first_time, last_time};
-ghost use Rattle.run_laws.specs.Runs.{IsAligned, parted_at};
+ghost use Rattle.slice_lists.specs.Runs.{IsAligned, parted_at};
 ghost use Rattle.partials.specs.Apart.{IsReachOver};
 ghost use Rattle.slice_lists.specs.Slices.{joined, kept_at};
 ghost use Rattle.slice_lists.specs.Touched.{is_across, marks_left, slices_from};

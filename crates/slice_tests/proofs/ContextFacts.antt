@@ -15,12 +15,11 @@ use Rattle.stream_base.proofs.Distinct.{All_from_members}
 use Rattle.stream_base.proofs.EventOrder.{put_in_order_cons}
 use Rattle.stream_base.proofs.Members.{filter_members}
 use Rattle.stream_base.proofs.Rising.{Contains-cons_cases, Contains-head, Contains-insert_key, Contains-insert_key_self, Contains-tail, nat_rising_is_sorted, nat_rising_members, none_in_nil}
-use Rattle.run_laws.specs.Runs.{IsAligned}
+use Rattle.slice_lists.specs.Runs.{IsAligned}
 use Rattle.window_laws.proofs.InstanceFacts.{between_ends}
-use Rattle.run_laws.proofs.Order.{All-map_of}
+use Rattle.slice_lists.proofs.Order.{All-map_of}
 use Rattle.window_laws.proofs.StretchFacts.{edges_of}
-use Rattle.agg_store.specs.Stored.{IsSliced, IsStore, Stored, tuples_of}
-use Rattle.agg_store.specs.Stored.{IsAsBefore as IsStoreAsBefore}
+use Rattle.agg_store.specs.Stored.{IsSliced, IsStore, Stored, tuples_of, IsAsBefore as IsStoreAsBefore}
 use Rattle.slice_lists.proofs.SliceOrder.{times_of_order}
 use Rattle.window_spans.specs.declared.span.Span.{Span}
 use Rattle.window_spans.specs.Held.{AreAlignedWith, IsAlignedWith}

@@ -1,6 +1,6 @@
 ghost use Rattle.std.specs.Prelude.{◌≡◌, ◌≤◌, IfOk, true};
 ghost use Rattle.stream_base.specs.declared.limits.TheConstants.{TIME_MAX};
-ghost use Rattle.stream_base.specs.Laws.{is_timed};
+ghost use Rattle.stream_base.specs.Kinds.{is_timed};
 ghost use Rattle.agg_store.specs.Stored.{IsSliced};
 ghost use Rattle.time_lanes.specs.Spans.{IsWater, is_served};
 
@@ -9,7 +9,7 @@ use agg_laws::{AggQueue, AggTree, Steps};
 use agg_queue::{Daba, TwoStacks};
 use aggregates::Bundle;
 use fiba_arena::ArenaTree;
-use flat_tree::FlatTree;
+use pair_row::FlatTree;
 use slice_store::SliceStore;
 use std::alloc::Global;
 use std::process::Abort;

@@ -8,7 +8,7 @@ use agg_laws::{AggTree, Steps};
 use aggregates::Bundle;
 use context_windows::Sessions;
 use context_windows::laws::slices_part_at_sessions;
-use flat_tree::FlatTree;
+use pair_row::FlatTree;
 use slice_store::SliceStore;
 use std::alloc::Global;
 use std::process::Abort;

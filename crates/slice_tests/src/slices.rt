@@ -5,7 +5,7 @@ use agg_store::AggStore;
 use aggregates::Bundle;
 use fiba_arena::ArenaTree;
 use fiba_finger::FingerTree;
-use flat_tree::FlatTree;
+use pair_row::FlatTree;
 use slice_lists::Slice;
 use slice_store::{Placed, SliceStore};
 use std::alloc::Global;

@@ -5,7 +5,7 @@ use Rattle.std.specs.Char.{is_ascii_digit}
 use Rattle.std.specs.Str.{bytes_eq}
 use Rattle.csv.specs.Records.{field_at}
 use Rattle.stream_base.specs.Key.{key_fault}
-use Rattle.stream_base.specs.Limits.{is_from_one_to}
+use Rattle.stream_base.specs.Kinds.{is_from_one_to}
 use Rattle.stream_base.specs.Model.Journals.{number_in}
 use Rattle.stream_base.specs.declared.limits.TheConstants.{TIME_MAX}
 use Rattle.stream_base.specs.declared.key_text.KeyFault.{KeyFault}

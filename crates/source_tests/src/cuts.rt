@@ -1,6 +1,6 @@
 use std::test::Fail;
 use stream_base::{Def, Defs, Func, Kind, TIME_MAX};
-use window_cuts::cut_between;
+use slice_runs::cut_between;
 
 #[test]
 fn starts_ends_and_gaps_cut(rt: HostRuntime) -> Result<(), Fail> {

@@ -9,7 +9,7 @@ use agg_laws::{AggTree, Steps};
 use agg_store::AggStore;
 use aggregates::Bundle;
 use filling::fill;
-use flat_tree::FlatTree;
+use pair_row::FlatTree;
 use order::Order;
 use slice_store::SliceStore;
 use std::{env, io};

@@ -10,7 +10,7 @@ use Rattle.stream_base.specs.declared.change.Change.TheVariants.{Gone, New, Agai
 use Rattle.stream_base.specs.declared.def.Def.{Def}
 use Rattle.stream_base.specs.declared.func.Func.{Func}
 use Rattle.stream_base.specs.declared.kept.Kept.{Kept}
-use Rattle.stream_base.specs.Limits.{IsKindWithin}
+use Rattle.stream_base.specs.Kinds.{IsKindWithin}
 use Rattle.stream_base.specs.Model.Windows.{Instance, instances_of, is_complete}
 use Rattle.stream_base.specs.Model.Changes.{row_of, former_of, is_same, are_same_tuples, retraction, emitted, emission, Moment, standing_at, retractions, emissions, changes_between}
 use Rattle.stream_base.specs.Laws.{by_start, RiseByStart, becomes_complete, completions}

@@ -9,8 +9,8 @@ use Rattle.std.specs.Prelude.{nat_le, nat_lt}
 use Rattle.stream_base.specs.declared.def.Def.{Def}
 use Rattle.stream_base.specs.declared.kind.Kind.{Kind}
 use Rattle.stream_base.specs.declared.kind.Kind.TheVariants.{Tumbling, Sliding, Session, Marks, Events}
-use Rattle.stream_base.specs.Limits.{IsKindWithin}
-use Rattle.stream_base.specs.Model.Cuts.{CutsBetween, HasCut, bounds_up_to, has_bound, cuts_between, has_cut}
+use Rattle.stream_base.specs.Kinds.{CutsBetween, IsKindWithin, bounds_up_to, cuts_between, has_bound}
+use Rattle.stream_base.specs.Model.Cuts.{HasCut, has_cut}
 
 -- multiple k is among those up to t exactly where it is at most t
 counted : (offset slide t k : ℕ) → 1 ≤ slide → k * slide + offset ≤ t → k < bounds_up_to offset slide t

@@ -16,7 +16,7 @@ use Rattle.stream_base.specs.declared.limits.TheConstants.{FINAL}
 use Rattle.stream_base.specs.declared.kept.Kept.{Kept}
 use Rattle.stream_base.specs.declared.kind.Kind.{Kind}
 use Rattle.stream_base.specs.declared.kind.Kind.TheVariants.{Tumbling, Sliding, Session, Marks, Events}
-use Rattle.stream_base.specs.Limits.{IsKindWithin}
+use Rattle.stream_base.specs.Kinds.{IsKindWithin}
 use Rattle.stream_base.specs.Model.Journal.{rising}
 use Rattle.stream_base.specs.Model.Windows.{Instance, interval, starts_of, spans, glued, pieces_of, first_time, session, sessions, is_selecting, between_times, stretches, ranks, counted, instances_of, is_complete, standing_of}
 use Rattle.stream_base.specs.Model.Changes.{is_same}

@@ -9,3 +9,4 @@ pub mod Distinct
 pub mod ChangeFacts
 pub mod EventOrder
 pub mod Pieces
+pub mod Remainders

@@ -6,7 +6,8 @@ use Rattle.std.specs.List.{All, position, position_or_len}
 use Rattle.stream_base.specs.declared.def.Def.{Def}
 use Rattle.stream_base.specs.declared.kind.Kind.{Kind}
 use Rattle.stream_base.specs.declared.kind.Kind.TheVariants.{Tumbling, Sliding, Session, Marks, Events}
-use Rattle.stream_base.specs.Limits.{is_kind_within, IsKindWithin, is_beyond}
+use Rattle.stream_base.specs.Limits.{is_beyond}
+use Rattle.stream_base.specs.Kinds.{IsKindWithin, is_kind_within}
 
 kind_within : (k : Kind) → is_kind_within k ≡ true → IsKindWithin k
 kind_within (Tumbling l) h = grind (arith, nat_tests)

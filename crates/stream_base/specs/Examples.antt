@@ -1,7 +1,8 @@
 -- The journals of the worked examples, and what stands under their entries.
 use Rattle.std.specs.Prelude.{◌++◌, ℕ, ℤ, pos, negsuc, Bool, List, [], ◌∷◌, codes}
 use Rattle.std.specs.List.{list_all}
-use Rattle.stream_base.specs.Limits.{Definitions, is_kind_within}
+use Rattle.stream_base.specs.Limits.{Definitions}
+use Rattle.stream_base.specs.Kinds.{is_kind_within}
 use Rattle.stream_base.specs.declared.change.Change.{Change}
 use Rattle.stream_base.specs.declared.def.Def.{Def}
 use Rattle.stream_base.specs.declared.entry.Entry.{Entry}

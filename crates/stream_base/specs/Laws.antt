@@ -11,8 +11,6 @@ use Rattle.stream_base.specs.declared.def.Def.{Def}
 use Rattle.stream_base.specs.declared.entry.Entry.{Entry}
 use Rattle.stream_base.specs.declared.former.Former.{Former}
 use Rattle.stream_base.specs.declared.kept.Kept.{Kept}
-use Rattle.stream_base.specs.declared.kind.Kind.{Kind}
-use Rattle.stream_base.specs.declared.kind.Kind.TheVariants.{Tumbling, Sliding, Session, Marks, Events}
 use Rattle.stream_base.specs.declared.row.Row.{Row}
 use Rattle.stream_base.specs.Limits.{Definitions}
 use Rattle.stream_base.specs.Model.Changes.{Moment, former_of, moment_of, row_of, standing_at}
@@ -168,14 +166,6 @@ abbrev pub completions_after : Definitions → ℕ → List Entry → Entry → 
 completions_after d sources before e =
     flat_map (λ key. flat_map (completions key (moment_of d sources key before) (water_of sources (before ++ e ∷ []))) (enumerate_from 0 d.windows)) (keys_of before)
 
--- whether a window is tumbling or sliding
-abbrev pub is_timed : Kind → Bool
-is_timed (Tumbling length) = true
-is_timed (Sliding length slide) = true
-is_timed (Session gap) = false
-is_timed Marks = false
-is_timed (Events count) = false
-
 -- the multiple of the slide is the start of an interval that holds the time
 abbrev pub HoldsTime : ℕ → ℕ → ℕ → ℕ → Type 0
 HoldsTime length slide time low = (k : ℕ) × (low ≡ k * slide) × (low ≤ time) × (time < low + length)
@@ -212,11 +202,3 @@ by_row r s =
 -- the journals of one source: in each shard its routed entries
 abbrev pub journals_of_one : ℕ → List Entry → List (List Entry)
 journals_of_one shards entries = map (λ k. routed shards k entries) (range_with_len 0 shards)
-
--- whether a window is one of sessions
-abbrev pub is_session : Kind → Bool
-is_session (Tumbling length) = false
-is_session (Sliding length slide) = false
-is_session (Session gap) = true
-is_session Marks = false
-is_session (Events count) = false

@@ -1,5 +1,6 @@
 pub mod Key
 pub mod KeyCells
+pub mod Kinds
 pub mod Limits
 pub mod Model
 pub mod Examples

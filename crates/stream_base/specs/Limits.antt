@@ -1,11 +1,10 @@
 -- The limits of values and of window definitions.
-use Rattle.std.specs.Prelude.{◌≡◌, ◌≤◌, ◌-◌, ◌*◌, ◌^◌, ◌&&◌, ℕ, ℤ, pos, negsuc, Bool, true, not, List, length, Option, None, Some, if◌then◌else◌, nat_le, int_le, All}
+use Rattle.std.specs.Prelude.{◌≡◌, ◌≤◌, ◌-◌, ◌^◌, ◌&&◌, ℕ, ℤ, pos, negsuc, Bool, not, List, length, Option, None, Some, if◌then◌else◌, nat_le, int_le, All}
 use Rattle.std.specs.List.{position}
 use Rattle.std.specs.Option.{option_map}
-use Rattle.stream_base.specs.declared.limits.TheConstants.{TIME_MAX, JOURNAL_MAX, EVERY_MAX, WINDOWS_MAX, LENGTH_RATIO_MAX}
+use Rattle.stream_base.specs.Kinds.{IsKindWithin, is_from_one_to, is_kind_within}
+use Rattle.stream_base.specs.declared.limits.TheConstants.{TIME_MAX, EVERY_MAX, WINDOWS_MAX}
 use Rattle.stream_base.specs.declared.def.Def.{Def}
-use Rattle.stream_base.specs.declared.kind.Kind.{Kind}
-use Rattle.stream_base.specs.declared.kind.Kind.TheVariants.{Tumbling, Sliding, Session, Marks, Events}
 use Rattle.stream_base.specs.declared.defs.LimitFault.{LimitFault}
 use Rattle.stream_base.specs.declared.defs.LimitFault.TheVariants.{Many, Limit}
 
@@ -24,19 +23,6 @@ abbrev pub definitions_of : List Def → ℕ → ℕ → ℕ → Definitions
 definitions_of windows lateness every disorder =
     record { windows = windows; lateness = lateness; every = every; disorder = disorder }
 
--- a number from 1 up to a limit
-abbrev pub is_from_one_to : ℕ → ℕ → Bool
-is_from_one_to most n = nat_le 1 n && nat_le n most
-
--- the numbers of a kind are within their limits
-abbrev pub is_kind_within : Kind → Bool
-is_kind_within (Tumbling length) = is_from_one_to TIME_MAX length
-is_kind_within (Sliding length slide) =
-    is_from_one_to TIME_MAX length && (nat_le 1 slide && (nat_le slide length && nat_le length (LENGTH_RATIO_MAX * slide)))
-is_kind_within (Session gap) = is_from_one_to TIME_MAX gap
-is_kind_within Marks = true
-is_kind_within (Events count) = is_from_one_to JOURNAL_MAX count
-
 -- a window whose numbers are beyond their limits
 abbrev pub is_beyond : Def → Bool
 is_beyond w = not (is_kind_within w.kind)
@@ -53,14 +39,6 @@ limit_fault d =
     then option_map (λ i. Limit (Some i)) (position is_beyond d.windows)
     else Some (Limit None))
     else Some Many
-
--- the same limits as facts
-abbrev pub IsKindWithin : Kind → Type 0
-IsKindWithin (Tumbling length) = (1 ≤ length) × (length ≤ TIME_MAX)
-IsKindWithin (Sliding length slide) = (1 ≤ length) × (length ≤ TIME_MAX) × (1 ≤ slide) × (slide ≤ length) × (length ≤ LENGTH_RATIO_MAX * slide)
-IsKindWithin (Session gap) = (1 ≤ gap) × (gap ≤ TIME_MAX)
-IsKindWithin Marks = Unit {0}
-IsKindWithin (Events count) = (1 ≤ count) × (count ≤ JOURNAL_MAX)
 
 pub record AreWithinLimits (d : Definitions) : Type 0 where
   pub some_window : 1 ≤ length d.windows

@@ -1,5 +1,5 @@
-ghost use Rattle.std.specs.Prelude.{◌≡◌};
-ghost use Rattle.stream_base.specs.Limits.{is_kind_within};
+ghost use Rattle.std.specs.Prelude.{◌≡◌, ◌≤◌};
+ghost use Rattle.stream_base.specs.Kinds.{IsKindWithin, cuts_between, has_bound, is_kind_within};
 
 use crate::limits::{JOURNAL_MAX, LENGTH_RATIO_MAX, TIME_MAX};
 
@@ -40,4 +40,34 @@ impl Kind {
             Kind::Events { count } => 1 <= count && count <= JOURNAL_MAX,
         }
     }
+
+    /// Whether it cuts between two times: a tumbling or sliding window starts or ends after `low` and at
+    /// or before `high`, or they are at least the gap apart. No interval is walked: how far the last
+    /// start or end lies before `high` is the remainder of a division.
+    pub fn cuts_between(&self, low: u64, high: u64) -> bool
+        requires kind { IsKindWithin self.now }
+        requires ordered { low ≤ high }
+        ensures { result ≡ cuts_between self.now low high }
+    {
+        match *self {
+            Kind::Tumbling { length } => has_bound(0, length, low, high),
+            Kind::Sliding { length, slide } => {
+                has_bound(0, slide, low, high) || has_bound(length, slide, low, high)
+            }
+            Kind::Session { gap } => gap <= high - low,
+            Kind::Marks | Kind::Events { .. } => false,
+        }
+    }
+}
+
+// The last bound at or before `high` lies as far before it as the remainder says.
+fn has_bound(offset: u64, slide: u64, low: u64, high: u64) -> bool
+    requires slide { 1 ≤ slide }
+    requires ordered { low ≤ high }
+    ensures { result ≡ has_bound offset slide low high }
+{
+    if high < offset {
+        return false;
+    }
+    low < offset || (high - offset) % slide < high - low
 }

@@ -8,9 +8,9 @@ use Rattle.stream_base.specs.declared.change.Change.{Change}
 use Rattle.stream_base.specs.declared.def.Def.{Def}
 use Rattle.stream_base.specs.declared.kept.Kept.{Kept}
 use Rattle.stream_base.specs.declared.kind.Kind.{Kind}
-use Rattle.stream_base.specs.Laws.{completions, is_timed}
-use Rattle.window_laws.specs.Late.{length_of, slide_of}
-use Rattle.run_laws.specs.Runs.{AreInOrder, runs_within}
+use Rattle.stream_base.specs.Laws.{completions}
+use Rattle.stream_base.specs.Kinds.{is_timed, length_of, slide_of}
+use Rattle.slice_lists.specs.Runs.{AreInOrder, runs_within}
 use Rattle.window_laws.specs.Walk.{due_from, next_start}
 use Rattle.window_laws.proofs.WalkFacts.{to_next}
 use Rattle.agg_store.specs.Stored.{Stored}

@@ -4,10 +4,8 @@ use Rattle.std.specs.List.{All}
 use Rattle.stream_base.specs.declared.def.Def.{Def}
 use Rattle.stream_base.specs.declared.kept.Kept.{Kept}
 use Rattle.stream_base.specs.declared.limits.TheConstants.{FINAL}
-use Rattle.stream_base.specs.Laws.{is_timed}
-use Rattle.stream_base.specs.Limits.{IsKindWithin}
+use Rattle.stream_base.specs.Kinds.{IsKindWithin, is_timed, length_of, slide_of}
 use Rattle.window_laws.specs.Due.{first_open}
-use Rattle.window_laws.specs.Late.{length_of, slide_of}
 use Rattle.window_laws.specs.Walk.{IsFirstFrom, next_start, next_start_of}
 use Rattle.window_laws.proofs.NextFacts.{next_of_timed, none_next_of_timed}
 use Rattle.time_lanes.specs.Held.{IsEndFrom}

@@ -8,7 +8,7 @@ use Rattle.stream_base.specs.declared.kept.Kept.{Kept}
 use Rattle.aggregates.specs.Bundled.{Bundled, bundle_of, bundles_combined, empty_bundle}
 use Rattle.agg_laws.specs.Laws.{total}
 use Rattle.agg_laws.specs.Pairs as pairs
-use Rattle.run_laws.specs.Runs.{AreInOrder, IsAligned, runs_within}
+use Rattle.slice_lists.specs.Runs.{AreInOrder, IsAligned, runs_within}
 use Rattle.stream_base.specs.Model.Windows.{within}
 use Rattle.slice_lists.specs.Slices.{AreSlices, joined, values_of}
 use Rattle.agg_store.specs.Stored.{partial_of}

@@ -18,7 +18,7 @@ use Rattle.stream_base.specs.Model.Changes.{former_of, row_of}
 use Rattle.stream_base.specs.Model.Functions.{averaging, count_sum, either_or, fold_of, shown_of, show_value}
 use Rattle.stream_base.specs.Model.Journal.{put_in_order}
 use Rattle.stream_base.specs.Model.Windows.{Instance}
-use Rattle.run_laws.proofs.RunFacts.{put_first, put_behind}
+use Rattle.slice_lists.proofs.RunFacts.{put_first, put_behind}
 use Rattle.slice_lists.specs.Slices.{values_of}
 use Rattle.time_lanes.specs.Joined.{greatest_with, is_order_free, joined_change, least_with, shown_with}
 use Rattle.time_lanes.specs.Told.{again_or_new, former_if}

@@ -11,18 +11,18 @@ use Rattle.stream_base.specs.declared.def.Def.{Def}
 use Rattle.stream_base.specs.declared.former.Former.{Former}
 use Rattle.stream_base.specs.declared.kept.Kept.{Kept}
 use Rattle.stream_base.specs.declared.kind.Kind.{Kind}
-use Rattle.stream_base.specs.Laws.{TimesDoNotFall, is_timed}
-use Rattle.stream_base.specs.Limits.{IsKindWithin}
+use Rattle.stream_base.specs.Laws.{TimesDoNotFall}
+use Rattle.stream_base.specs.Kinds.{IsKindWithin, is_timed, length_of, slide_of}
 use Rattle.stream_base.specs.Model.Changes.{emissions, former_of, row_of}
 use Rattle.stream_base.specs.Model.Journal.{put_in_order}
 use Rattle.stream_base.specs.Model.Windows.{interval, is_selecting, is_within, starts_holding, within}
 use Rattle.stream_base.proofs.Members.{filter_members, map_same}
 use Rattle.stream_base.proofs.Spans.{starts_holding_members}
 use Rattle.window_laws.specs.After.{with_tuple}
-use Rattle.window_laws.specs.Late.{late_change, length_of, slide_of}
+use Rattle.window_laws.specs.Late.{late_change}
 use Rattle.window_laws.proofs.LateFacts.{timed_late_emissions}
-use Rattle.run_laws.proofs.Order.{nd_split}
-use Rattle.run_laws.proofs.RunFacts.{put_behind, put_first}
+use Rattle.slice_lists.proofs.Order.{nd_split}
+use Rattle.slice_lists.proofs.RunFacts.{put_behind, put_first}
 use Rattle.agg_store.specs.Stored.{Stored, tuples_of}
 use Rattle.time_lanes.specs.Joined.{is_order_free, joined_at}
 use Rattle.time_lanes.specs.Told.{again_or_new, complete_starts, former_at, former_if, starts_from, told_at, told_late}

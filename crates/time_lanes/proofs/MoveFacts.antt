@@ -14,13 +14,13 @@ use Rattle.stream_base.specs.declared.func.Func.{Func}
 use Rattle.stream_base.specs.declared.kept.Kept.{Kept}
 use Rattle.stream_base.specs.declared.kind.Kind.{Kind}
 use Rattle.stream_base.specs.declared.kind.Kind.TheVariants.{Tumbling, Sliding, Session, Marks, Events}
-use Rattle.stream_base.specs.Laws.{becomes_complete, completions, is_timed}
+use Rattle.stream_base.specs.Laws.{becomes_complete, completions}
+use Rattle.stream_base.specs.Kinds.{is_timed, length_of, slide_of}
 use Rattle.stream_base.specs.Model.Changes.{row_of}
 use Rattle.stream_base.specs.Model.Windows.{instances_of, interval, is_within, spans, starts_of, within}
 use Rattle.stream_base.proofs.Members.{filter_has, filter_members, map_same}
 use Rattle.stream_base.proofs.Rising.{none_in_nil, same_members_same_list}
 use Rattle.stream_base.proofs.Spans.{starts_of_has, starts_of_is_sorted, starts_of_members}
-use Rattle.window_laws.specs.Late.{length_of, slide_of}
 use Rattle.window_laws.specs.Walk.{due_from, next_start, next_start_of}
 use Rattle.window_laws.proofs.WalkFacts.{completed_from, to_next}
 use Rattle.time_lanes.specs.Told.{new_at}

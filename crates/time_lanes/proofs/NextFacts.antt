@@ -11,10 +11,10 @@ use Rattle.stream_base.specs.declared.kept.Kept.{Kept}
 use Rattle.stream_base.specs.declared.limits.TheConstants.{FINAL, TIME_MAX}
 use Rattle.stream_base.specs.Model.Windows.{first_time, last_time}
 use Rattle.stream_base.proofs.Rising.{Contains-head}
-use Rattle.run_laws.specs.Runs.{AreInOrder, IsAligned, runs_within}
+use Rattle.slice_lists.specs.Runs.{AreInOrder, IsAligned, runs_within}
 use Rattle.window_laws.specs.Walk.{IsFirstFrom, WalksOn, due_from, next_start}
-use Rattle.run_laws.proofs.Order.{All-split}
-use Rattle.run_laws.proofs.RunEdits.{parted}
+use Rattle.slice_lists.proofs.Order.{All-split}
+use Rattle.slice_lists.proofs.RunEdits.{parted}
 use Rattle.window_laws.proofs.WalkFacts.{none_due, walks_on}
 use Rattle.slice_lists.specs.declared.slice.Slice.{Slice}
 use Rattle.slice_lists.specs.Slices.{AreSlices, joined, slice_of}

@@ -8,7 +8,7 @@ use Rattle.std.proofs.lemmas.List.Filters.{length-filter_both}
 use Rattle.std.proofs.lemmas.List.Elements.{All-cons, All-nil, All-weaker}
 use Rattle.stream_base.specs.declared.kept.Kept.{Kept}
 use Rattle.stream_base.specs.Model.Windows.{first_time, last_time}
-use Rattle.run_laws.specs.Runs.{AreInOrder, IsPartFrom, runs_within}
+use Rattle.slice_lists.specs.Runs.{AreInOrder, IsPartFrom, runs_within}
 use Rattle.stream_base.proofs.Filters.{filter_none}
 use Rattle.slice_lists.proofs.SliceOrder.{IsApart, first_below_last, reach}
 

@@ -7,11 +7,9 @@ use Rattle.std.proofs.lemmas.Option.{get_or_from_slice_get, slice_get_within}
 use Rattle.stream_base.specs.declared.def.Def.{Def}
 use Rattle.stream_base.specs.declared.kind.Kind.{Kind}
 use Rattle.stream_base.specs.declared.kind.Kind.TheVariants.{Tumbling, Sliding, Session, Marks, Events}
-use Rattle.stream_base.specs.Laws.{is_timed}
-use Rattle.stream_base.specs.Limits.{IsKindWithin}
+use Rattle.stream_base.specs.Kinds.{IsKindWithin, is_timed, length_of, slide_of}
 use Rattle.stream_base.specs.Model.Slices.{runs_of}
-use Rattle.window_laws.specs.Late.{length_of, slide_of}
-use Rattle.run_laws.specs.Runs.{IsAligned}
+use Rattle.slice_lists.specs.Runs.{IsAligned}
 use Rattle.window_laws.proofs.EdgeFacts.{interval_ends_align, interval_starts_align}
 use Rattle.agg_store.specs.Stored.{IsSliced, Stored, tuples_of}
 use Rattle.time_lanes.specs.Spans.{ArePartedAt, IsSpan, IsWindowAt}

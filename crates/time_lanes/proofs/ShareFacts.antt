@@ -12,8 +12,8 @@ use Rattle.stream_base.specs.declared.kept.Kept.{Kept}
 use Rattle.stream_base.specs.Model.Windows.{is_within, within}
 use Rattle.aggregates.specs.Bundled.{Bundled, bundle_of, bundles_combined, empty_bundle}
 use Rattle.aggregates.proofs.Bundles.{bundle_of-append}
-use Rattle.run_laws.specs.Runs.{IsAligned, runs_within}
-use Rattle.run_laws.proofs.Order.{All-map_of}
+use Rattle.slice_lists.specs.Runs.{IsAligned, runs_within}
+use Rattle.slice_lists.proofs.Order.{All-map_of}
 use Rattle.slice_lists.specs.Slices.{AreSlices, joined, values_of}
 use Rattle.slice_lists.proofs.WithinFacts.{within_aligned}
 use Rattle.time_lanes.specs.declared.late.Complete.{Complete}

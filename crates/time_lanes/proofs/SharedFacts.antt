@@ -3,8 +3,8 @@ use Rattle.std.proofs.Common.{◌≡◌, ◌∙◌, ℕ, ◌+◌, ◌-◌, ◌*�
 use Rattle.std.specs.Prelude.{◌⊎◌}
 use Rattle.std.proofs.lemmas.Bool.{cases_lt}
 use Rattle.stream_base.specs.declared.kind.Kind.{Kind}
-use Rattle.run_laws.specs.Runs.{runs_within}
-use Rattle.window_laws.specs.Late.{length_of, slide_of}
+use Rattle.slice_lists.specs.Runs.{runs_within}
+use Rattle.stream_base.specs.Kinds.{length_of, slide_of}
 use Rattle.agg_store.specs.Stored.{Stored}
 use Rattle.time_lanes.specs.declared.late.Complete.{Complete}
 use Rattle.time_lanes.specs.declared.span.Span.{Span}

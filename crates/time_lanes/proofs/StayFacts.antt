@@ -9,19 +9,17 @@ use Rattle.stream_base.specs.declared.def.Def.{Def}
 use Rattle.stream_base.specs.declared.kept.Kept.{Kept}
 use Rattle.stream_base.specs.declared.kind.Kind.{Kind}
 use Rattle.stream_base.specs.declared.kind.Kind.TheVariants.{Tumbling, Sliding, Session, Marks, Events}
-use Rattle.stream_base.specs.Laws.{is_timed}
-use Rattle.stream_base.specs.Limits.{IsKindWithin}
-use Rattle.stream_base.specs.Model.Cuts.{CutsBetween, has_cut}
+use Rattle.stream_base.specs.Kinds.{CutsBetween, IsKindWithin, is_timed, length_of, slide_of}
+use Rattle.stream_base.specs.Model.Cuts.{has_cut}
 use Rattle.stream_base.specs.Model.Journal.{put_in_order}
 use Rattle.stream_base.specs.Model.Windows.{first_time, last_time}
 use Rattle.stream_base.proofs.CutFacts.{cut_decides}
 use Rattle.stream_base.proofs.Members.{filter_members}
 use Rattle.stream_base.proofs.Rising.{Contains-head, Contains-tail}
-use Rattle.window_laws.specs.Late.{length_of, slide_of}
-use Rattle.run_laws.specs.Runs.{AreInOrder, IsRun, parted_at, runs_within}
+use Rattle.slice_lists.specs.Runs.{AreInOrder, IsRun, parted_at, runs_within}
 use Rattle.window_laws.specs.Walk.{next_start_of}
-use Rattle.run_laws.proofs.RunEdits.{parted}
-use Rattle.run_laws.proofs.RunFacts.{put_behind, put_first}
+use Rattle.slice_lists.proofs.RunEdits.{parted}
+use Rattle.slice_lists.proofs.RunFacts.{put_behind, put_first}
 use Rattle.slice_lists.specs.Touched.{is_near, slices_from}
 use Rattle.agg_store.specs.Entered.{IsPut, slices_near}
 use Rattle.slice_lists.specs.Slices.{joined}

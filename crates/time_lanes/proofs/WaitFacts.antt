@@ -9,19 +9,18 @@ use Rattle.std.proofs.lemmas.List.Elements.{All-cons, All-contains, All-drop, Al
 use Rattle.std.proofs.lemmas.Option.{get_or_from_slice_get}
 use Rattle.stream_base.specs.declared.def.Def.{Def}
 use Rattle.stream_base.specs.declared.kept.Kept.{Kept}
-use Rattle.stream_base.specs.Laws.{completions, is_timed}
-use Rattle.stream_base.specs.Limits.{IsKindWithin}
+use Rattle.stream_base.specs.Laws.{completions}
+use Rattle.stream_base.specs.Kinds.{IsKindWithin, is_timed, length_of, slide_of}
 use Rattle.stream_base.specs.Model.Changes.{Moment}
 use Rattle.stream_base.specs.Model.Windows.{first_time, starts_of}
 use Rattle.stream_base.proofs.Distinct.{All_from_members}
 use Rattle.stream_base.proofs.Members.{filter_has}
 use Rattle.stream_base.proofs.Rising.{none_in_nil}
 use Rattle.stream_base.proofs.Spans.{starts_of_has}
-use Rattle.window_laws.specs.Late.{length_of, slide_of}
-use Rattle.run_laws.specs.Runs.{AreInOrder, runs_within}
+use Rattle.slice_lists.specs.Runs.{AreInOrder, runs_within}
 use Rattle.window_laws.specs.Walk.{next_start_of}
 use Rattle.stream_base.proofs.Filters.{filter_none}
-use Rattle.run_laws.proofs.Order.{All-split}
+use Rattle.slice_lists.proofs.Order.{All-split}
 use Rattle.window_laws.proofs.WalkFacts.{from_next}
 use Rattle.slice_lists.specs.Slices.{joined}
 use Rattle.agg_store.specs.Stored.{IsStore, Stored, tuples_of}

@@ -7,7 +7,7 @@ use Rattle.stream_base.specs.declared.kept.Kept.{Kept}
 use Rattle.stream_base.specs.Model.Windows.{within}
 use Rattle.aggregates.specs.Bundled.{Bundled, bundle_of, bundles_combined, empty_bundle}
 use Rattle.agg_laws.specs.Laws.{total}
-use Rattle.run_laws.specs.Runs.{AreInOrder, IsAligned, runs_within}
+use Rattle.slice_lists.specs.Runs.{AreInOrder, IsAligned, runs_within}
 use Rattle.window_laws.specs.Walk.{next_start}
 use Rattle.slice_lists.specs.Slices.{AreSlices, joined, values_of}
 use Rattle.time_lanes.specs.Held.{partials_of}

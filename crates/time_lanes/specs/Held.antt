@@ -4,7 +4,7 @@ use Rattle.stream_base.specs.declared.kept.Kept.{Kept}
 use Rattle.stream_base.specs.declared.limits.TheConstants.{FINAL, TIME_MAX}
 use Rattle.stream_base.specs.Model.Windows.{within}
 use Rattle.aggregates.specs.Bundled.{Bundled, bundle_of}
-use Rattle.run_laws.specs.Runs.{IsAligned, runs_within}
+use Rattle.slice_lists.specs.Runs.{IsAligned, runs_within}
 use Rattle.window_laws.specs.Walk.{IsFirstFrom, due_from, next_start}
 use Rattle.slice_lists.specs.declared.slice.Slice.{Slice}
 use Rattle.slice_lists.specs.Slices.{joined, slice_of, values_of}

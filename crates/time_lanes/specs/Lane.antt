@@ -2,8 +2,8 @@
 use Rattle.std.specs.Prelude.{◌≡◌, ◌≤◌, ◌*◌, ℕ, Bool, false, List, [], length, if◌then◌else◌}
 use Rattle.stream_base.specs.declared.kind.Kind.{Kind}
 use Rattle.aggregates.specs.Bundled.{Bundled}
-use Rattle.window_laws.specs.Late.{length_of, slide_of}
-use Rattle.run_laws.specs.Runs.{runs_within}
+use Rattle.stream_base.specs.Kinds.{length_of, slide_of}
+use Rattle.slice_lists.specs.Runs.{runs_within}
 use Rattle.window_laws.specs.Walk.{next_start_of}
 use Rattle.agg_store.specs.Stored.{Stored}
 use Rattle.time_lanes.specs.Held.{partials_of}

@@ -7,7 +7,7 @@ use Rattle.stream_base.specs.declared.kind.Kind.{Kind}
 use Rattle.stream_base.specs.Laws.{TimesDoNotFall}
 use Rattle.stream_base.specs.Model.Journal.{put_in_order}
 use Rattle.stream_base.specs.Model.Windows.{starts_holding, within}
-use Rattle.window_laws.specs.Late.{length_of, slide_of}
+use Rattle.stream_base.specs.Kinds.{length_of, slide_of}
 use Rattle.agg_store.specs.Stored.{Stored, tuples_of}
 use Rattle.time_lanes.specs.Told.{complete_starts, former_at}
 

@@ -4,8 +4,8 @@ use Rattle.stream_base.specs.declared.kept.Kept.{Kept}
 use Rattle.stream_base.specs.declared.kind.Kind.{Kind}
 use Rattle.stream_base.specs.Model.Changes.{Moment}
 use Rattle.stream_base.specs.Model.Windows.{within}
-use Rattle.window_laws.specs.Late.{length_of, slide_of}
-use Rattle.run_laws.specs.Runs.{runs_within}
+use Rattle.stream_base.specs.Kinds.{length_of, slide_of}
+use Rattle.slice_lists.specs.Runs.{runs_within}
 use Rattle.window_laws.specs.Walk.{due_from, next_start_of}
 use Rattle.agg_store.specs.Stored.{Stored}
 use Rattle.time_lanes.specs.Lane.{Knows, Laned, fresh_to}

@@ -2,8 +2,8 @@
 use Rattle.std.specs.Prelude.{◌≤◌, ◌+◌, ◌-◌, ◌*◌, ℕ, List, length, slice_index_or}
 use Rattle.stream_base.specs.declared.kept.Kept.{Kept}
 use Rattle.stream_base.specs.declared.kind.Kind.{Kind}
-use Rattle.run_laws.specs.Runs.{runs_within}
-use Rattle.window_laws.specs.Late.{length_of}
+use Rattle.slice_lists.specs.Runs.{runs_within}
+use Rattle.stream_base.specs.Kinds.{length_of}
 use Rattle.agg_store.specs.Stored.{Stored}
 use Rattle.time_lanes.specs.Late.{complete_holding}
 

@@ -5,11 +5,11 @@ use Rattle.stream_base.specs.declared.def.Def.{Def}
 use Rattle.stream_base.specs.declared.kept.Kept.{Kept}
 use Rattle.stream_base.specs.declared.kind.Kind.{Kind}
 use Rattle.stream_base.specs.declared.limits.TheConstants.{FINAL, TIME_MAX}
-use Rattle.stream_base.specs.Laws.{TimesDoNotFall, is_timed}
+use Rattle.stream_base.specs.Laws.{TimesDoNotFall}
+use Rattle.stream_base.specs.Kinds.{is_timed, length_of, slide_of}
 use Rattle.agg_store.specs.Stored.{IsSliced, Stored}
 use Rattle.slice_lists.specs.Slices.{joined}
-use Rattle.window_laws.specs.Late.{length_of, slide_of}
-use Rattle.run_laws.specs.Runs.{IsAligned}
+use Rattle.slice_lists.specs.Runs.{IsAligned}
 
 -- the window at a place is this one
 abbrev pub IsWindowAt : List Def → ℕ → Def → Type 0

@@ -2,7 +2,7 @@
 ghost use Rattle.std.specs.Prelude.{◌≡◌, ◌≤◌, ◌<◌, ◌+◌, ◌*◌, ◌^◌, ◌++◌, ◌∷◌, [], length, map, max};
 ghost use Rattle.stream_base.specs.declared.limits.TheConstants.{FINAL};
 ghost use Rattle.stream_base.specs.Vectors.{Adds, room};
-ghost use Rattle.run_laws.specs.Runs.{runs_within};
+ghost use Rattle.slice_lists.specs.Runs.{runs_within};
 ghost use Rattle.window_laws.specs.Walk.{due_from, next_start};
 ghost use Rattle.agg_store.specs.Stored.{tuples_of};
 ghost use Rattle.time_lanes.specs.Held.{HoldsFrom};

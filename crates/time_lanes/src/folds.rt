@@ -2,7 +2,7 @@
 ghost use Rattle.std.specs.Prelude.{◌≡◌, ◌≤◌, ◌<◌, ◌+◌, ◌-◌, ◌*◌, ◌↔◌, ℕ, true, length};
 ghost use Rattle.stream_base.specs.Model.Windows.{within};
 ghost use Rattle.aggregates.specs.Bundled.{bundle_of};
-ghost use Rattle.run_laws.specs.Runs.{runs_within};
+ghost use Rattle.slice_lists.specs.Runs.{runs_within};
 ghost use Rattle.slice_lists.specs.Slices.{values_of};
 ghost use Rattle.agg_store.specs.Stored.{IsStore, tuples_of};
 ghost use Rattle.time_lanes.specs.Folds.{AreFolds, AreHeads, MayShare, slices_under};

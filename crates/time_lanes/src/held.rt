@@ -2,7 +2,7 @@
 ghost use Rattle.std.specs.Prelude.{◌≡◌, ◌≤◌, ◌+◌, ◌*◌, ◌++◌, [], ◌∷◌, OnOk, drop, length, max, min};
 ghost use Rattle.aggregates.specs.Bundled.{bundles_combined, empty_bundle};
 ghost use Rattle.agg_laws.specs.Laws.{total};
-ghost use Rattle.run_laws.specs.Runs.{AreInOrder, runs_within};
+ghost use Rattle.slice_lists.specs.Runs.{AreInOrder, runs_within};
 ghost use Rattle.agg_store.specs.Stored.{IsStore};
 ghost use Rattle.time_lanes.specs.Held.{HasMoreRoom, HoldsFrom, LetsGo, partials_of};
 

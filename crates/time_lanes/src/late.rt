@@ -5,7 +5,7 @@ ghost use Rattle.stream_base.specs.Model.Windows.{within};
 ghost use Rattle.stream_base.specs.Vectors.{Adds, room};
 ghost use Rattle.aggregates.specs.Bundled.{bundle_of};
 ghost use Rattle.slice_lists.specs.Slices.{values_of};
-ghost use Rattle.run_laws.specs.Runs.{runs_within};
+ghost use Rattle.slice_lists.specs.Runs.{runs_within};
 ghost use Rattle.agg_store.specs.Stored.{IsStore, tuples_of};
 ghost use Rattle.time_lanes.specs.Folds.{IsShared, MayShare, slices_under};
 ghost use Rattle.time_lanes.specs.Told.{again_or_new, complete_starts, ended, former_at, starts_from, told_at, told_late};

@@ -1,6 +1,6 @@
 //! The next slice of a store, and the next interval that is due.
 ghost use Rattle.std.specs.Prelude.{◌≡◌, [], IfSome, IfNone, length};
-ghost use Rattle.run_laws.specs.Runs.{runs_within};
+ghost use Rattle.slice_lists.specs.Runs.{runs_within};
 ghost use Rattle.window_laws.specs.Walk.{due_from};
 ghost use Rattle.agg_store.specs.Stored.{IsStore, tuples_of};
 ghost use Rattle.time_lanes.specs.Held.{IsEndFrom, IsNextDue, IsNextIn};

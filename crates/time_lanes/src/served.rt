@@ -1,8 +1,6 @@
 //! The window that a lane serves.
 ghost use Rattle.std.specs.Prelude.{◌≡◌, All, true};
-ghost use Rattle.stream_base.specs.Laws.{is_timed};
-ghost use Rattle.stream_base.specs.Limits.{IsKindWithin};
-ghost use Rattle.window_laws.specs.Late.{length_of, slide_of};
+ghost use Rattle.stream_base.specs.Kinds.{IsKindWithin, is_timed, length_of, slide_of};
 ghost use Rattle.agg_store.specs.Stored.{Stored};
 ghost use Rattle.time_lanes.specs.Spans.{ArePartedAt, IsServedOver, IsWindowAt, is_served};
 

@@ -1,9 +1,7 @@
 //! How the intervals of a tumbling or sliding window lie.
 ghost use Rattle.std.specs.Prelude.{◌≡◌, ◌≤◌, ◌+◌, ◌*◌, ◌/◌, true};
 ghost use Rattle.stream_base.specs.declared.limits.TheConstants.{FINAL};
-ghost use Rattle.stream_base.specs.Laws.{is_timed};
-ghost use Rattle.stream_base.specs.Limits.{IsKindWithin};
-ghost use Rattle.window_laws.specs.Late.{length_of, slide_of};
+ghost use Rattle.stream_base.specs.Kinds.{IsKindWithin, is_timed, length_of, slide_of};
 ghost use Rattle.window_laws.specs.Walk.{next_start};
 ghost use Rattle.time_lanes.specs.Spans.{IsSpan, last_end};
 

@@ -12,8 +12,8 @@ use Rattle.stream_base.specs.declared.kept.Kept.{Kept}
 use Rattle.stream_base.specs.declared.kind.Kind.{Kind}
 use Rattle.stream_base.specs.declared.kind.Kind.TheVariants.{Tumbling, Sliding, Session, Marks, Events}
 use Rattle.stream_base.specs.declared.limits.TheConstants.{FINAL, TIME_MAX}
-use Rattle.stream_base.specs.Laws.{becomes_complete, completions, is_timed}
-use Rattle.stream_base.specs.Limits.{IsKindWithin}
+use Rattle.stream_base.specs.Laws.{becomes_complete, completions}
+use Rattle.stream_base.specs.Kinds.{IsKindWithin, is_timed}
 use Rattle.stream_base.specs.Model.Changes.{Moment, row_of}
 use Rattle.stream_base.specs.Model.Windows.{Instance, counted, instances_of, interval, ranks, spans, starts_of}
 use Rattle.stream_base.proofs.Distinct.{All_from_members}

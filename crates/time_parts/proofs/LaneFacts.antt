@@ -7,7 +7,8 @@ use Rattle.std.specs.Option.{option_map_or}
 use Rattle.std.proofs.lemmas.Bool.{false≢true, and_right, cases_Bool, lt-leb}
 use Rattle.std.proofs.lemmas.List.{length-map, take-append-drop}
 use Rattle.std.proofs.lemmas.List.Elements.{All-cons, All-weaker}
-use Rattle.stream_base.specs.Limits.{Definitions, IsKindWithin}
+use Rattle.stream_base.specs.Limits.{Definitions}
+use Rattle.stream_base.specs.Kinds.{IsKindWithin, is_events, is_timed, length_of}
 use Rattle.stream_base.specs.declared.change.Change.{Change}
 use Rattle.stream_base.specs.declared.change.Change.TheVariants.{New}
 use Rattle.stream_base.specs.declared.former.Former.{Former}
@@ -16,20 +17,18 @@ use Rattle.stream_base.specs.declared.kept.Kept.{Kept}
 use Rattle.stream_base.specs.declared.kind.Kind.{Kind}
 use Rattle.stream_base.specs.declared.kind.Kind.TheVariants.{Tumbling, Sliding, Session, Marks, Events}
 use Rattle.stream_base.specs.declared.limits.TheConstants.{FINAL}
-use Rattle.stream_base.specs.Laws.{TimesDoNotFall, becomes_complete, completions, is_timed}
+use Rattle.stream_base.specs.Laws.{TimesDoNotFall, becomes_complete, completions}
 use Rattle.stream_base.specs.Model.Changes.{Moment, emissions, retractions, row_of}
 use Rattle.stream_base.specs.Model.Journal.{put_in_order}
-use Rattle.stream_base.specs.Model.Slices.{is_events}
 use Rattle.stream_base.specs.Model.Windows.{Instance, instances_of, standing_of}
 use Rattle.stream_base.proofs.ChangeFacts.{none_emitted, none_retracted}
 use Rattle.stream_base.proofs.Distinct.{standing_rises}
 use Rattle.window_laws.specs.After.{with_mark, with_tuple}
 use Rattle.window_laws.specs.Due.{first_open}
-use Rattle.window_laws.specs.Late.{length_of}
 use Rattle.window_laws.proofs.InstanceFacts.{bounds_do_not_fall}
 use Rattle.window_laws.proofs.LateFacts.{timed_none_gone}
 use Rattle.stream_base.proofs.Filters.{filter_none}
-use Rattle.run_laws.proofs.Order.{nd_head, nd_tail}
+use Rattle.slice_lists.proofs.Order.{nd_head, nd_tail}
 use Rattle.window_laws.proofs.SettledFacts.{all_member}
 use Rattle.agg_store.specs.Stored.{Stored, tuples_of}
 use Rattle.time_lanes.specs.Told.{former_at}

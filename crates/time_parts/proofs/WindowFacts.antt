@@ -9,20 +9,19 @@ use Rattle.std.proofs.lemmas.List.Elements.{All-contains, All-drop, Contains-app
 use Rattle.std.proofs.lemmas.List.Sorted.{IsNonDecreasingBy-drop}
 use Rattle.std.proofs.lemmas.Nat.{le-div, div-add-mod', mod_below}
 use Rattle.std.proofs.lemmas.Option.{get_or_from_slice_get}
-use Rattle.stream_base.specs.Limits.{Definitions, IsKindWithin}
+use Rattle.stream_base.specs.Limits.{Definitions}
+use Rattle.stream_base.specs.Kinds.{IsKindWithin, is_timed, length_of, slide_of}
 use Rattle.stream_base.specs.declared.def.Def.{Def}
 use Rattle.stream_base.specs.declared.func.Func.TheVariants.{Count}
 use Rattle.stream_base.specs.declared.kept.Kept.{Kept}
 use Rattle.stream_base.specs.declared.kind.Kind.TheVariants.{Marks}
 use Rattle.stream_base.specs.declared.limits.TheConstants.{FINAL}
-use Rattle.stream_base.specs.Laws.{is_timed}
 use Rattle.stream_base.specs.Model.Changes.{Moment}
 use Rattle.stream_base.specs.Model.Slices.{is_settled, is_settled_in}
 use Rattle.stream_base.specs.Model.Windows.{is_within, starts_holding, within}
 use Rattle.stream_base.proofs.Distinct.{All_from_members}
 use Rattle.stream_base.proofs.Spans.{starts_holding_members}
 use Rattle.window_laws.specs.After.{at_water}
-use Rattle.window_laws.specs.Late.{length_of, slide_of}
 use Rattle.window_laws.specs.Positions.{AreKept, HaveDistinctPositions}
 use Rattle.window_laws.specs.Settled.{MayLeave, last_end_of, without_first}
 use Rattle.window_laws.specs.Walk.{next_start}

@@ -4,7 +4,7 @@ use Rattle.std.specs.Option.{option_map_or}
 use Rattle.std.proofs.Common.{arith}
 use Rattle.stream_base.specs.Limits.{Definitions}
 use Rattle.stream_base.specs.Model.Changes.{Moment}
-use Rattle.stream_base.specs.Model.Slices.{is_events}
+use Rattle.stream_base.specs.Kinds.{is_events}
 use Rattle.window_laws.specs.After.{at_water}
 use Rattle.count_shift.specs.Counting.{count_of, later, move_changes, put_changes}
 use Rattle.count_shift.specs.Lane.{Follows, Laned}

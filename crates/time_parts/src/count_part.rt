@@ -1,7 +1,7 @@
 //! The part of a window of event counts.
 ghost use Rattle.std.specs.Prelude.{◌≡◌, ◌≤◌};
 ghost use Rattle.stream_base.specs.declared.kind.Kind.TheVariants.{Events};
-ghost use Rattle.stream_base.specs.Limits.{IsKindWithin};
+ghost use Rattle.stream_base.specs.Kinds.{IsKindWithin};
 ghost use Rattle.count_shift.specs.Counting.{IsEvents, count_of};
 ghost use Rattle.key_parts.specs.Calls.{window_at};
 ghost use Rattle.time_parts.specs.Counted.{CountsAt};

@@ -12,7 +12,7 @@ use Rattle.stream_base.specs.declared.kept.Kept.{Kept}
 use Rattle.stream_base.specs.Laws.{TimesDoNotFall}
 use Rattle.stream_base.specs.Model.Journal.{put_in_order}
 use Rattle.stream_base.specs.Model.Windows.{last_time}
-use Rattle.run_laws.proofs.Order.{All-split, nd_cons, nd_nil, nd_split}
+use Rattle.slice_lists.proofs.Order.{All-split, nd_cons, nd_nil, nd_split}
 use Rattle.slice_lists.proofs.SliceOrder.{put_far}
 use Rattle.tuple_chunks.specs.Parts.{AreParts, IsEntry}
 use Rattle.tuple_chunks.proofs.Putting.{put_times}

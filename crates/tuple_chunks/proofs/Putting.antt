@@ -9,8 +9,8 @@ use Rattle.stream_base.specs.Laws.{TimesDoNotFall}
 use Rattle.stream_base.specs.Model.Journal.{put_in_order}
 use Rattle.stream_base.proofs.EventOrder.{All_put}
 use Rattle.stream_base.proofs.Filters.{cases_of}
-use Rattle.run_laws.proofs.Order.{nd_cons, nd_head, nd_nil, nd_tail}
-use Rattle.run_laws.proofs.RunFacts.{put_behind, put_first}
+use Rattle.slice_lists.proofs.Order.{nd_cons, nd_head, nd_nil, nd_tail}
+use Rattle.slice_lists.proofs.RunFacts.{put_behind, put_first}
 
 -- times don't fall with one tuple more
 pub put_times : (kept : List Kept) (x : Kept) → TimesDoNotFall kept → TimesDoNotFall (put_in_order kept x)

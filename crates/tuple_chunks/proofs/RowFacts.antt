@@ -9,7 +9,7 @@ use Rattle.stream_base.specs.declared.kept.Kept.{Kept}
 use Rattle.stream_base.specs.Laws.{TimesDoNotFall}
 use Rattle.stream_base.specs.Model.Windows.{first_time, is_within, last_time, within}
 use Rattle.aggregates.specs.Bundled.{Bundled}
-use Rattle.run_laws.proofs.Order.{nd_split}
+use Rattle.slice_lists.proofs.Order.{nd_split}
 use Rattle.tuple_chunks.specs.Parts.{AreParts, IsReady, IsRow}
 use Rattle.tuple_chunks.specs.Sums.{IsSum}
 use Rattle.tuple_chunks.proofs.PartFacts.{parts_at, taken_length, taken_within}

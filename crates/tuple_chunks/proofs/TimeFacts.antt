@@ -10,8 +10,8 @@ use Rattle.stream_base.specs.Laws.{TimesDoNotFall}
 use Rattle.stream_base.specs.Model.Journal.{put_in_order}
 use Rattle.stream_base.specs.Model.Windows.{first_time, is_within, last_time, within}
 use Rattle.stream_base.proofs.Filters.{cases_of, filter_all, filter_none}
-use Rattle.run_laws.proofs.Order.{nd_head, nd_tail}
-use Rattle.run_laws.proofs.RunFacts.{put_behind, put_first}
+use Rattle.slice_lists.proofs.Order.{nd_head, nd_tail}
+use Rattle.slice_lists.proofs.RunFacts.{put_behind, put_first}
 
 pub below_last : (xs : List Kept) → TimesDoNotFall xs → All (λ (y : Kept). y.time ≤ last_time xs) xs
 below_last [] h = All-nil (λ (y : Kept). y.time ≤ last_time [])

@@ -10,7 +10,8 @@ use Rattle.stream_base.specs.declared.func.Func.{Func}
 use Rattle.stream_base.specs.declared.kind.Kind.{Kind}
 use Rattle.stream_base.specs.declared.kind.Kind.TheVariants as kinds
 use Rattle.stream_base.specs.declared.limits.TheConstants.{TIME_MAX, EVERY_MAX, WINDOWS_MAX}
-use Rattle.stream_base.specs.Limits.{is_kind_within, is_beyond, definitions_of, limit_fault}
+use Rattle.stream_base.specs.Limits.{is_beyond, definitions_of, limit_fault}
+use Rattle.stream_base.specs.Kinds.{is_kind_within}
 use Rattle.toml.specs.Data.{Data}
 use Rattle.window_defs.specs.declared.defs_fault.DefsFault.{DefsFault}
 use Rattle.window_defs.specs.declared.defs_fault.DefsFault.TheVariants.{Long, Toml, Shape, Many, Limit, NoMemory}

@@ -5,7 +5,8 @@ use Rattle.std.specs.Str.{bytes_eq}
 use Rattle.toml.specs.Data.{Data, Members}
 use Rattle.stream_base.specs.declared.limits.TheConstants.{TIME_MAX, EVERY_MAX, WINDOWS_MAX}
 use Rattle.stream_base.specs.declared.def.Def.{Def}
-use Rattle.stream_base.specs.Limits.{Definitions, definitions_of, is_from_one_to}
+use Rattle.stream_base.specs.Limits.{Definitions, definitions_of}
+use Rattle.stream_base.specs.Kinds.{is_from_one_to}
 use Rattle.window_defs.specs.declared.read.TheConstants.{BYTES_MAX}
 use Rattle.window_defs.specs.declared.defs_fault.DefsFault.{DefsFault}
 use Rattle.window_defs.specs.declared.defs_fault.DefsFault.TheVariants.{Long, Toml, Shape, Many, Limit, NoMemory}

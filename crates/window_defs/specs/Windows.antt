@@ -8,7 +8,7 @@ use Rattle.stream_base.specs.declared.kind.Kind.{Kind}
 use Rattle.stream_base.specs.declared.kind.Kind.TheVariants as kinds
 use Rattle.stream_base.specs.declared.func.Func.{Func}
 use Rattle.stream_base.specs.declared.func.Func.TheVariants.{Count, Sum, Min, Max, Mean, First, Last, Rises, Trace}
-use Rattle.stream_base.specs.Limits.{is_kind_within}
+use Rattle.stream_base.specs.Kinds.{is_kind_within}
 use Rattle.window_defs.specs.declared.kind_name.KindName.{KindName}
 use Rattle.window_defs.specs.declared.kind_name.KindName.TheVariants.{Tumbling, Sliding, Session, Marks, Events}
 use Rattle.window_defs.specs.declared.raw_kind.RawKind.{RawKind}

@@ -17,10 +17,10 @@ use Rattle.stream_base.specs.declared.limits.TheConstants.{FINAL}
 use Rattle.stream_base.specs.declared.what.What.{What}
 use Rattle.stream_base.specs.declared.what.What.TheVariants.{Tuple, Mark, Water, Idle, End}
 use Rattle.stream_base.specs.Laws.{TimesDoNotFall}
-use Rattle.stream_base.specs.Limits.{AreWithinLimits, Definitions, IsKindWithin}
+use Rattle.stream_base.specs.Limits.{AreWithinLimits, Definitions}
+use Rattle.stream_base.specs.Kinds.{IsKindWithin, is_events}
 use Rattle.stream_base.specs.Model.Changes.{changes_after, moment_of, standing_at}
 use Rattle.stream_base.specs.Model.Journal.{kept_of, marks_of, put_in_order}
-use Rattle.stream_base.specs.Model.Slices.{is_events}
 use Rattle.stream_base.specs.Model.Watermark.{water_of}
 use Rattle.stream_base.specs.Model.What.{is_late, key_in, mark_in, tuple_in}
 use Rattle.stream_base.specs.Model.Windows.{Instance, instances_of, interval, is_complete, is_selecting, is_within, last_time, ranks, sessions, standing_of, stretches, within}
@@ -37,7 +37,7 @@ use Rattle.window_laws.specs.Stretches.{if_selecting}
 use Rattle.window_laws.proofs.CountFacts.{same_chosen, standing_of_counts, upper_put_passes, upper_rises}
 use Rattle.window_laws.proofs.InstanceFacts.{bounds_are_ends, sessions_select}
 use Rattle.stream_base.proofs.Filters.{filter_none}
-use Rattle.run_laws.proofs.Order.{All-split}
+use Rattle.slice_lists.proofs.Order.{All-split}
 use Rattle.window_laws.proofs.SessionFacts.{put_times, sessions_after_put}
 use Rattle.window_laws.proofs.StretchFacts.{stretches_after_mark, stretches_after_put}
 

@@ -28,7 +28,7 @@ use Rattle.window_laws.specs.Positions.{HaveDistinctPositions}
 use Rattle.window_laws.proofs.InstanceFacts.{in_counts, ranks_bound}
 use Rattle.window_laws.proofs.LateFacts.{filter_map_map, filter_map_none, find_none, find_start, one_more, same_itself}
 use Rattle.stream_base.proofs.Filters.{filter_none}
-use Rattle.run_laws.proofs.Order.{nd_head, nd_tail}
+use Rattle.slice_lists.proofs.Order.{nd_head, nd_tail}
 use Rattle.window_laws.proofs.SessionFacts.{put_times}
 
 -- a tuple is at or before a time exactly where it is among so many first ones

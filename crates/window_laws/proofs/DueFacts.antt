@@ -11,7 +11,7 @@ use Rattle.stream_base.specs.declared.def.Def.{Def}
 use Rattle.stream_base.specs.declared.change.Change.TheVariants.{New}
 use Rattle.stream_base.specs.declared.limits.TheConstants.{FINAL}
 use Rattle.stream_base.specs.Laws.{TimesDoNotFall, becomes_complete, completions}
-use Rattle.stream_base.specs.Limits.{IsKindWithin}
+use Rattle.stream_base.specs.Kinds.{IsKindWithin}
 use Rattle.stream_base.specs.Model.Changes.{Moment, row_of}
 use Rattle.stream_base.specs.Model.Windows.{Instance, instances_of}
 use Rattle.stream_base.proofs.ChangeFacts.{enumerate_members, flat_map_none, flat_map_same}
@@ -20,7 +20,7 @@ use Rattle.stream_base.proofs.Rising.{none_in_nil, Contains-cons_cases}
 use Rattle.window_laws.specs.After.{at_water}
 use Rattle.window_laws.specs.Due.{completed_of, first_open, next_bound, open_bounds}
 use Rattle.window_laws.proofs.InstanceFacts.{bounds_do_not_fall}
-use Rattle.run_laws.proofs.Order.{All-map_of, nd_head, nd_tail}
+use Rattle.slice_lists.proofs.Order.{All-map_of, nd_head, nd_tail}
 
 pub least_below : (start : ℕ) (xs : List ℕ) → fold min start xs ≤ start
 least_below start [] = omega arith

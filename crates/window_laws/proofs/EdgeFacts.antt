@@ -11,11 +11,11 @@ use Rattle.stream_base.specs.declared.kept.Kept.{Kept}
 use Rattle.stream_base.specs.declared.kind.Kind.{Kind}
 use Rattle.stream_base.specs.declared.kind.Kind.TheVariants.{Tumbling, Sliding, Session, Marks, Events}
 use Rattle.stream_base.specs.declared.limits.TheConstants.{FINAL}
-use Rattle.stream_base.specs.Laws.{TimesDoNotFall, is_timed}
-use Rattle.stream_base.specs.Limits.{IsKindWithin}
-use Rattle.stream_base.specs.Model.Cuts.{CutsBetween, has_cut}
+use Rattle.stream_base.specs.Laws.{TimesDoNotFall}
+use Rattle.stream_base.specs.Kinds.{CutsBetween, IsKindWithin, is_events, is_timed, length_of, slide_of}
+use Rattle.stream_base.specs.Model.Cuts.{has_cut}
 use Rattle.stream_base.specs.Model.Journal.{rising}
-use Rattle.stream_base.specs.Model.Slices.{is_events, runs_of}
+use Rattle.stream_base.specs.Model.Slices.{runs_of}
 use Rattle.stream_base.specs.Model.Windows.{Instance, between_times, first_time, instances_of, interval, is_selecting, is_within, last_time, pieces_of, session, sessions, spans, starts_of, within}
 use Rattle.stream_base.proofs.CutFacts.{cut_decides}
 use Rattle.stream_base.proofs.Distinct.{All_from_members}
@@ -23,12 +23,11 @@ use Rattle.stream_base.proofs.Members.{filter_members, flat_map_has, map_members
 use Rattle.stream_base.proofs.Pieces.{pieces_joined}
 use Rattle.stream_base.proofs.Rising.{nat_rising_is_sorted, Contains-cons_cases, Contains-from_rising, Contains-head, Contains-tail, none_in_nil}
 use Rattle.stream_base.proofs.Spans.{starts_of_members}
-use Rattle.window_laws.specs.Late.{length_of, slide_of}
-use Rattle.run_laws.specs.Runs.{AreParted, IsAligned, IsRun, runs_within}
+use Rattle.slice_lists.specs.Runs.{AreParted, IsAligned, IsRun, runs_within}
 use Rattle.window_laws.specs.Walk.{IsFirstFrom}
 use Rattle.window_laws.proofs.InstanceFacts.{All-joined, above_span, below_span, between_ends, gap_cut, inside_span, session_far, session_near, session_runs, spans_hold_selections}
 use Rattle.stream_base.proofs.Filters.{filter_all, filter_none}
-use Rattle.run_laws.proofs.Order.{All-split, IsApart, IsNear, amid, pieces_in_order, run_spans, runs_are_runs, runs_before, runs_behind}
+use Rattle.slice_lists.proofs.Order.{All-split, IsApart, IsNear, amid, pieces_in_order, run_spans, runs_are_runs, runs_before, runs_behind}
 
 -- ---- the sides of a session
 -- a tuple lies at least the gap in front of a session, in it, or at or behind its end

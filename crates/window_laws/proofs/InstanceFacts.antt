@@ -15,9 +15,8 @@ use Rattle.stream_base.specs.declared.kept.Kept.{Kept}
 use Rattle.stream_base.specs.declared.kind.Kind.{Kind}
 use Rattle.stream_base.specs.declared.kind.Kind.TheVariants.{Tumbling, Sliding, Session, Marks, Events}
 use Rattle.stream_base.specs.Laws.{TimesDoNotFall}
-use Rattle.stream_base.specs.Limits.{IsKindWithin}
+use Rattle.stream_base.specs.Kinds.{IsKindWithin, is_events}
 use Rattle.stream_base.specs.Model.Journal.{rising}
-use Rattle.stream_base.specs.Model.Slices.{is_events}
 use Rattle.stream_base.specs.Model.Windows.{Instance, between_times, counted, first_time, instances_of, interval, is_complete, is_selecting, is_within, last_time, pieces_of, ranks, session, sessions, spans, standing_of, starts_of, stretches, within}
 use Rattle.stream_base.proofs.Distinct.{All_from_members, lt_from_less}
 use Rattle.stream_base.proofs.Members.{range_members}
@@ -27,9 +26,9 @@ use Rattle.stream_base.proofs.Spans.{starts_of_is_sorted}
 use Rattle.std.proofs.lemmas.Cmp.{nat_cmp_total}
 use Rattle.std.proofs.lemmas.Nat.{div-add-mod'}
 use Rattle.window_laws.specs.Instances.{completed, incomplete}
-use Rattle.run_laws.specs.Runs.{AreParted, IsRun}
+use Rattle.slice_lists.specs.Runs.{AreParted, IsRun}
 use Rattle.stream_base.proofs.Filters.{filter_all, filter_none}
-use Rattle.run_laws.proofs.Order.{All-map_of, All-split, IsApart, IsNear, amid, ends_rise, nd_cons, nd_head, nd_map, nd_nil, nd_sorted, nd_tail, pieces_in_order, run_spans, runs_are_runs, runs_before, runs_behind}
+use Rattle.slice_lists.proofs.Order.{All-map_of, All-split, IsApart, IsNear, amid, ends_rise, nd_cons, nd_head, nd_map, nd_nil, nd_sorted, nd_tail, pieces_in_order, run_spans, runs_are_runs, runs_before, runs_behind}
 
 -- ---- bounds don't fall
 spans_bounds : (length slide : ℕ) (kept : List Kept) → IsNonDecreasingBy (λ (i : Instance). i.bound) (spans length slide kept)

@@ -19,9 +19,9 @@ use Rattle.stream_base.specs.Model.What.{is_late, is_what_within, tuple_in}
 use Rattle.stream_base.proofs.EventOrder.{All_put, from_the_front, kept_positions_below}
 use Rattle.stream_base.proofs.Growing.{kept_of_nil, kept_of_push}
 use Rattle.window_laws.specs.Positions.{AreKept, HaveDistinctPositions}
-use Rattle.run_laws.proofs.Order.{All-split}
+use Rattle.slice_lists.proofs.Order.{All-split}
 use Rattle.stream_base.proofs.Filters.{cases_of}
-use Rattle.run_laws.proofs.RunFacts.{put_behind, put_first}
+use Rattle.slice_lists.proofs.RunFacts.{put_behind, put_first}
 use Rattle.window_laws.proofs.SessionFacts.{put_times}
 
 -- distinct positions with one tuple more of another position

@@ -14,9 +14,9 @@ use Rattle.std.proofs.lemmas.List.Kept.{IsStrictlySortedBy-filter}
 use Rattle.stream_base.specs.declared.change.Change.TheVariants.{New, Again, Gone}
 use Rattle.stream_base.specs.declared.func.Func.{Func}
 use Rattle.stream_base.specs.declared.kept.Kept.{Kept}
-use Rattle.stream_base.specs.Model.Changes.{are_same_tuples, emission, emitted, former_of, is_same, retraction, row_of}
+use Rattle.stream_base.specs.Model.Changes.{are_same_tuples, emission, emitted, former_of, is_same, retraction, row_of, Moment, emissions, retractions}
 use Rattle.stream_base.specs.Model.Journal.{put_in_order}
-use Rattle.stream_base.specs.Model.Windows.{Instance, interval, is_complete, is_within, spans, starts_holding, starts_of, within}
+use Rattle.stream_base.specs.Model.Windows.{Instance, interval, is_complete, is_within, spans, starts_holding, starts_of, within, instances_of, standing_of}
 use Rattle.stream_base.proofs.Distinct.{less_from_lt, All_from_members}
 use Rattle.stream_base.proofs.ChangeFacts.{any_from_member}
 use Rattle.stream_base.proofs.Members.{filter_has, range_members, filter_map_of, filter_members, map_has, map_members}
@@ -25,12 +25,9 @@ use Rattle.stream_base.proofs.Spans.{starts_of_has, starts_holding_members, star
 use Rattle.stream_base.specs.declared.def.Def.{Def}
 use Rattle.stream_base.specs.declared.kind.Kind.{Kind}
 use Rattle.stream_base.specs.declared.kind.Kind.TheVariants.{Tumbling, Sliding, Session, Marks, Events}
-use Rattle.stream_base.specs.Laws.{is_timed}
-use Rattle.stream_base.specs.Limits.{IsKindWithin}
-use Rattle.stream_base.specs.Model.Changes.{Moment, emissions, retractions}
-use Rattle.stream_base.specs.Model.Windows.{instances_of, standing_of}
+use Rattle.stream_base.specs.Kinds.{IsKindWithin, is_timed, length_of, slide_of}
 use Rattle.window_laws.specs.After.{with_tuple}
-use Rattle.window_laws.specs.Late.{changes_of_late, late_change, late_changes, length_of, slide_of}
+use Rattle.window_laws.specs.Late.{changes_of_late, late_change, late_changes}
 
 -- a list of which each element is passed or not, filtered and mapped at once
 filter_map_as : {X Y : Type 0} (h : X → Option Y) (p : X → Bool) (f : X → Y) (xs : List X) → ((x : X) → Contains xs x → h x ≡ cond (p x) (Some (f x)) None) → filter_map h xs ≡ map f (filter p xs)

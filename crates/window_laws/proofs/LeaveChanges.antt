@@ -17,10 +17,11 @@ use Rattle.stream_base.specs.declared.kind.Kind.{Kind}
 use Rattle.stream_base.specs.declared.kind.Kind.TheVariants.{Tumbling, Sliding, Session, Marks, Events}
 use Rattle.stream_base.specs.declared.limits.TheConstants.{FINAL}
 use Rattle.stream_base.specs.Laws.{RiseByStart, TimesDoNotFall, becomes_complete, completions}
-use Rattle.stream_base.specs.Limits.{Definitions, IsKindWithin}
+use Rattle.stream_base.specs.Limits.{Definitions}
+use Rattle.stream_base.specs.Kinds.{IsKindWithin, is_events}
 use Rattle.stream_base.specs.Model.Changes.{Moment, emissions, retractions, row_of}
 use Rattle.stream_base.specs.Model.Journal.{put_in_order}
-use Rattle.stream_base.specs.Model.Slices.{is_events, is_settled, is_settled_in, unsettled}
+use Rattle.stream_base.specs.Model.Slices.{is_settled, is_settled_in, unsettled}
 use Rattle.stream_base.specs.Model.Windows.{Instance, instances_of, interval, is_selecting, is_within, stretches, within}
 use Rattle.stream_base.proofs.ChangeFacts.{none_emitted, none_retracted}
 use Rattle.stream_base.proofs.Distinct.{All_from_members, instances_rise, standing_rises}
@@ -35,7 +36,7 @@ use Rattle.window_laws.proofs.InstanceFacts.{bounds_do_not_fall, split_at_water}
 use Rattle.window_laws.proofs.LeaveFacts.{EndBy, firsts_leave, not_within}
 use Rattle.window_laws.proofs.MiddleFacts.{complete_come, complete_gone}
 use Rattle.stream_base.proofs.Filters.{filter_none}
-use Rattle.run_laws.proofs.RunFacts.{put_behind}
+use Rattle.slice_lists.proofs.RunFacts.{put_behind}
 use Rattle.window_laws.proofs.SessionFacts.{put_times}
 use Rattle.window_laws.proofs.SettledFacts.{all_member, settled_by_times, settled_first}
 use Rattle.window_laws.proofs.SettledMoves.{has_interval, mark_keeps_settled, move_keeps_settled, settled_lies_before, stays_at_put, tuple_keeps_settled}

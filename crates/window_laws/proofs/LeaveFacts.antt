@@ -13,18 +13,17 @@ use Rattle.stream_base.specs.declared.kind.Kind.{Kind}
 use Rattle.stream_base.specs.declared.kind.Kind.TheVariants.{Tumbling, Sliding, Session, Marks, Events}
 use Rattle.stream_base.specs.declared.limits.TheConstants.{FINAL}
 use Rattle.stream_base.specs.Laws.{TimesDoNotFall}
-use Rattle.stream_base.specs.Limits.{IsKindWithin}
+use Rattle.stream_base.specs.Kinds.{IsKindWithin, is_events}
 use Rattle.stream_base.specs.Model.Journal.{rising}
-use Rattle.stream_base.specs.Model.Slices.{is_events}
 use Rattle.stream_base.specs.Model.Windows.{Instance, between_times, glued, instances_of, interval, is_selecting, is_within, last_time, pieces_of, session, spans, starts_of, stretches, within}
 use Rattle.stream_base.proofs.Members.{filter_has, filter_map_of, filter_members, map_has, map_same}
 use Rattle.stream_base.proofs.Rising.{nat_rising_is_sorted, same_members_same_list, Contains-cons_cases, Contains-head, Contains-tail, none_in_nil}
 use Rattle.stream_base.proofs.Spans.{starts_of_has, starts_of_is_sorted, starts_of_members}
 use Rattle.window_laws.specs.Instances.{incomplete}
-use Rattle.run_laws.specs.Runs.{AreParted}
+use Rattle.slice_lists.specs.Runs.{AreParted}
 use Rattle.window_laws.proofs.InstanceFacts.{below_span, above_span, between_ends, gap_cut, inside_span, session_far, session_near, session_runs}
 use Rattle.window_laws.proofs.LateFacts.{some_of_member}
-use Rattle.run_laws.proofs.Order.{IsApart, IsNear, nd_tail, run_spans}
+use Rattle.slice_lists.proofs.Order.{IsApart, IsNear, nd_tail, run_spans}
 use Rattle.window_laws.proofs.SettledMoves.{span_of_other}
 
 -- every instance of a window whose span holds the time ends at or before another time

@@ -16,8 +16,8 @@ use Rattle.stream_base.specs.declared.kept.Kept.{Kept}
 use Rattle.stream_base.specs.declared.kind.Kind.{Kind}
 use Rattle.stream_base.specs.declared.kind.Kind.TheVariants.{Tumbling, Sliding, Session, Marks, Events}
 use Rattle.stream_base.specs.declared.limits.TheConstants.{FINAL}
-use Rattle.stream_base.specs.Laws.{TimesDoNotFall, is_timed}
-use Rattle.stream_base.specs.Limits.{IsKindWithin}
+use Rattle.stream_base.specs.Laws.{TimesDoNotFall}
+use Rattle.stream_base.specs.Kinds.{IsKindWithin, is_timed, length_of}
 use Rattle.stream_base.specs.Model.Changes.{Moment}
 use Rattle.stream_base.specs.Model.Windows.{Instance, counted, instances_of, interval, ranks, spans, starts_of}
 use Rattle.stream_base.proofs.Distinct.{lt_from_less}
@@ -26,7 +26,6 @@ use Rattle.stream_base.proofs.Rising.{below_tail, Contains-cons_cases, Contains-
 use Rattle.stream_base.proofs.Spans.{starts_of_is_sorted, starts_of_members}
 use Rattle.window_laws.specs.Counts.{upper}
 use Rattle.window_laws.specs.Due.{first_open, time_of_number}
-use Rattle.window_laws.specs.Late.{length_of}
 use Rattle.window_laws.specs.Walk.{IsFirstFrom, WalksOn, due_from, next_start, next_start_of}
 use Rattle.window_laws.proofs.CountFacts.{complete_rank, none_of}
 use Rattle.window_laws.proofs.InstanceFacts.{in_counts, ranks_bound}

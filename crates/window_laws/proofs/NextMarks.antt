@@ -25,7 +25,7 @@ use Rattle.window_laws.proofs.DueFacts.{least_of}
 use Rattle.window_laws.proofs.EdgeFacts.{session_sides}
 use Rattle.window_laws.proofs.InstanceFacts.{bounds_are_ends, inside_span, session_runs, sessions_select, spans_hold_selections}
 use Rattle.window_laws.proofs.LateFacts.{find_none, some_of_member}
-use Rattle.run_laws.proofs.Order.{All-map_of, amid}
+use Rattle.slice_lists.proofs.Order.{All-map_of, amid}
 use Rattle.window_laws.proofs.SettledMoves.{only_interval, session_last, sessions_apart}
 use Rattle.window_laws.proofs.StretchFacts.{most_of, span_of_holder, stretches_after_put}
 

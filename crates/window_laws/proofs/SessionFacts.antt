@@ -11,12 +11,12 @@ use Rattle.stream_base.specs.Model.Journal.{put_in_order}
 use Rattle.stream_base.specs.Model.Windows.{Instance, first_time, last_time, pieces_of, session, sessions}
 use Rattle.stream_base.proofs.EventOrder.{All_put}
 use Rattle.stream_base.proofs.Members.{Contains-insert_new}
-use Rattle.run_laws.specs.Runs.{AreParted, IsPutInRuns, IsRun}
+use Rattle.slice_lists.specs.Runs.{AreParted, IsPutInRuns, IsRun}
 use Rattle.window_laws.specs.Sessions.{IsPutInSessions, joined_session}
 use Rattle.window_laws.proofs.InstanceFacts.{gap_cut, session_far, session_near, session_runs}
-use Rattle.run_laws.proofs.Order.{All-map_of, IsApart, IsNear, nd_cons, nd_head, nd_nil, nd_tail, run_spans, runs_before, runs_behind}
+use Rattle.slice_lists.proofs.Order.{All-map_of, IsApart, IsNear, nd_cons, nd_head, nd_nil, nd_tail, run_spans, runs_before, runs_behind}
 use Rattle.stream_base.proofs.Filters.{cases_of}
-use Rattle.run_laws.proofs.RunFacts.{pieces_after_put, put_behind, put_first}
+use Rattle.slice_lists.proofs.RunFacts.{pieces_after_put, put_behind, put_first}
 
 -- times don't fall with one tuple more
 pub put_times : (kept : List Kept) (x : Kept) → TimesDoNotFall kept → TimesDoNotFall (put_in_order kept x)

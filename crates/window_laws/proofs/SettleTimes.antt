@@ -10,10 +10,10 @@ use Rattle.stream_base.specs.declared.kept.Kept.{Kept}
 use Rattle.stream_base.specs.declared.kind.Kind.{Kind}
 use Rattle.stream_base.specs.declared.kind.Kind.TheVariants.{Tumbling, Sliding, Session, Marks, Events}
 use Rattle.stream_base.specs.declared.limits.TheConstants.{FINAL}
-use Rattle.stream_base.specs.Laws.{TimesDoNotFall, is_timed}
-use Rattle.stream_base.specs.Limits.{IsKindWithin}
+use Rattle.stream_base.specs.Laws.{TimesDoNotFall}
+use Rattle.stream_base.specs.Kinds.{IsKindWithin, is_events, is_timed}
 use Rattle.stream_base.specs.Model.Changes.{Moment}
-use Rattle.stream_base.specs.Model.Slices.{is_events, is_settled_in}
+use Rattle.stream_base.specs.Model.Slices.{is_settled_in}
 use Rattle.stream_base.specs.Model.Windows.{Instance, instances_of, pieces_of, sessions, spans}
 use Rattle.stream_base.proofs.Rising.{Contains-cons_cases, Contains-head}
 use Rattle.window_laws.specs.Positions.{AreKept}
@@ -21,7 +21,7 @@ use Rattle.window_laws.specs.Settled.{IsSettledAt, last_end_of}
 use Rattle.window_laws.specs.Stretches.{next_mark}
 use Rattle.window_laws.proofs.InstanceFacts.{session_runs}
 use Rattle.window_laws.proofs.NextMarks.{stretch_span}
-use Rattle.run_laws.proofs.Order.{amid}
+use Rattle.slice_lists.proofs.Order.{amid}
 use Rattle.window_laws.proofs.SettledFacts.{settled_by_times, span_at, times_settle}
 use Rattle.window_laws.proofs.SettledMoves.{sessions_apart, span_low}
 use Rattle.window_laws.proofs.StretchFacts.{stretch_holding}

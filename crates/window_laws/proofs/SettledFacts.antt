@@ -13,10 +13,11 @@ use Rattle.stream_base.specs.declared.kind.Kind.{Kind}
 use Rattle.stream_base.specs.declared.kind.Kind.TheVariants.{Tumbling, Sliding, Session, Marks, Events}
 use Rattle.stream_base.specs.declared.limits.TheConstants.{FINAL}
 use Rattle.stream_base.specs.Laws.{TimesDoNotFall}
-use Rattle.stream_base.specs.Limits.{Definitions, IsKindWithin}
+use Rattle.stream_base.specs.Limits.{Definitions}
+use Rattle.stream_base.specs.Kinds.{IsKindWithin, is_events}
 use Rattle.stream_base.specs.Model.Changes.{Moment}
 use Rattle.stream_base.specs.Model.Cuts.{has_cut}
-use Rattle.stream_base.specs.Model.Slices.{is_events, is_settled, is_settled_in, selects, unsettled}
+use Rattle.stream_base.specs.Model.Slices.{is_settled, is_settled_in, selects, unsettled}
 use Rattle.stream_base.specs.Model.Windows.{Instance, first_time, instances_of, interval, is_within, last_time, pieces_of, session, sessions, spans, starts_of, within}
 use Rattle.stream_base.proofs.ChangeFacts.{any_from_member}
 use Rattle.stream_base.proofs.Members.{filter_has, filter_members, flat_map_members, map_has}
@@ -24,12 +25,12 @@ use Rattle.stream_base.proofs.Pieces.{pieces_joined}
 use Rattle.stream_base.proofs.Rising.{Contains-cons_cases, Contains-head, Contains-tail, none_in_nil}
 use Rattle.stream_base.proofs.Spans.{starts_of_has}
 use Rattle.window_laws.specs.Positions.{AreKept, HaveDistinctPositions}
-use Rattle.run_laws.specs.Runs.{IsRun}
+use Rattle.slice_lists.specs.Runs.{IsRun}
 use Rattle.window_laws.specs.Settled.{IsSettledAt, settled}
 use Rattle.window_laws.proofs.EdgeFacts.{edge_is_cut}
 use Rattle.window_laws.proofs.InstanceFacts.{gap_cut, inside_span, session_far, session_near, session_runs, spans_hold_selections}
 use Rattle.stream_base.proofs.Filters.{filter_all, filter_none}
-use Rattle.run_laws.proofs.Order.{IsApart, IsNear, nd_head, nd_tail, run_spans, runs_are_runs}
+use Rattle.slice_lists.proofs.Order.{IsApart, IsNear, nd_head, nd_tail, run_spans, runs_are_runs}
 use Rattle.window_laws.proofs.StretchFacts.{stretch_holding}
 
 -- ---- members and tests

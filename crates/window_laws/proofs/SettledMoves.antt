@@ -12,24 +12,25 @@ use Rattle.stream_base.specs.declared.kind.Kind.{Kind}
 use Rattle.stream_base.specs.declared.kind.Kind.TheVariants.{Tumbling, Sliding, Session, Marks, Events}
 use Rattle.stream_base.specs.declared.limits.TheConstants.{FINAL}
 use Rattle.stream_base.specs.Laws.{TimesDoNotFall}
-use Rattle.stream_base.specs.Limits.{Definitions, IsKindWithin}
+use Rattle.stream_base.specs.Limits.{Definitions}
+use Rattle.stream_base.specs.Kinds.{IsKindWithin, is_events}
 use Rattle.stream_base.specs.Model.Changes.{Moment}
 use Rattle.stream_base.specs.Model.Journal.{put_in_order}
-use Rattle.stream_base.specs.Model.Slices.{is_events, is_settled, is_settled_in, selects}
+use Rattle.stream_base.specs.Model.Slices.{is_settled, is_settled_in, selects}
 use Rattle.stream_base.specs.Model.Windows.{Instance, first_time, instances_of, interval, is_selecting, is_within, last_time, pieces_of, session, sessions, spans, starts_of, stretches, within}
 use Rattle.stream_base.proofs.Members.{filter_has, filter_members, flat_map_has, map_has, map_members, Contains-insert_new, Contains-insert_old}
 use Rattle.stream_base.proofs.Rising.{Contains-cons_cases, Contains-head, Contains-tail, none_in_nil}
 use Rattle.stream_base.proofs.Spans.{starts_of_has, starts_of_members}
 use Rattle.window_laws.specs.After.{at_water, with_mark, with_tuple}
 use Rattle.window_laws.specs.Positions.{AreKept}
-use Rattle.run_laws.specs.Runs.{AreParted, IsRun}
+use Rattle.slice_lists.specs.Runs.{AreParted, IsRun}
 use Rattle.window_laws.specs.Sessions.{IsPutInSessions, joined_session}
 use Rattle.window_laws.specs.Settled.{IsSettledAt}
 use Rattle.window_laws.specs.Stretches.{IsMarkedInStretches, IsPutInStretches, if_selecting}
 use Rattle.window_laws.proofs.EdgeFacts.{session_sides}
 use Rattle.window_laws.proofs.InstanceFacts.{gap_cut, inside_span, session_far, session_near, session_runs, sessions_select}
 use Rattle.window_laws.proofs.LateFacts.{some_of_member}
-use Rattle.run_laws.proofs.Order.{All-map_of, All-split, IsApart, IsNear, run_spans, runs_are_runs, runs_behind}
+use Rattle.slice_lists.proofs.Order.{All-map_of, All-split, IsApart, IsNear, run_spans, runs_are_runs, runs_behind}
 use Rattle.window_laws.proofs.SessionFacts.{put_times, sessions_after_put}
 use Rattle.window_laws.proofs.SettledFacts.{all_from, all_member, holding, settled_by_times, times_settle}
 use Rattle.window_laws.proofs.StretchFacts.{stretches_after_mark, stretches_after_put}

@@ -1,31 +1,14 @@
 -- What a late tuple changes of a tumbling or sliding window.
 use Rattle.std.specs.Prelude.{◌+◌, ℕ, List, filter, map, length, nat_le, if◌then◌else◌}
+use Rattle.stream_base.specs.Kinds.{length_of, slide_of}
 use Rattle.stream_base.specs.declared.change.Change.{Change}
 use Rattle.stream_base.specs.declared.change.Change.TheVariants.{New, Again}
 use Rattle.stream_base.specs.declared.def.Def.{Def}
 use Rattle.stream_base.specs.declared.func.Func.{Func}
 use Rattle.stream_base.specs.declared.kept.Kept.{Kept}
-use Rattle.stream_base.specs.declared.kind.Kind.{Kind}
-use Rattle.stream_base.specs.declared.kind.Kind.TheVariants.{Tumbling, Sliding, Session, Marks, Events}
 use Rattle.stream_base.specs.Model.Changes.{Moment, former_of, row_of}
 use Rattle.stream_base.specs.Model.Journal.{put_in_order}
 use Rattle.stream_base.specs.Model.Windows.{interval, is_selecting, starts_holding}
-
--- the length of the intervals of a tumbling or sliding window, and 0 for the other kinds
-abbrev pub length_of : Kind → ℕ
-length_of (Tumbling length) = length
-length_of (Sliding length slide) = length
-length_of (Session gap) = 0
-length_of Marks = 0
-length_of (Events count) = 0
-
--- how far one interval starts behind the other, and 0 for the other kinds
-abbrev pub slide_of : Kind → ℕ
-slide_of (Tumbling length) = length
-slide_of (Sliding length slide) = slide
-slide_of (Session gap) = 0
-slide_of Marks = 0
-slide_of (Events count) = 0
 
 -- the change of an interval that holds the tuple: an update with what stood where it held others before, and else an emission
 abbrev pub interval_change : ℕ → List ℕ → Func → ℕ → ℕ → List Kept → Kept → Change

@@ -3,11 +3,11 @@ use Rattle.std.specs.Prelude.{◌*◌, ◌/◌, ◌≡◌, ◌≤◌, ◌<◌, �
 use Rattle.std.specs.List.{Contains}
 use Rattle.stream_base.specs.declared.kept.Kept.{Kept}
 use Rattle.stream_base.specs.declared.kind.Kind.{Kind}
-use Rattle.stream_base.specs.Limits.{Definitions, IsKindWithin}
+use Rattle.stream_base.specs.Limits.{Definitions}
+use Rattle.stream_base.specs.Kinds.{IsKindWithin, length_of, slide_of}
 use Rattle.stream_base.specs.Model.Changes.{Moment}
 use Rattle.stream_base.specs.Model.Slices.{is_settled}
 use Rattle.stream_base.specs.Model.Windows.{Instance, instances_of}
-use Rattle.window_laws.specs.Late.{length_of, slide_of}
 use Rattle.window_laws.specs.Positions.{AreKept}
 
 -- what is kept and settled

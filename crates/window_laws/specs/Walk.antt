@@ -4,7 +4,7 @@ use Rattle.std.specs.List.{Contains}
 use Rattle.stream_base.specs.declared.kept.Kept.{Kept}
 use Rattle.stream_base.specs.declared.kind.Kind.{Kind}
 use Rattle.stream_base.specs.Model.Windows.{Instance, interval, starts_of}
-use Rattle.window_laws.specs.Late.{length_of, slide_of}
+use Rattle.stream_base.specs.Kinds.{length_of, slide_of}
 
 -- the first multiple of the slide whose interval ends after a time
 abbrev pub next_start : ℕ → ℕ → ℕ → ℕ

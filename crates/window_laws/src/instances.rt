@@ -4,8 +4,7 @@ ghost use Rattle.std.specs.List.Sorted.{IsNonDecreasingBy};
 ghost use Rattle.stream_base.specs.declared.kept.Kept.{Kept};
 ghost use Rattle.stream_base.specs.declared.kind.Kind.{Kind};
 ghost use Rattle.stream_base.specs.Laws.{TimesDoNotFall};
-ghost use Rattle.stream_base.specs.Limits.{IsKindWithin};
-ghost use Rattle.stream_base.specs.Model.Slices.{is_events};
+ghost use Rattle.stream_base.specs.Kinds.{IsKindWithin, is_events};
 ghost use Rattle.stream_base.specs.Model.Windows.{instances_of, standing_of, within};
 ghost use Rattle.window_laws.specs.Instances.{KeepsTimes, completed, incomplete, with_each};
 

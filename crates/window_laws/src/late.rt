@@ -2,8 +2,7 @@
 ghost use Rattle.std.specs.Prelude.{◌≡◌, true, [], List, ℕ};
 ghost use Rattle.stream_base.specs.declared.def.Def.{Def};
 ghost use Rattle.stream_base.specs.declared.kept.Kept.{Kept};
-ghost use Rattle.stream_base.specs.Laws.{is_timed};
-ghost use Rattle.stream_base.specs.Limits.{IsKindWithin};
+ghost use Rattle.stream_base.specs.Kinds.{IsKindWithin, is_timed};
 ghost use Rattle.stream_base.specs.Model.Changes.{Moment, emissions, retractions};
 ghost use Rattle.window_laws.specs.After.{with_tuple};
 ghost use Rattle.window_laws.specs.Late.{changes_of_late};

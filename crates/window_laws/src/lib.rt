@@ -2,7 +2,7 @@
 //! mark or a move of the watermark comes. What is kept of a key and its marks are lists, and no law
 //! knows how an engine stores them.
 //!
-//! *Stands on* the definitions of `stream_base`, and on `run_laws` for what becomes of slices.
+//! *Stands on* the definitions of `stream_base`, and on `slice_lists` for what becomes of slices.
 //! *Promise*: each law is the contract of a function that does nothing, and asks nothing of tuples and
 //! marks that a key's don't meet.
 //!

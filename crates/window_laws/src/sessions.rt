@@ -4,7 +4,7 @@ ghost use Rattle.stream_base.specs.declared.def.Def.{Def};
 ghost use Rattle.stream_base.specs.declared.kept.Kept.{Kept};
 ghost use Rattle.stream_base.specs.declared.kind.Kind.TheVariants.{Session};
 ghost use Rattle.stream_base.specs.Laws.{TimesDoNotFall};
-ghost use Rattle.stream_base.specs.Limits.{IsKindWithin};
+ghost use Rattle.stream_base.specs.Kinds.{IsKindWithin};
 ghost use Rattle.stream_base.specs.Model.Changes.{Moment, emissions, retractions};
 ghost use Rattle.stream_base.specs.Model.Journal.{put_in_order};
 ghost use Rattle.stream_base.specs.Model.Windows.{sessions};

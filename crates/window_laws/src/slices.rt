@@ -4,13 +4,12 @@ ghost use Rattle.std.specs.List.{Contains, flat_map};
 ghost use Rattle.stream_base.specs.declared.def.Def.{Def};
 ghost use Rattle.stream_base.specs.declared.kept.Kept.{Kept};
 ghost use Rattle.stream_base.specs.declared.limits.TheConstants.{FINAL};
-ghost use Rattle.stream_base.specs.Laws.{TimesDoNotFall, is_timed};
-ghost use Rattle.stream_base.specs.Limits.{IsKindWithin};
+ghost use Rattle.stream_base.specs.Laws.{TimesDoNotFall};
+ghost use Rattle.stream_base.specs.Kinds.{IsKindWithin, is_events, is_timed, length_of, slide_of};
 ghost use Rattle.stream_base.specs.Model.Cuts.{has_cut};
-ghost use Rattle.stream_base.specs.Model.Slices.{is_events, runs_of};
+ghost use Rattle.stream_base.specs.Model.Slices.{runs_of};
 ghost use Rattle.stream_base.specs.Model.Windows.{Instance, instances_of, within};
-ghost use Rattle.window_laws.specs.Late.{length_of, slide_of};
-ghost use Rattle.run_laws.specs.Runs.{IsAligned, runs_within};
+ghost use Rattle.slice_lists.specs.Runs.{IsAligned, runs_within};
 
 /// The starts and ends of a window's instances cut between the tuples at their sides, so that an
 /// instance selects whole slices: its fold is that of theirs.

@@ -11,8 +11,7 @@ ghost use Rattle.stream_base.specs.Model.Changes.{Moment, emissions, retractions
 ghost use Rattle.stream_base.specs.Model.Journal.{put_in_order};
 ghost use Rattle.stream_base.specs.Model.Windows.{stretches};
 ghost use Rattle.window_laws.specs.After.{with_mark, with_tuple};
-ghost use Rattle.window_laws.specs.Stretches.{AreChangesOfHolder, AreChangesOfParting};
-ghost use Rattle.window_laws.specs.Stretches.{IsMarkedInStretches, IsPutInStretches};
+ghost use Rattle.window_laws.specs.Stretches.{AreChangesOfHolder, AreChangesOfParting, IsMarkedInStretches, IsPutInStretches};
 
 /// A tuple changes only the interval between two marks that holds it.
 pub fn tuple_enters_one_interval_between_marks()

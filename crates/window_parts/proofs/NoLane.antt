@@ -4,10 +4,9 @@ use Rattle.std.proofs.lemmas.Bool.{false≢true, le-ltb}
 use Rattle.stream_base.specs.declared.kept.Kept.{Kept}
 use Rattle.stream_base.specs.declared.kind.Kind.{Kind}
 use Rattle.stream_base.specs.declared.kind.Kind.TheVariants.{Tumbling, Sliding, Session, Marks, Events}
-use Rattle.stream_base.specs.Laws.{is_timed}
+use Rattle.stream_base.specs.Kinds.{is_timed, length_of}
 use Rattle.stream_base.specs.Model.Windows.{first_time}
-use Rattle.window_laws.specs.Late.{length_of}
-use Rattle.run_laws.specs.Runs.{runs_within}
+use Rattle.slice_lists.specs.Runs.{runs_within}
 use Rattle.agg_store.specs.Stored.{Stored}
 use Rattle.time_lanes.specs.Moves.{slices_between, slices_in_last}
 use Rattle.time_lanes.specs.Spans.{last_end, last_end_of}

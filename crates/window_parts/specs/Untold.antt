@@ -4,10 +4,9 @@ use Rattle.std.proofs.lemmas.Bool.{false≢true}
 use Rattle.stream_base.specs.declared.kept.Kept.{Kept}
 use Rattle.stream_base.specs.declared.kind.Kind.{Kind}
 use Rattle.stream_base.specs.declared.kind.Kind.TheVariants.{Tumbling, Sliding, Session, Marks as Between, Events as Counted}
-use Rattle.stream_base.specs.Laws.{is_timed}
+use Rattle.stream_base.specs.Kinds.{is_events, is_timed}
 use Rattle.stream_base.specs.Limits.{Definitions}
 use Rattle.stream_base.specs.Model.Changes.{Moment}
-use Rattle.stream_base.specs.Model.Slices.{is_events}
 use Rattle.window_laws.specs.After.{with_tuple}
 use Rattle.agg_store.specs.Stored.{Stored}
 use Rattle.time_lanes.specs.Lane.{IsSameUpTo, Laned}

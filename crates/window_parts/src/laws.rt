@@ -1,6 +1,6 @@
 //! What lanes alone take up, as the contract of a function that does nothing.
 ghost use Rattle.std.specs.Prelude.{◌≡◌, ℕ, false};
-ghost use Rattle.stream_base.specs.Laws.{is_timed};
+ghost use Rattle.stream_base.specs.Kinds.{is_timed};
 ghost use Rattle.stream_base.specs.Limits.{Definitions};
 ghost use Rattle.agg_store.specs.Stored.{Stored};
 ghost use Rattle.time_parts.specs.Lanes.{complete_up_to, kind_at, slices_completed, slices_of_last};

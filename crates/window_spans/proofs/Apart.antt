@@ -6,7 +6,7 @@ use Rattle.std.specs.List.Sorted.{IsNonDecreasingBy}
 use Rattle.std.proofs.lemmas.Bool.{leb-true, ltb-true, and_parts}
 use Rattle.std.proofs.lemmas.List.Elements.{All-cons, All-nil, All-head, All-tail, All-contains, All-filter, All-append}
 use Rattle.stream_base.proofs.Rising.{Contains-cons_cases, Contains-head, Contains-tail, none_in_nil}
-use Rattle.run_laws.proofs.Order.{nd_cons, nd_nil}
+use Rattle.slice_lists.proofs.Order.{nd_cons, nd_nil}
 use Rattle.window_spans.specs.declared.span.Span.{Span}
 use Rattle.window_spans.specs.Spans.{AreApart, is_near, joined_span, near_of, over_both, span_alone, spans_with}
 

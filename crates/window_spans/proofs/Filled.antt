@@ -7,9 +7,9 @@ use Rattle.std.proofs.lemmas.Bool.{and_from, and_left, and_right, cases_Bool, ca
 use Rattle.std.proofs.lemmas.List.Elements.{All-cons, All-head, All-tail, All-weaker, filter-append}
 use Rattle.stream_base.specs.declared.kept.Kept.{Kept}
 use Rattle.stream_base.specs.Model.Windows.{first_time, is_within, last_time, within}
-use Rattle.run_laws.specs.Runs.{AreInOrder, IsAligned}
+use Rattle.slice_lists.specs.Runs.{AreInOrder, IsAligned}
 use Rattle.stream_base.proofs.Filters.{filter_none}
-use Rattle.run_laws.proofs.Order.{nd_head}
+use Rattle.slice_lists.proofs.Order.{nd_head}
 use Rattle.slice_lists.specs.declared.slice.Slice.{Slice}
 use Rattle.slice_lists.specs.Slices.{joined, slice_of}
 use Rattle.slice_lists.proofs.SliceOrder.{run_below_last, times_of_order}

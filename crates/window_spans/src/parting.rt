@@ -1,7 +1,7 @@
 //! What a mark makes of an interval that has a tuple.
 ghost use Rattle.std.specs.Prelude.{◌≡◌, ◌≤◌, ◌<◌, ◌+◌, ◌++◌, length, take, drop, nat_lt, option_to_list, vec_len, vec_capacity};
 ghost use Rattle.stream_base.specs.Model.Windows.{within};
-ghost use Rattle.run_laws.specs.Runs.{IsAligned};
+ghost use Rattle.slice_lists.specs.Runs.{IsAligned};
 ghost use Rattle.agg_store.specs.Stored.{tuples_of};
 ghost use Rattle.window_spans.specs.Parted.{back_of, front_of, part_if};
 

@@ -1,5 +1,4 @@
-ghost use Rattle.std.specs.Prelude.{◌≡◌, ◌≤◌, ◌<◌, ◌++◌, ℕ, List, [], ◌∷◌, length};
-ghost use Rattle.std.specs.Prelude.{All, slice_index_or};
+ghost use Rattle.std.specs.Prelude.{◌≡◌, ◌≤◌, ◌<◌, ◌++◌, ℕ, List, [], ◌∷◌, length, All, slice_index_or};
 ghost use Rattle.stream_base.specs.Limits.{Definitions};
 ghost use Rattle.stream_base.specs.declared.entry.Entry.{Entry};
 ghost use Rattle.mail_lane.specs.Lane.{TakenWhole, sent_by};
@@ -7,8 +6,7 @@ ghost use Rattle.fan_in.specs.Gathering.{AreSameFeeds};
 ghost use Rattle.fan_in.specs.Owning.{OwnsAfter, entries_in, note_of};
 ghost use Rattle.fan_in.specs.Posts.{AreOwned};
 ghost use Rattle.fan_in.specs.Ports.{IsAbout};
-ghost use Rattle.fan_in.specs.Settling.{AreAllBack, AreSentRows, BackOver, Follows, HoldsSent};
-ghost use Rattle.fan_in.specs.Settling.{IsAllBack, IsSettledShard, SentOver, worse};
+ghost use Rattle.fan_in.specs.Settling.{AreAllBack, AreSentRows, BackOver, Follows, HoldsSent, IsAllBack, IsSettledShard, SentOver, worse};
 ghost use Rattle.fan_in.specs.Works.{IsReserved};
 
 use crate::gathered::FeedEnd;

@@ -1,8 +1,7 @@
 ghost use Rattle.std.specs.Prelude.{◌≡◌, ◌<◌, All, length, IfOk, OnOk};
 ghost use Rattle.turnstile.specs.Passes.{fixed};
 ghost use Rattle.fan_in.specs.Floors.{IsZero, known_in};
-ghost use Rattle.fan_in.specs.Closings.{AreClosed, EndAt, IsClosed};
-ghost use Rattle.fan_in.specs.Closings.{IsColumn, IsStandingOf, LoseLast, SettlesLast};
+ghost use Rattle.fan_in.specs.Closings.{AreClosed, EndAt, IsClosed, IsColumn, IsStandingOf, LoseLast, SettlesLast};
 
 use crate::plan::Plan;
 use crate::turns::by_source::{BySource, SourceDesk};

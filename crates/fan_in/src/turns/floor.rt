@@ -1,5 +1,4 @@
-ghost use Rattle.std.specs.Prelude.{◌≡◌, ◌≤◌, ◌+◌, ◌-◌, ◌^◌, [], length};
-ghost use Rattle.std.specs.Prelude.{IfOk, OnOk};
+ghost use Rattle.std.specs.Prelude.{◌≡◌, ◌≤◌, ◌+◌, ◌-◌, ◌^◌, [], length, IfOk, OnOk};
 ghost use Rattle.turnstile.specs.Passes.{number, room, fixed, made, born, IsPassOf};
 ghost use Rattle.fan_in.specs.Floors.{GainSeats, IsFloorOf, IsZero};
 

@@ -1,11 +1,10 @@
 -- The slices of a key, and which of its tuples are settled.
-use Rattle.std.specs.Prelude.{◌+◌, ◌==◌, ◌||◌, ℕ, Bool, true, false, not, List, filter, nat_le}
+use Rattle.std.specs.Prelude.{◌+◌, ◌==◌, ◌||◌, ℕ, Bool, not, List, filter, nat_le}
 use Rattle.std.specs.List.{list_all, list_any}
+use Rattle.stream_base.specs.Kinds.{is_events}
 use Rattle.stream_base.specs.Limits.{Definitions}
 use Rattle.stream_base.specs.declared.def.Def.{Def}
 use Rattle.stream_base.specs.declared.kept.Kept.{Kept}
-use Rattle.stream_base.specs.declared.kind.Kind.{Kind}
-use Rattle.stream_base.specs.declared.kind.Kind.TheVariants.{Tumbling, Sliding, Session, Marks, Events}
 use Rattle.stream_base.specs.Model.Changes.{Moment}
 use Rattle.stream_base.specs.Model.Cuts.{has_cut}
 use Rattle.stream_base.specs.Model.Windows.{Instance, instances_of, pieces_of}
@@ -17,14 +16,6 @@ runs_of windows marks kept = pieces_of (λ x y. has_cut windows marks x.time y.t
 -- an instance selects a tuple
 abbrev pub selects : Kept → Instance → Bool
 selects x i = list_any (λ y. y.position == x.position) i.chosen
-
--- a window of event counts
-abbrev pub is_events : Kind → Bool
-is_events (Tumbling length) = false
-is_events (Sliding length slide) = false
-is_events (Session gap) = false
-is_events Marks = false
-is_events (Events count) = true
 
 -- every instance of a window that selects the tuple ends at or before the watermark minus the lateness
 abbrev pub is_settled_in : ℕ → Moment → Kept → Def → Bool

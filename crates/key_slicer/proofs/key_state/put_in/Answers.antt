@@ -3,7 +3,7 @@ use Rattle.std.proofs.Common.{◌≡◌, ◌∙◌, ◌+◌, true, false, subst,
 use Rattle.std.specs.List.{list_all}
 use Rattle.std.proofs.lemmas.Int.{to_z-of_z}
 use Rattle.stream_base.specs.Model.Journal.{put_in_order}
-use Rattle.stream_base.specs.Model.Slices.{is_events}
+use Rattle.stream_base.specs.Kinds.{is_events}
 use Rattle.agg_store.specs.Stored.{tuples_of}
 use Rattle.key_windows.specs.Calls.{kept_at}
 use Rattle.key_parts.specs.Moves.{Comes}

@@ -6,7 +6,7 @@ use Rattle.stream_base.specs.declared.kept.Kept.{Kept}
 use Rattle.stream_base.specs.Model.Windows.{first_time}
 use Rattle.aggregates.specs.Bundled.{bundle_of}
 use Rattle.agg_laws.specs.Pairs.{has_key, inserted, replaced}
-use Rattle.run_laws.specs.Runs.{AreInOrder}
+use Rattle.slice_lists.specs.Runs.{AreInOrder}
 use Rattle.slice_lists.specs.declared.slice.Slice.{Slice}
 use Rattle.slice_lists.specs.Slices.{AreSlices, Sliced, slice_of, split_at, values_of}
 use Rattle.agg_store.specs.Stored.{partial_of}

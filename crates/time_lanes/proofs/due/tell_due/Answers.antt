@@ -1,7 +1,7 @@
 -- One interval more is told.
 use Rattle.std.proofs.Common.{◌∙◌, ◌+◌, ◌≤◌, ap, arith, length, max, subst, sym}
 use Rattle.agg_store.specs.Stored.{tuples_of}
-use Rattle.run_laws.specs.Runs.{runs_within}
+use Rattle.slice_lists.specs.Runs.{runs_within}
 use Rattle.window_laws.specs.Walk.{due_from}
 use Rattle.time_lanes.specs.Told.{new_at}
 use Rattle.time_lanes.specs.Spans.{last_end}

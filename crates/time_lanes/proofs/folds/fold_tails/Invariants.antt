@@ -3,7 +3,7 @@ use Rattle.std.proofs.Common.{◌≡◌, ◌≤◌, ◌<◌, ◌+◌, ◌-◌, �
 use Rattle.std.specs.Prelude.{slice_index_or}
 use Rattle.stream_base.specs.Laws.{TimesDoNotFall}
 use Rattle.aggregates.specs.Bundled.{empty_bundle}
-use Rattle.run_laws.specs.Runs.{IsAligned, runs_within}
+use Rattle.slice_lists.specs.Runs.{IsAligned, runs_within}
 use Rattle.agg_store.specs.Stored.{tuples_of}
 use Rattle.time_lanes.specs.Folds.{fold_between}
 use Rattle.time_lanes.proofs.folds.fold_tails.Given as goal

@@ -1,6 +1,6 @@
 -- The first interval is the first one that holds the first tuple from the start on.
 use Rattle.std.proofs.Common.{◌∙◌, ap, max, sym, arith, subst, ◌+◌}
-use Rattle.run_laws.specs.Runs.{IsAligned}
+use Rattle.slice_lists.specs.Runs.{IsAligned}
 use Rattle.slice_lists.proofs.SliceOrder.{times_of_order}
 use Rattle.time_lanes.proofs.NextFacts.{ends_at, low_in_time, none_ends}
 use Rattle.time_lanes.proofs.next.end_from.Goals as goal

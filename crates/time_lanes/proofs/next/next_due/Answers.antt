@@ -1,6 +1,6 @@
 -- The next interval begins at the first one that holds the first tuple from the start on.
 use Rattle.std.proofs.Common.{◌∙◌, ap, max, sym, arith, rules, subst}
-use Rattle.run_laws.specs.Runs.{IsAligned}
+use Rattle.slice_lists.specs.Runs.{IsAligned}
 use Rattle.slice_lists.proofs.SliceOrder.{times_of_order}
 use Rattle.time_lanes.proofs.NextFacts.{due_next, low_in_time, none_due_here, none_due_next}
 use Rattle.time_lanes.proofs.next.next_due.Goals as goal

@@ -1,6 +1,5 @@
 -- The front's aggregate and then the back's are the aggregate of all.
-use Rattle.std.proofs.Common.{ap, ◌∙◌}
-use Rattle.std.proofs.Common.{arith}
+use Rattle.std.proofs.Common.{ap, ◌∙◌, arith}
 use Rattle.agg_laws.specs.Laws.{total}
 use Rattle.agg_queue.proofs.Stacks.{stacked_total}
 use Rattle.agg_queue.proofs.two_stacks.TwoStacksAggQueue.fold.Goals as goal

@@ -2,7 +2,7 @@
 use Rattle.std.proofs.Common.{◌≡◌, ◌∙◌, ◌++◌, refl, sym, subst, rules}
 use Rattle.std.specs.Prelude.{option_to_list}
 use Rattle.std.specs.List.{All}
-use Rattle.run_laws.proofs.Order.{All-split}
+use Rattle.slice_lists.proofs.Order.{All-split}
 use Rattle.window_spans.specs.Held.{IsAlignedWith}
 use Rattle.window_spans.specs.Spans.{asked_of}
 use Rattle.context_windows.specs.Spanned.{gap_at, window_at}

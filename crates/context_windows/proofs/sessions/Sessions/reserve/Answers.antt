@@ -1,9 +1,8 @@
 -- The sessions near the time are apart as all are. Where the watermark isn't behind the time nothing is told.
 use Rattle.std.proofs.Common.{◌≡◌, ◌∙◌, ap, subst, sym, rules}
-use Rattle.window_spans.specs.Spans.{AreApart, is_near}
+use Rattle.window_spans.specs.Spans.{AreApart, is_near, put_changes}
 use Rattle.window_spans.proofs.Apart.{apart_filter}
 use Rattle.context_windows.specs.Spanned.{gap_at}
-use Rattle.window_spans.specs.Spans.{put_changes}
 use Rattle.context_windows.proofs.Untold.{none_told}
 use Rattle.context_windows.proofs.sessions.Sessions.reserve.Goals as goal
 

@@ -1,7 +1,7 @@
 -- The tuple stands in order among all, and the slices that it enters are one.
 use Rattle.std.proofs.Common.{◌≡◌, ◌∙◌, ap, arith, sym, length, map}
 use Rattle.stream_base.specs.Model.Journal.{put_in_order}
-use Rattle.run_laws.specs.Runs.{AreInOrder}
+use Rattle.slice_lists.specs.Runs.{AreInOrder}
 use Rattle.slice_lists.specs.Parted.{parted_by}
 use Rattle.slice_lists.specs.Slices.{entered_at, joined, slice_of}
 use Rattle.slice_lists.proofs.SliceEdits.{entered_all, entered_hold, entered_number, entered_tuples, kept_again, parted_again, put_length}

@@ -1,7 +1,7 @@
 -- All from the time on are held.
 use Rattle.std.proofs.Common.{◌≡◌, ◌∙◌, ◌++◌, [], ap, max, sym}
 use Rattle.std.proofs.lemmas.List.{append-nil}
-use Rattle.run_laws.specs.Runs.{runs_within}
+use Rattle.slice_lists.specs.Runs.{runs_within}
 use Rattle.time_lanes.specs.Held.{Holding, partials_of}
 use Rattle.time_lanes.proofs.HeldFacts.{pulled}
 use Rattle.time_lanes.proofs.held.Held.pull.Goals as goal

@@ -1,6 +1,6 @@
 -- What is taken up so far, with the slices that are left, is all.
 use Rattle.std.proofs.Common.{◌≡◌, ◌≤◌, ◌+◌, ◌-◌, ◌*◌, ◌++◌, length}
-use Rattle.run_laws.specs.Runs.{runs_within}
+use Rattle.slice_lists.specs.Runs.{runs_within}
 use Rattle.time_lanes.specs.Held.{partials_of}
 use Rattle.time_lanes.proofs.held.Held.pull.Given as goal
 

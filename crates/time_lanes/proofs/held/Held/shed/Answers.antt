@@ -1,7 +1,7 @@
 -- All from the other time on are held.
 use Rattle.std.proofs.Common.{◌≡◌, ◌∙◌, [], ap, drop, length, sym}
 use Rattle.std.specs.Prelude.{min}
-use Rattle.run_laws.specs.Runs.{runs_within}
+use Rattle.slice_lists.specs.Runs.{runs_within}
 use Rattle.time_lanes.specs.Held.{Holding, partials_of}
 use Rattle.time_lanes.proofs.HeldFacts.{drop_none, shed_from}
 use Rattle.time_lanes.proofs.held.Held.shed.Goals as goal

@@ -1,6 +1,6 @@
 -- What is let go so far, with the slices that are left, is all.
 use Rattle.std.proofs.Common.{◌≡◌, ◌≤◌, ◌+◌, ◌-◌, drop, length}
-use Rattle.run_laws.specs.Runs.{runs_within}
+use Rattle.slice_lists.specs.Runs.{runs_within}
 use Rattle.time_lanes.proofs.held.Held.shed.Given as goal
 
 abbrev pub invariant-loop-slice : goal.invariant-loop-slice

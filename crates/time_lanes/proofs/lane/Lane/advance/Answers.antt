@@ -2,7 +2,7 @@
 use Rattle.std.proofs.Common.{◌≡◌, ◌∙◌, ◌+◌, ◌*◌, ◌≤◌, ◌++◌, ap, arith, length, max, subst, sym}
 use Rattle.stream_base.specs.declared.def.Def.{Def}
 use Rattle.stream_base.specs.Laws.{completions}
-use Rattle.run_laws.specs.Runs.{runs_within}
+use Rattle.slice_lists.specs.Runs.{runs_within}
 use Rattle.window_laws.specs.Walk.{due_from, next_start}
 use Rattle.agg_store.specs.Stored.{tuples_of}
 use Rattle.time_lanes.specs.Held.{HoldsFrom}

@@ -1,6 +1,6 @@
 -- The slices that leave begin before the next interval.
 use Rattle.std.proofs.Common.{◌-◌, arith}
-use Rattle.window_laws.specs.Late.{length_of, slide_of}
+use Rattle.stream_base.specs.Kinds.{length_of, slide_of}
 use Rattle.time_lanes.proofs.AdvanceFacts.{next_rises}
 use Rattle.time_lanes.proofs.StayFacts.{knows_all_purged, knows_purged}
 use Rattle.time_parts.specs.Lanes.{kind_at}

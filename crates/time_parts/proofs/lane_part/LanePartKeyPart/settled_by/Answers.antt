@@ -1,7 +1,7 @@
 -- Tuples at a time are settled once the watermark minus the lateness has reached the last end of an interval that holds it.
 use Rattle.std.proofs.Common.{arith, inl, inr}
 use Rattle.std.proofs.lemmas.Bool.{cases_lt}
-use Rattle.window_laws.specs.Late.{length_of, slide_of}
+use Rattle.stream_base.specs.Kinds.{length_of, slide_of}
 use Rattle.key_parts.specs.Calls.{window_at}
 use Rattle.time_parts.specs.Lanes.{kind_at, open_from}
 use Rattle.time_parts.proofs.WindowFacts.{before_is_settled, rest_settles, settled_is_before, span_at, stands_at}

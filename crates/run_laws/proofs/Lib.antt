@@ -1,5 +1,0 @@
-pub mod RunFacts
-pub mod RunEdits
-pub mod SliceFacts
-pub mod Order
-pub mod MarkRuns
