@@ -1,2 +1,5 @@
 pub mod Bundles
 pub mod Examples
+pub mod Means
+pub mod Partials
+pub mod RangeFacts

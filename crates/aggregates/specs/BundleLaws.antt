@@ -1,9 +1,10 @@
 -- A bundle obeys the laws that its nine functions obey.
-use Rattle.std.proofs.Common.{ℤ, lit<}
-use Rattle.std.specs.Prelude.{FitsSigned}
+use Rattle.std.proofs.Common.{◌≡◌, ℤ, List, [], ◌∷◌, map, refl, lit<}
+use Rattle.std.specs.Prelude.{FitsSigned, fold}
+use Rattle.stream_base.specs.Model.Functions.{counting, summing, least, greatest, averaging, earliest, latest, rising, tracing}
 use Rattle.std.specs.Int.{w64}
-use Rattle.agg_laws.specs.Laws.{MonoidLaws}
-use Rattle.aggregates.specs.Bundled.{IsBundle, empty_bundle, bundle_of_number, bundles_combined}
+use Rattle.agg_laws.specs.Laws.{MonoidLaws, total}
+use Rattle.aggregates.specs.Bundled.{Bundled, IsBundle, bundle_of, empty_bundle, bundle_of_number, bundles_combined}
 use Rattle.aggregates.specs.Aggregates.{count_laws, sum_laws, least_laws, greatest_laws, mean_laws, earliest_laws, latest_laws, rises_laws, trace_laws, widened, bits_of_number}
 
 pub bundle_laws : MonoidLaws IsBundle empty_bundle bundles_combined
@@ -78,3 +79,27 @@ bundle_lifts v h = record {
   rises = (h, h, lit< tt);
   trace = (lit< tt, bits_of_number v h);
 }
+
+-- the nine functions folded from what each of them has so far
+folded_from : Bundled → List ℤ → Bundled
+folded_from b values = record {
+  count = fold (λ a v. counting.combine a (counting.lift v)) b.count values;
+  summed = fold (λ a v. summing.combine a (summing.lift v)) b.summed values;
+  lowest = fold (λ a v. least.combine a (least.lift v)) b.lowest values;
+  highest = fold (λ a v. greatest.combine a (greatest.lift v)) b.highest values;
+  mean = fold (λ a v. averaging.combine a (averaging.lift v)) b.mean values;
+  first = fold (λ a v. earliest.combine a (earliest.lift v)) b.first values;
+  last = fold (λ a v. latest.combine a (latest.lift v)) b.last values;
+  rises = fold (λ a v. rising.combine a (rising.lift v)) b.rises values;
+  trace = fold (λ a v. tracing.combine a (tracing.lift v)) b.trace values;
+}
+
+fold_bundles : (b : Bundled) (values : List ℤ) → fold bundles_combined b (map bundle_of_number values) ≡ folded_from b values
+unfolding folded_from
+fold_bundles b [] = refl
+fold_bundles b (v ∷ vs) = fold_bundles (bundles_combined b (bundle_of_number v)) vs
+
+-- the bundles of values, combined in order, are the bundle of the values
+pub total_of_bundles : (values : List ℤ) → total empty_bundle bundles_combined (map bundle_of_number values) ≡ bundle_of values
+unfolding folded_from
+total_of_bundles values = fold_bundles empty_bundle values

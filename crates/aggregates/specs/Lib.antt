@@ -1,5 +1,9 @@
 pub mod Values
 pub mod Aggregates
 pub mod Shapes
+pub mod Order
 pub mod Bundled
 pub mod BundleLaws
+pub mod Words
+pub mod Ranges
+pub mod Summed

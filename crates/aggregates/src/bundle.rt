@@ -1,9 +1,11 @@
-ghost use Rattle.std.specs.Prelude.{◌≡◌, ℤ, List, [], ◌∷◌, ◌++◌, All, FitsSigned, unwrap_or, pos};
+ghost use Rattle.std.specs.Prelude.{◌≡◌, ℤ, List, [], ◌∷◌, ◌++◌, All, FitsSigned, unwrap_or, pos, false};
 ghost use Rattle.std.specs.Int.{w64};
-ghost use Rattle.stream_base.specs.Model.Functions.{shown_of, show_value};
+ghost use Rattle.stream_base.specs.Model.Functions.{show_value};
 ghost use Rattle.agg_laws.specs.Counters.{next_count};
 ghost use Rattle.aggregates.specs.Bundled.{IsBundle, empty_bundle, bundle_of, bundle_of_number, bundles_combined};
-ghost use Rattle.aggregates.specs.BundleLaws.{bundle_laws, bundle_lifts};
+ghost use Rattle.aggregates.specs.BundleLaws.{bundle_laws, bundle_lifts, total_of_bundles};
+ghost use Rattle.aggregates.specs.Order.{IsAny};
+ghost use Rattle.std.proofs.lemmas.Bool.{false≢true};
 
 use crate::count::Count;
 use crate::first::First;
@@ -11,6 +13,7 @@ use crate::last::Last;
 use crate::max::Max;
 use crate::mean::Mean;
 use crate::min::Min;
+use crate::partial::Partial;
 use crate::rises::Rises;
 use crate::sum::Sum;
 use crate::trace::Trace;
@@ -145,14 +148,26 @@ impl Lift for Bundle {
     }
 }
 
-impl Bundle {
-    /// The value of a function, as a report shows it. It is that of the values which were lifted
-    /// into the bundle, in their order; what Min, Max and their kin show of no value at all says
-    /// nothing.
-    pub fn show(&self, func: Func) -> Shown
-        ensures shown { (values : List ℤ) → self.now ≡ bundle_of values
-            → result ≡ shown_of func values }
-    {
+impl Partial for Bundle {
+    ghost of_values = { bundle_of };
+
+    ghost serves = { IsAny };
+
+    ghost any_order = { false };
+
+    ghost totals = { total_of_bundles };
+
+    ghost commutes = { λ e. absurd (false≢true e) };
+
+    fn can_show(_func: Func) -> bool {
+        true
+    }
+
+    fn in_any_order() -> bool {
+        false
+    }
+
+    fn show(&self, func: Func) -> Shown {
         match func {
             Func::Count => Shown::Whole(i128::from(self.count.count)),
             Func::Sum => Shown::Whole(self.summed.sum),
@@ -170,7 +185,7 @@ impl Bundle {
     }
 }
 
-fn whole(value: Option<i64>) -> Shown
+pub(crate) fn whole(value: Option<i64>) -> Shown
     ensures { result ≡ show_value value }
 {
     Shown::Whole(i128::from(value.unwrap_or(0)))

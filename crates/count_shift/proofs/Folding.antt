@@ -14,7 +14,7 @@ use Rattle.stream_base.specs.Model.Changes.{row_of, former_of}
 use Rattle.stream_base.specs.Model.Functions.{shown_of}
 use Rattle.stream_base.specs.Model.Windows.{ranks}
 use Rattle.aggregates.specs.Bundled.{Bundled, bundle_of, bundle_of_number, bundles_combined, empty_bundle}
-use Rattle.aggregates.proofs.Bundles.{total_of_bundles}
+use Rattle.aggregates.specs.BundleLaws.{total_of_bundles}
 use Rattle.count_shift.specs.Counting.{ranks_behind}
 use Rattle.count_shift.specs.Folded.{folded_onto}
 use Rattle.count_shift.proofs.Standing.{next_run, length_of_run}

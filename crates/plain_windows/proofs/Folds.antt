@@ -4,7 +4,7 @@ use Rattle.std.proofs.lemmas.List.{drop_more, drop_all}
 use Rattle.std.specs.List.{fold}
 use Rattle.stream_base.specs.declared.kept.Kept.{Kept}
 use Rattle.aggregates.specs.Bundled.{Bundled, bundle_of, bundle_of_number, bundles_combined, empty_bundle}
-use Rattle.aggregates.proofs.Bundles.{total_of_bundles}
+use Rattle.aggregates.specs.BundleLaws.{total_of_bundles}
 use Rattle.plain_windows.specs.Rows.{values_of}
 
 -- a tuple more

@@ -3,7 +3,7 @@ use Rattle.std.proofs.Common.{◌≡◌, ◌∙◌, ◌≤◌, ◌<◌, ◌+◌,
 use Rattle.std.proofs.lemmas.List.{drop_more, drop_all}
 use Rattle.std.specs.List.{fold}
 use Rattle.aggregates.specs.Bundled.{Bundled, bundle_of, bundle_of_number, bundles_combined, empty_bundle}
-use Rattle.aggregates.proofs.Bundles.{total_of_bundles}
+use Rattle.aggregates.specs.BundleLaws.{total_of_bundles}
 use Rattle.tail_windows.specs.declared.sample.Sample.{Sample}
 
 -- a sample more
