@@ -1,12 +1,11 @@
 -- What a store of slices is in contracts.
-use Rattle.std.specs.Prelude.{◌≡◌, ℕ, List}
+use Rattle.std.specs.Prelude.{◌≡◌, ℕ, ℤ, List}
 use Rattle.std.specs.List.Sorted.{IsStrictlyIncreasing}
 use Rattle.stream_base.specs.declared.def.Def.{Def}
 use Rattle.stream_base.specs.declared.kept.Kept.{Kept}
 use Rattle.stream_base.specs.Laws.{TimesDoNotFall}
 use Rattle.stream_base.specs.Model.Slices.{runs_of}
 use Rattle.stream_base.specs.Model.Windows.{first_time}
-use Rattle.aggregates.specs.Bundled.{Bundled, bundle_of}
 use Rattle.slice_lists.specs.Runs.{IsAligned}
 use Rattle.slice_lists.specs.Slices.{AreSlices, joined, values_of}
 
@@ -37,8 +36,8 @@ pub record IsStore (s : Stored) : Type 0 where
   pub marks : IsStrictlyIncreasing s.marks
 
 -- the partial of a slice, under the time of its first tuple
-abbrev pub partial_of : List Kept → ℕ × Bundled
-partial_of run = (first_time run, bundle_of (values_of run))
+abbrev pub partial_of : {M : Type 0} → (List ℤ → M) → List Kept → ℕ × M
+partial_of of_values run = (first_time run, of_values (values_of run))
 
 -- only room differs
 pub record IsAsBefore (old new : Stored) : Type 0 where

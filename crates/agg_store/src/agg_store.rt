@@ -2,29 +2,28 @@ ghost use Rattle.std.specs.Prelude.{◌≡◌, ◌≤◌, ◌+◌, ◌*◌, find
 ghost use Rattle.std.specs.Option.{option_map};
 ghost use Rattle.stream_base.specs.declared.limits.TheConstants.{TIME_MAX};
 ghost use Rattle.stream_base.specs.Model.Windows.{first_time, last_time, within};
-ghost use Rattle.aggregates.specs.Bundled.{bundle_of};
 ghost use Rattle.slice_lists.specs.Runs.{runs_within};
 ghost use Rattle.slice_lists.specs.Slices.{slice_of, values_of};
 ghost use Rattle.agg_store.specs.Stored.{AreBounds, IsStore, Stored, tuples_of};
 
 use agg_laws::Steps;
-use aggregates::Bundle;
+use aggregates::Partial;
 use slice_lists::Slice;
 
 /// The slices of one key, with a partial aggregate for each, which all of its windows share.
 ///
 /// Its work is bounded by its reach: a fold makes at most `64 * (reach + 2)` steps, and at most one
 /// for each slice in its range.
-pub trait AggStore {
+pub trait AggStore<M: Partial> {
     // The slices and marks that the store stands for.
     ghost stored: { Self → Stored };
 
     /// The fold of the tuples with `low <= time < high` in event order, from the partials of their
     /// slices. No slice has tuples on both sides of either time.
-    fn fold<L>(&self, low: u64, high: u64, steps: &mut Steps<L>) -> Bundle
+    fn fold<L>(&self, low: u64, high: u64, steps: &mut Steps<L>) -> M
         requires { AreBounds (stored self.now) low high }
         ensures value { result
-            ≡ bundle_of (values_of (within low high (tuples_of (stored self.now)))) }
+            ≡ M.of_values (values_of (within low high (tuples_of (stored self.now)))) }
         ensures one_each { steps.new
             ≤ steps.old + length (runs_within low high (stored self.now).slices) }
         ensures cost { steps.new ≤ steps.old + 64 * ((stored self.now).reach + 2) }

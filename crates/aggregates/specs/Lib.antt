@@ -2,6 +2,7 @@ pub mod Values
 pub mod Aggregates
 pub mod Shapes
 pub mod Order
+pub mod Partial
 pub mod Bundled
 pub mod BundleLaws
 pub mod Words

@@ -155,7 +155,7 @@ impl Partial for Bundle {
 
     ghost any_order = { false };
 
-    ghost totals = { total_of_bundles };
+    ghost partial = { record { laws = bundle_laws; lifts = bundle_lifts; totals = total_of_bundles } };
 
     ghost commutes = { λ e. absurd (false≢true e) };
 

@@ -1,8 +1,8 @@
-ghost use Rattle.std.specs.Prelude.{◌≡◌, ℤ, List, Bool, true, map};
+ghost use Rattle.std.specs.Prelude.{◌≡◌, ℤ, List, Bool, true};
 ghost use Rattle.stream_base.specs.declared.func.Func.{Func};
 ghost use Rattle.stream_base.specs.Model.Functions.{shown_of};
-ghost use Rattle.agg_laws.specs.Laws.{total};
 ghost use Rattle.aggregates.specs.Order.{Commutes};
+ghost use Rattle.aggregates.specs.Partial.{IsPartial};
 
 use agg_laws::Lift;
 use stream_base::{Func, Shown};
@@ -34,8 +34,7 @@ pub trait Partial: Lift {
         ensures { (values : List ℤ) → self.now ≡ of_values values → result ≡ shown_of func values };
 
     // It combines what single values come to.
-    ghost totals: { (values : List ℤ)
-        → total Self.empty Self.op (map Self.of_number values) ≡ of_values values };
+    ghost partial: { IsPartial Self.is_value Self.empty Self.op Self.of_number of_values };
 
     // Two of them may be swapped, where that is said.
     ghost commutes: { any_order ≡ true → Commutes Self.is_value Self.op };

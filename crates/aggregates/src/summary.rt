@@ -88,7 +88,8 @@ impl Partial for Summary {
 
     ghost any_order = { true };
 
-    ghost totals = { total_of_summaries };
+    ghost partial = { record { laws = summary_laws; lifts = summary_lifts;
+        totals = total_of_summaries } };
 
     ghost commutes = { λ _. summaries_commute };
 
