@@ -70,8 +70,16 @@ pub trait KeyWindows: Drop {
     /// How many more it takes where something came before the watermark.
     ghost catch_up: { Definitions → ℕ → Self → ℕ };
 
+    /// It can show the functions of all windows.
+    ghost serves: { Definitions → Type 0 };
+
+    /// Whether it can.
+    fn can_serve(defs: &Defs) -> bool
+        ensures { result ≡ true → serves defs.now };
+
     /// No tuple and no mark yet.
     fn fresh(alloc: Global, defs: &Defs, key: KeyText) -> Result<Self, NoMemory>
+        requires { serves defs.now }
         ensures key { IfOk result (λ state. key_of state ≡ key) }
         ensures first { IfOk result (λ state. next_position state ≡ 0) }
         ensures empty { (water : ℕ) → IfOk result (λ state. fits defs.now [] [] water state) }

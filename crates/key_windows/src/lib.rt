@@ -5,6 +5,10 @@
 //! definitions, in their order, and takes memory only in the call that makes room.
 #![tactic(auto)]
 
+mod any_key;
+mod either_key;
 mod key_windows;
 
+pub use any_key::AnyKey;
+pub use either_key::EitherKey;
 pub use key_windows::KeyWindows;

@@ -14,7 +14,7 @@ ghost use Rattle.plain_keys.specs.States.{Fits, HasDrawnMark, HasDrawnTuple, IsM
 
 use crate::drafts::{add_mark, draw_mark, draw_put, fill_in, put_in};
 use agg_laws::Steps;
-use key_windows::KeyWindows;
+use key_windows::{AnyKey, KeyWindows};
 use plain_windows::{
     View, append_changes, append_completions, append_rows, bound_from, count_changes,
     count_completions, next_bound, slice_count,
@@ -287,6 +287,10 @@ fn vouch_count<L>(steps: &Steps<L>)
     let _count = steps.count();
 }
 
+impl AnyKey for PlainKey {
+    ghost serves_all = { λ d. tt };
+}
+
 impl KeyWindows for PlainKey {
     ghost key_of = { λ s. s.key };
 
@@ -315,6 +319,12 @@ impl KeyWindows for PlainKey {
     ghost move_work = { λ d old new before after. most_steps };
 
     ghost catch_up = { λ d water s. 0 };
+
+    ghost serves = { λ d. Unit {0} };
+
+    fn can_serve(_defs: &Defs) -> bool {
+        true
+    }
 
     fn fresh(alloc: Global, defs: &Defs, key: KeyText) -> Result<PlainKey, NoMemory> {
         let _ = defs;

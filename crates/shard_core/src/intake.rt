@@ -10,14 +10,14 @@ use crate::keys::KeyTable;
 use crate::past::Past;
 use crate::told::Told;
 use agg_laws::Steps;
-use key_windows::KeyWindows;
+use key_windows::{AnyKey, KeyWindows};
 use std::alloc::Global;
 use stream_base::{Change, Entry, NoMemory, What};
 
 // In place of the place of a key, for an entry that goes to none.
 const NO_PLACE: usize = usize::MAX;
 
-impl<K: KeyWindows> KeyTable<K> {
+impl<K: AnyKey> KeyTable<K> {
     // Takes in an entry and tells its changes, or does nothing. Answers the place of its key.
     pub fn take_in<L>(
         &mut self,

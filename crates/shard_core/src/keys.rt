@@ -15,7 +15,7 @@ use crate::past::Past;
 use crate::slot::Slot;
 use crate::told::Told;
 use agg_laws::Steps;
-use key_windows::KeyWindows;
+use key_windows::{AnyKey, KeyWindows};
 use std::alloc::Global;
 use stream_base::{Defs, KeyText, NoMemory};
 
@@ -29,7 +29,7 @@ pub struct KeyTable<K> {
     pub dues: Dues,
 }
 
-impl<K: KeyWindows> KeyTable<K> {
+impl<K: AnyKey> KeyTable<K> {
     pub fn new(alloc: Global) -> KeyTable<K>
         ensures index { result.index ≡ [] }
         ensures slots { result.slots.items ≡ [] }

@@ -14,11 +14,11 @@ use crate::past::Past;
 use crate::slot::Slot;
 use crate::told::Told;
 use agg_laws::Steps;
-use key_windows::KeyWindows;
+use key_windows::{AnyKey, KeyWindows};
 use std::alloc::Global;
 use stream_base::{Defs, Entry, NoMemory};
 
-impl<K: KeyWindows> KeyTable<K> {
+impl<K: AnyKey> KeyTable<K> {
     // Moves the states that are due on to a watermark, the one behind an entry that says a word on
     // the progress of its source; or does nothing. Of all other keys nothing is due then, and they
     // take no step.

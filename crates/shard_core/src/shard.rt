@@ -15,7 +15,7 @@ use crate::rows::rows_behind;
 use crate::told::Told;
 use agg_laws::Steps;
 use compact_log::{ChangeRange, Changes};
-use key_windows::KeyWindows;
+use key_windows::{AnyKey, KeyWindows};
 use std::alloc::Global;
 use std::marker::Model;
 use stream_base::{Defs, Entry, JOURNAL_MAX, KeyText, NoMemory, Row};
@@ -26,7 +26,7 @@ use stream_base::{Defs, Entry, JOURNAL_MAX, KeyText, NoMemory, Row};
 /// An entry that doesn't move the watermark touches its own key alone. A move of the watermark
 /// touches the keys of which something is complete or settled by then, in the order of their bytes.
 #[derive(Drop)]
-pub struct KeyedShard<K: KeyWindows> {
+pub struct KeyedShard<K: AnyKey> {
     alloc: Global,
     past: Past,
     keys: KeyTable<K>,
@@ -36,7 +36,7 @@ pub struct KeyedShard<K: KeyWindows> {
     ends: Vec<usize>,
 }
 
-impl<K: KeyWindows> Model for KeyedShard<K> {
+impl<K: AnyKey> Model for KeyedShard<K> {
     ghost use Rattle.shard_core.specs.Shard.{Sharded};
 
     ghost Value = { Sharded };
@@ -50,7 +50,7 @@ impl<K: KeyWindows> Model for KeyedShard<K> {
         a.past a.keys a.told.log.items a.ends.items × IsSettled a.told };
 }
 
-impl<K: KeyWindows> KeyedShard<K> {
+impl<K: AnyKey> KeyedShard<K> {
     /// A shard with an empty journal, for so many sources.
     pub fn new(alloc: Global, defs: Defs, sources: u16) -> Result<KeyedShard<K>, NoMemory>
         requires { AreSources sources }

@@ -4,10 +4,10 @@ ghost use Rattle.shard_core.specs.Shard.{slices_after};
 
 use crate::keys::KeyTable;
 use crate::past::Past;
-use key_windows::KeyWindows;
+use key_windows::{AnyKey, KeyWindows};
 use stream_base::KeyText;
 
-impl<K: KeyWindows> KeyTable<K> {
+impl<K: AnyKey> KeyTable<K> {
     // How many slices what isn't settled of a key has: none where the key has no place. Its state
     // may stand under an earlier watermark than that of the past.
     pub fn slice_count(&self, past: &Past, key: &KeyText) -> u64

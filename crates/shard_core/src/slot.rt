@@ -11,7 +11,7 @@ ghost use Rattle.shard_core.specs.Told.{IsSettled, spare_of};
 
 use crate::told::Told;
 use agg_laws::Steps;
-use key_windows::KeyWindows;
+use key_windows::{AnyKey, KeyWindows};
 use std::alloc::Global;
 use stream_base::{Defs, KeyText, NoMemory};
 
@@ -22,7 +22,7 @@ pub struct Slot<K> {
     pub water: u64,
 }
 
-impl<K: KeyWindows> Slot<K> {
+impl<K: AnyKey> Slot<K> {
     // No tuple and no mark yet.
     pub fn fresh(alloc: Global, defs: &Defs, key: KeyText, water: u64) -> Result<Slot<K>, NoMemory>
         ensures key { IfOk result (λ slot. K.key_of slot.state ≡ key) }
