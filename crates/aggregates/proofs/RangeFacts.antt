@@ -44,8 +44,7 @@ module _ (a b : Inside) (ha : AreExtremes a) (hb : AreExtremes b) where
       let least : int_min a.least b.least ≡ b.least = ap (λ v. int_min v b.least) (ha.none ep).0 ∙ above_all b.least hb.least in
       let most : int_max a.most b.most ≡ b.most = ap (λ v. int_max v b.most) (ha.none ep).1 ∙ below_all b.most hb.most in
       let low : either_or int_min (picked a a.least) (picked b b.least) ≡ picked b b.least = ap (λ o. either_or int_min o (picked b b.least)) (chosen true a a.least ep) in
-      let high : either_or int_max (picked a a.most) (picked b b.most) ≡ picked b b.most = ap (λ o. either_or int_max o (picked b b.most)) (chosen true a a.most ep) in
-      (
+      let high : either_or int_max (picked a a.most) (picked b b.most) ≡ picked b b.most = ap (λ o. either_or int_max o (picked b b.most)) (chosen true a a.most ep) in (
         (λ i. range_of (record { least = least i; most = most i })) ∙ sym (λ i. (low i, high i)),
         (λ e. let h = hb.none (sym (λ i. int_lt (most i) (least i)) ∙ e) in (least ∙ h.0, most ∙ h.1)),
       )
@@ -53,16 +52,14 @@ module _ (a b : Inside) (ha : AreExtremes a) (hb : AreExtremes b) where
       let least : int_min a.least b.least ≡ a.least = ap (int_min a.least) (hb.none eq).0 ∙ all_above a.least ha.least in
       let most : int_max a.most b.most ≡ a.most = ap (int_max a.most) (hb.none eq).1 ∙ all_below a.most ha.most in
       let low : either_or int_min (picked a a.least) (picked b b.least) ≡ picked a a.least = (λ i. either_or int_min (chosen false a a.least ep i) (chosen true b b.least eq i)) ∙ sym (chosen false a a.least ep) in
-      let high : either_or int_max (picked a a.most) (picked b b.most) ≡ picked a a.most = (λ i. either_or int_max (chosen false a a.most ep i) (chosen true b b.most eq i)) ∙ sym (chosen false a a.most ep) in
-      (
+      let high : either_or int_max (picked a a.most) (picked b b.most) ≡ picked a a.most = (λ i. either_or int_max (chosen false a a.most ep i) (chosen true b b.most eq i)) ∙ sym (chosen false a a.most ep) in (
         (λ i. range_of (record { least = least i; most = most i })) ∙ sym (λ i. (low i, high i)),
         (λ e. let h = ha.none (sym (λ i. int_lt (most i) (least i)) ∙ e) in (least ∙ h.0, most ∙ h.1)),
       )
   joined false false ep eq =
       let none : int_lt (int_max a.most b.most) (int_min a.least b.least) ≡ false = apart a.least a.most b.least b.most ep eq in
       let low : either_or int_min (picked a a.least) (picked b b.least) ≡ Some (int_min a.least b.least) = λ i. either_or int_min (chosen false a a.least ep i) (chosen false b b.least eq i) in
-      let high : either_or int_max (picked a a.most) (picked b b.most) ≡ Some (int_max a.most b.most) = λ i. either_or int_max (chosen false a a.most ep i) (chosen false b b.most eq i) in
-      (
+      let high : either_or int_max (picked a a.most) (picked b b.most) ≡ Some (int_max a.most b.most) = λ i. either_or int_max (chosen false a a.most ep i) (chosen false b b.most eq i) in (
         (λ i. (chosen false (both a b) (int_min a.least b.least) none i, chosen false (both a b) (int_max a.most b.most) none i)) ∙ sym (λ i. (low i, high i)),
         (λ e. absurd (false≢true (sym none ∙ e))),
       )

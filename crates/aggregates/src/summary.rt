@@ -28,8 +28,11 @@ impl Model for Summary {
 
     ghost view = { λ s. record { count = s.count.count; summed = s.summed; range = s.range } };
 
-    ghost inverse = { λ v. record { count = record { count = v.count }; summed = v.summed;
-        range = v.range } };
+    ghost inverse = { λ v. record {
+      count = record { count = v.count };
+      summed = v.summed;
+      range = v.range;
+    } };
 }
 
 impl Monoid for Summary {
@@ -88,8 +91,11 @@ impl Partial for Summary {
 
     ghost any_order = { true };
 
-    ghost partial = { record { laws = summary_laws; lifts = summary_lifts;
-        totals = total_of_summaries } };
+    ghost partial = { record {
+      laws = summary_laws;
+      lifts = summary_lifts;
+      totals = total_of_summaries;
+    } };
 
     ghost counts = { tt };
 

@@ -8,7 +8,7 @@ ghost use Rattle.count_shift.specs.Counting.{again_behind, new_behind, numbers, 
 
 use crate::fold::fold_onto;
 use agg_laws::{Monoid, Steps};
-use aggregates::Bundle;
+use aggregates::{Bundle, Partial};
 use stream_base::{Change, Former, Func, Kept, KeyText, Row};
 
 // One events window of one key: its place among the definitions, its function, how many tuples an

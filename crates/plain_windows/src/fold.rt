@@ -10,7 +10,7 @@ use crate::extent::Extent;
 use crate::view::View;
 use crate::window::Window;
 use agg_laws::{Lift, Monoid, Steps};
-use aggregates::Bundle;
+use aggregates::{Bundle, Partial};
 use stream_base::{Former, Func, Kept, KeyText, Row, Shown};
 
 /// Whose rows are made: a window with its place among the definitions, and a key.

@@ -13,7 +13,7 @@ use crate::row::TailRow;
 use crate::sample::Sample;
 use crate::stood::Stood;
 use agg_laws::{Lift, Monoid, Steps};
-use aggregates::Bundle;
+use aggregates::{Bundle, Partial};
 use stream_base::{Func, KeyText, Shown};
 
 /// The end of the period that holds a time.

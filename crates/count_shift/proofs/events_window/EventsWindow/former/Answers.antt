@@ -9,4 +9,4 @@ pub returns-clause-value : goal.returns-clause-value
 returns-clause-value g c =
     let w = c.args.self.now in
     former_is w.func w.count c.args.items.now c.args.rank c.args.i c.max-left_out.result c.fold_onto-front.result c.fold_onto-folded.result c.show.result c.requires.behind c.requires.room c.max-left_out.ensures
-    (c.fold_onto-front.ensures.value ∙ ap (λ b. folded_onto b (between (c.args.i * w.count) c.max-left_out.result c.args.items.now)) c.unit.ensures) c.fold_onto-folded.ensures.value c.show.ensures.shown
+    (c.fold_onto-front.ensures.value ∙ ap (λ b. folded_onto b (between (c.args.i * w.count) c.max-left_out.result c.args.items.now)) c.unit.ensures) c.fold_onto-folded.ensures.value c.show.ensures
