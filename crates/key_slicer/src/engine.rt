@@ -1,5 +1,5 @@
 //! The state of a key as an engine.
-ghost use Rattle.std.specs.Prelude.{vec_capacity, vec_len, ◌-◌};
+ghost use Rattle.std.specs.Prelude.{All, vec_capacity, vec_len, ◌-◌};
 ghost use Rattle.key_slicer.specs.Parts.{AllAhead, all_credit};
 ghost use Rattle.key_slicer.specs.States.{Fits, IsReady};
 ghost use Rattle.key_slicer.specs.Work.{bounds_mark, bounds_move, bounds_put, catch_up, mark_work, move_work, put_work};
@@ -10,14 +10,18 @@ use crate::key_state::{
 use crate::parts::Parts;
 use crate::sorted::append_sorted;
 use agg_laws::{AggTree, Steps};
-use aggregates::Bundle;
+use aggregates::{Bundle, Partial};
 use key_parts::AnyPart;
-use key_windows::KeyWindows;
+use key_windows::{AnyKey, KeyWindows};
 use slice_store::SliceStore;
 use std::alloc::Global;
 use stream_base::{Change, Defs, KeyText, NoMemory};
 
-impl<T: AggTree<Bundle> + Drop, P: AnyPart> KeyWindows for KeyState<T, P> {
+impl<T: AggTree<Bundle> + Drop, P: AnyPart<Bundle>> AnyKey for KeyState<Bundle, T, P> {
+    ghost serves_all = { λ d. all_of (λ w. Unit {0}) (λ w. tt) d.windows };
+}
+
+impl<M: Partial, T: AggTree<M> + Drop, P: AnyPart<M>> KeyWindows for KeyState<M, T, P> {
     ghost key_of = { λ k. k.key };
 
     ghost fits = { λ d kept marks water k. Fits P.stands d kept marks water
@@ -52,7 +56,13 @@ impl<T: AggTree<Bundle> + Drop, P: AnyPart> KeyWindows for KeyState<T, P> {
 
     ghost catch_up = { λ d water k. catch_up P.missed d k.store water };
 
-    fn fresh(alloc: Global, defs: &Defs, key: KeyText) -> Result<KeyState<T, P>, NoMemory> {
+    ghost serves = { λ d. All (λ w. M.serves w.func) d.windows };
+
+    fn can_serve(defs: &Defs) -> bool {
+        defs.windows().iter().all(|def| M::can_show(def.func))
+    }
+
+    fn fresh(alloc: Global, defs: &Defs, key: KeyText) -> Result<KeyState<M, T, P>, NoMemory> {
         Ok(KeyState {
             key,
             store: SliceStore::new(alloc),

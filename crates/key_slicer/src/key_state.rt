@@ -16,7 +16,7 @@ ghost use Rattle.key_slicer.specs.States.{IsFirstTime, MayEnter, needs_no_part};
 use crate::parts::Parts;
 use agg_laws::{AggTree, Steps};
 use agg_store::AggStore;
-use aggregates::Bundle;
+use aggregates::Partial;
 use key_parts::KeyPart;
 use slice_store::{Placed, SliceStore};
 use stream_base::{Change, Defs, FINAL, KeyText, Kind, NoMemory, TIME_MAX};
@@ -24,10 +24,10 @@ use stream_base::{Change, Defs, FINAL, KeyText, Kind, NoMemory, TIME_MAX};
 /// The windows of one key. Its tuples lie in slices that all windows share, and each window has a
 /// part of its own. Settled slices leave.
 #[derive(Drop)]
-pub struct KeyState<T: AggTree<Bundle>, P: KeyPart> {
+pub struct KeyState<M: Partial, T: AggTree<M>, P: KeyPart<M>> {
     pub(crate) key: KeyText,
-    pub(crate) store: SliceStore<T>,
-    pub(crate) parts: Parts<P>,
+    pub(crate) store: SliceStore<M, T>,
+    pub(crate) parts: Parts<M, P>,
     /// The next tuple has at least this position.
     pub(crate) next: u64,
     pub(crate) promise: u64,
@@ -35,7 +35,7 @@ pub struct KeyState<T: AggTree<Bundle>, P: KeyPart> {
     pub(crate) scratch: Vec<Change>,
 }
 
-impl<T: AggTree<Bundle>, P: KeyPart> KeyState<T, P> {
+impl<M: Partial, T: AggTree<M>, P: KeyPart<M>> KeyState<M, T, P> {
     // Makes room for so many changes to be put together, and promises them.
     pub fn make_room(&mut self, room: u64) -> Result<(), NoMemory>
         ensures key { self.new.key ≡ self.old.key }
@@ -55,7 +55,7 @@ impl<T: AggTree<Bundle>, P: KeyPart> KeyState<T, P> {
 }
 
 // The time of the first tuple in a store.
-pub fn first_time<T: AggTree<Bundle>>(store: &SliceStore<T>) -> Option<u64>
+pub fn first_time<M: Partial, T: AggTree<M>>(store: &SliceStore<M, T>) -> Option<u64>
     ensures none { IfNone result (store.now.slices ≡ []) }
     ensures first { IfSome result (IsFirstTime store.now) }
 {
@@ -64,7 +64,7 @@ pub fn first_time<T: AggTree<Bundle>>(store: &SliceStore<T>) -> Option<u64>
 }
 
 // Changes nothing, and tells a proof how the reach of a store is bounded by its slices.
-pub fn vouch_reach<T: AggTree<Bundle>>(store: &SliceStore<T>)
+pub fn vouch_reach<M: Partial, T: AggTree<M>>(store: &SliceStore<M, T>)
     ensures { IsReachOver T.bounded (length store.now.slices) store.now.reach }
 {
     store.slice_count();
@@ -119,8 +119,8 @@ fn all_timed(defs: &Defs) -> bool
 
 // Puts a tuple into the store, unless each window counts events: then it is settled at once.
 // Answers whether the tuple came behind all others and joined their last slice.
-pub fn put_in<T: AggTree<Bundle>, L>(
-    store: &mut SliceStore<T>,
+pub fn put_in<M: Partial, T: AggTree<M>, L>(
+    store: &mut SliceStore<M, T>,
     defs: &Defs,
     pos: u64,
     time: u64,

@@ -8,12 +8,12 @@ ghost use Rattle.key_slicer.specs.States.{Fits, MayPurge, StandsFor};
 
 use crate::key_state::{KeyState, first_time};
 use agg_laws::{AggTree, Steps};
-use aggregates::Bundle;
+use aggregates::Partial;
 use key_parts::KeyPart;
 use slice_store::SliceStore;
 use stream_base::Defs;
 
-impl<T: AggTree<Bundle>, P: KeyPart> KeyState<T, P> {
+impl<M: Partial, T: AggTree<M>, P: KeyPart<M>> KeyState<M, T, P> {
     // Lets the slices leave that are settled under the watermark, and what the parts need no more.
     // Marks that nothing needs leave with the slices, or else once they are more than the others:
     // then what it takes to move the others up is paid for by those that leave.
@@ -73,7 +73,7 @@ impl<T: AggTree<Bundle>, P: KeyPart> KeyState<T, P> {
 
 // Whether the first slice of a store begins before a time, or more of its marks could leave then than
 // would stay.
-fn has_needless<T: AggTree<Bundle>>(store: &SliceStore<T>, time: u64) -> bool
+fn has_needless<M: Partial, T: AggTree<M>>(store: &SliceStore<M, T>, time: u64) -> bool
     ensures slices { result ≡ false → slices_from time store.now.slices ≡ store.now.slices }
     ensures marks { result ≡ false
         → length store.now.marks ≤ 2 * length (marks_left time store.now.marks) }
@@ -82,7 +82,7 @@ fn has_needless<T: AggTree<Bundle>>(store: &SliceStore<T>, time: u64) -> bool
 }
 
 // Whether the first slice of a store begins before a time.
-fn begins_before<T: AggTree<Bundle>>(store: &SliceStore<T>, time: u64) -> bool
+fn begins_before<M: Partial, T: AggTree<M>>(store: &SliceStore<M, T>, time: u64) -> bool
     ensures { result ≡ false → slices_from time store.now.slices ≡ store.now.slices }
 {
     match first_time(store) {

@@ -11,12 +11,12 @@ ghost use Rattle.key_slicer.specs.Parts.{AllAhead, AllStandAt, AllTakeMark, AreS
 
 use crate::parts::{Parts, sum_of, window_count};
 use agg_laws::{AggTree, Steps};
-use aggregates::Bundle;
+use aggregates::Partial;
 use key_parts::KeyPart;
 use slice_store::SliceStore;
 use stream_base::{Change, Defs, KeyText, NoMemory};
 
-impl<P: KeyPart> Parts<P> {
+impl<M: Partial, P: KeyPart<M>> Parts<M, P> {
     // Makes room for a mark at a time in each part, and answers for how many changes.
     pub fn reserve_mark(&mut self, defs: &Defs, time: u64, water: u64) -> Result<u64, NoMemory>
         requires { (s : Stored)
@@ -35,10 +35,10 @@ impl<P: KeyPart> Parts<P> {
     }
 
     // Takes in a mark that the store has taken in, and appends what it changes, window by window.
-    pub fn mark<T: AggTree<Bundle>, L>(
+    pub fn mark<T: AggTree<M>, L>(
         &mut self,
         defs: &Defs,
-        store: &SliceStore<T>,
+        store: &SliceStore<M, T>,
         key: &KeyText,
         time: u64,
         water: u64,

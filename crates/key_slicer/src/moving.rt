@@ -13,17 +13,17 @@ ghost use Rattle.key_slicer.specs.Work.{catch_up, moves_work, walks_work};
 
 use crate::parts::{Parts, sum_of, window_count};
 use agg_laws::{AggTree, Steps};
-use aggregates::Bundle;
+use aggregates::Partial;
 use key_parts::KeyPart;
 use slice_store::SliceStore;
 use stream_base::{Change, Defs, KeyText, NoMemory};
 
-impl<P: KeyPart> Parts<P> {
+impl<M: Partial, P: KeyPart<M>> Parts<M, P> {
     // Makes room for a move of the watermark in each part, and answers for how many changes.
-    pub fn reserve_water<T: AggTree<Bundle>>(
+    pub fn reserve_water<T: AggTree<M>>(
         &mut self,
         defs: &Defs,
-        store: &SliceStore<T>,
+        store: &SliceStore<M, T>,
         old: u64,
         new: u64,
     ) -> Result<u64, NoMemory>
@@ -43,10 +43,10 @@ impl<P: KeyPart> Parts<P> {
     }
 
     // Takes in a move of the watermark, and appends what it completes, window by window.
-    pub fn water<T: AggTree<Bundle>, L>(
+    pub fn water<T: AggTree<M>, L>(
         &mut self,
         defs: &Defs,
-        store: &SliceStore<T>,
+        store: &SliceStore<M, T>,
         key: &KeyText,
         old: u64,
         new: u64,
@@ -96,10 +96,10 @@ impl<P: KeyPart> Parts<P> {
 
     // The first watermark at which something becomes complete in a window. Later than the final one
     // where nothing is left to become so.
-    pub fn next_due<T: AggTree<Bundle>>(
+    pub fn next_due<T: AggTree<M>>(
         &self,
         defs: &Defs,
-        store: &SliceStore<T>,
+        store: &SliceStore<M, T>,
         water: u64,
     ) -> u64
         requires { StandsForSome (AllStandAt P.stands defs.now) water store.now

@@ -1,24 +1,28 @@
 //! The parts of a key's windows.
-ghost use Rattle.std.specs.Prelude.{◌≡◌, ◌≤◌, ◌+◌, [], ℕ, length, IfOk};
+ghost use Rattle.std.specs.Prelude.{◌≡◌, ◌≤◌, ◌+◌, [], ℕ, length, All, IfOk};
 ghost use Rattle.stream_base.specs.Limits.{AreWithinLimits};
 ghost use Rattle.stream_base.specs.declared.limits.TheConstants.{WINDOWS_MAX};
 ghost use Rattle.agg_store.specs.Stored.{Stored};
 ghost use Rattle.key_windows.specs.Calls.{moment};
 ghost use Rattle.key_slicer.specs.Parts.{AllAhead, AreStanding, all_credit};
 
+use aggregates::Partial;
 use key_parts::{AnyPart, KeyPart};
 use std::alloc::Global;
+use std::marker::PhantomData;
 use stream_base::{Defs, NoMemory};
 
 /// The parts of the windows of a key, in the order of the definitions.
 #[derive(Drop)]
-pub struct Parts<P: KeyPart> {
+pub struct Parts<M: Partial, P: KeyPart<M>> {
     pub list: Vec<P>,
+    of: PhantomData<M>,
 }
 
-impl<P: AnyPart> Parts<P> {
+impl<M: Partial, P: AnyPart<M>> Parts<M, P> {
     // The parts of a key that has no tuple and no mark yet.
-    pub fn fresh(alloc: Global, defs: &Defs) -> Result<Parts<P>, NoMemory>
+    pub fn fresh(alloc: Global, defs: &Defs) -> Result<Parts<M, P>, NoMemory>
+        requires { All (λ w. M.serves w.func) (defs.now).windows }
         ensures stands { (water : ℕ) (s : Stored) → s.slices ≡ [] → IfOk result
             (λ parts. AreStanding P.stands defs.now (moment [] [] water) 0 s parts.list.items) }
         ensures credit { IfOk result (λ parts. all_credit P.credit parts.list.items ≡ 0) }
@@ -31,7 +35,10 @@ impl<P: AnyPart> Parts<P> {
         for window in 0..count {
             list.push_reserved(P::fresh(alloc, defs, window));
         }
-        Ok(Parts { list })
+        Ok(Parts {
+            list,
+            of: PhantomData,
+        })
     }
 }
 

@@ -10,10 +10,11 @@ ghost use Rattle.key_parts.specs.Moves.{SettlesUpTo};
 ghost use Rattle.key_slicer.specs.Parts.{AllAhead, AllLoseSettled, AllStandAt, AreStanding, EachPart, IsLeastOf, all_credit};
 
 use crate::parts::{Parts, window_count};
+use aggregates::Partial;
 use key_parts::KeyPart;
 use stream_base::Defs;
 
-impl<P: KeyPart> Parts<P> {
+impl<M: Partial, P: KeyPart<M>> Parts<M, P> {
     // Up to which time all tuples are settled under a watermark, its own or a later one: the least
     // of the watermark minus the lateness and of the times of the windows.
     pub fn first_unsettled(&self, defs: &Defs, water: u64) -> u64

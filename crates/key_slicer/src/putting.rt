@@ -13,12 +13,12 @@ ghost use Rattle.key_slicer.specs.Work.{turns_work};
 
 use crate::parts::{Parts, sum_of, window_count};
 use agg_laws::{AggTree, Steps};
-use aggregates::Bundle;
+use aggregates::Partial;
 use key_parts::KeyPart;
 use slice_store::SliceStore;
 use stream_base::{Change, Defs, KeyText, NoMemory};
 
-impl<P: KeyPart> Parts<P> {
+impl<M: Partial, P: KeyPart<M>> Parts<M, P> {
     // Makes room for a tuple at a time in each part, and answers for how many changes.
     pub fn reserve_put(&mut self, defs: &Defs, time: u64, water: u64) -> Result<u64, NoMemory>
         requires { (s : Stored)
@@ -37,10 +37,10 @@ impl<P: KeyPart> Parts<P> {
     }
 
     // Keeps in each part what stands of the instances that a tuple at a time changes.
-    pub fn before<T: AggTree<Bundle>, L>(
+    pub fn before<T: AggTree<M>, L>(
         &mut self,
         defs: &Defs,
-        store: &SliceStore<T>,
+        store: &SliceStore<M, T>,
         time: u64,
         water: u64,
         steps: &mut Steps<L>,
@@ -74,10 +74,10 @@ impl<P: KeyPart> Parts<P> {
     }
 
     // Takes in a tuple that the store has taken in, and appends what it changes, window by window.
-    pub fn put<T: AggTree<Bundle>, L>(
+    pub fn put<T: AggTree<M>, L>(
         &mut self,
         defs: &Defs,
-        store: &SliceStore<T>,
+        store: &SliceStore<M, T>,
         key: &KeyText,
         pos: u64,
         time: u64,

@@ -12,11 +12,11 @@ ghost use Rattle.key_slicer.specs.States.{Fits, FitsSome, IsFirstTime};
 
 use crate::key_state::{KeyState, all_count_events, first_time};
 use agg_laws::AggTree;
-use aggregates::Bundle;
+use aggregates::Partial;
 use key_parts::KeyPart;
 use stream_base::{Defs, FINAL, TIME_MAX};
 
-impl<T: AggTree<Bundle>, P: KeyPart> KeyState<T, P> {
+impl<M: Partial, T: AggTree<M>, P: KeyPart<M>> KeyState<M, T, P> {
     // The first watermark at which a tuple in the store is settled. Later than the final one where
     // none can be.
     pub fn next_settled(&self, defs: &Defs, water: u64) -> u64

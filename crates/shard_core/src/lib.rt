@@ -17,9 +17,10 @@
 #![tactic(auto)]
 
 use agg_queue::Daba;
-use aggregates::Bundle;
+use aggregates::{Bundle, Summary};
 use fiba_finger::FingerTree;
 use key_slicer::KeyState;
+use key_windows::EitherKey;
 use window_parts::WindowPart;
 
 mod applied;
@@ -44,5 +45,9 @@ pub use work::apply_counted;
 
 /// A shard whose keys keep their tuples in slices that all windows of a key share: the partials of
 /// the slices lie in a tree with fingers at both ends, and those of a tumbling or sliding window in
-/// a DABA queue.
-pub type Shard = KeyedShard<KeyState<FingerTree<Bundle>, WindowPart<Daba<Bundle>>>>;
+/// a DABA queue. Where the definitions ask only for functions of which the order of values makes no
+/// difference, the partials are summaries, and else bundles of all functions.
+pub type Shard = KeyedShard<EitherKey<KeyOf<Bundle>, KeyOf<Summary>>>;
+
+/// The engine for the windows of a key, over partials of one kind.
+pub type KeyOf<M> = KeyState<M, FingerTree<M>, WindowPart<M, Daba<M>>>;
