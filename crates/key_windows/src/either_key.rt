@@ -6,7 +6,7 @@ use crate::any_key::AnyKey;
 use crate::key_windows::KeyWindows;
 use agg_laws::Steps;
 use std::alloc::Global;
-use stream_base::{Change, Defs, KeyText, NoMemory};
+use stream_base::{Change, Defs, Kept, KeyText, NoMemory};
 
 /// One of two engines for the windows of a key: a lean one where it can show the functions of all
 /// windows, and else one that shows all functions.
@@ -80,16 +80,14 @@ impl<A: AnyKey, B: KeyWindows> KeyWindows for EitherKey<A, B> {
     fn put<L>(
         &mut self,
         defs: &Defs,
-        pos: u64,
-        time: u64,
-        value: i64,
+        x: Kept,
         water: u64,
         out: &mut Vec<Change>,
         steps: &mut Steps<L>,
     ) -> bool {
         match self {
-            EitherKey::Full(key) => key.put(defs, pos, time, value, water, out, steps),
-            EitherKey::Lean(key) => key.put(defs, pos, time, value, water, out, steps),
+            EitherKey::Full(key) => key.put(defs, x, water, out, steps),
+            EitherKey::Lean(key) => key.put(defs, x, water, out, steps),
         }
     }
 

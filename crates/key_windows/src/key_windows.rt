@@ -5,13 +5,13 @@ ghost use Rattle.std.specs.Ordering.{nat_cmp};
 ghost use Rattle.stream_base.specs.declared.kept.Kept.{Kept};
 ghost use Rattle.stream_base.specs.declared.limits.TheConstants.{FINAL, JOURNAL_MAX};
 ghost use Rattle.stream_base.specs.Model.Journal.{put_in_order};
-ghost use Rattle.key_windows.specs.Calls.{BringsMore, IsWater, MakesRoom, MayReserve, MayTakeIn, StandsUnder, StaysAhead, TakesIn, changes_by_move, kept_at, moment, slices_at};
+ghost use Rattle.key_windows.specs.Calls.{BringsMore, IsWater, MakesRoom, MayReserve, MayTakeIn, StandsUnder, StaysAhead, TakesIn, changes_by_move, moment, slices_at};
 ghost use Rattle.key_windows.specs.Calls.Call.{Put, Mark, Move};
 ghost use Rattle.key_windows.specs.Dues.{IsExact, LeavesDue, LeavesExact};
 
 use agg_laws::Steps;
 use std::alloc::Global;
-use stream_base::{Change, Defs, KeyText, NoMemory};
+use stream_base::{Change, Defs, Kept, KeyText, NoMemory};
 
 /// The windows of one key. `put`, `mark` and `water` append exactly the key's changes: retractions
 /// first, then emissions and updates, each by window, start and end. The call that makes room comes
@@ -97,34 +97,32 @@ pub trait KeyWindows: Drop {
     fn put<L>(
         &mut self,
         defs: &Defs,
-        pos: u64,
-        time: u64,
-        value: i64,
+        x: Kept,
         water: u64,
         out: &mut Vec<Change>,
         steps: &mut Steps<L>,
     ) -> bool
-        requires comes { MayTakeIn fits defs.now is_ready promised (Put time water)
+        requires comes { MayTakeIn fits defs.now is_ready promised (Put x.time water)
             self.old out.old }
-        requires position { next_position self.old ≤ pos }
-        requires few { pos < JOURNAL_MAX }
+        requires position { next_position self.old ≤ x.position }
+        requires few { x.position < JOURNAL_MAX }
         ensures taken { TakesIn fits defs.now key_of next_position water
-            (λ kept marks. moment (put_in_order kept (kept_at pos time value)) marks water)
-            (pos + 1) self.old self.new out.old out.new }
+            (λ kept marks. moment (put_in_order kept x) marks water) (x.position + 1)
+            self.old self.new out.old out.new }
         ensures work { (kept : List Kept) (marks : List ℕ)
             → fits defs.now kept marks water self.old
             → steps.new ≤ steps.old + put_work defs.now (moment kept marks water)
-            (moment (put_in_order kept (kept_at pos time value)) marks water) time self.old }
+            (moment (put_in_order kept x) marks water) x.time self.old }
         ensures bound { (kept : List Kept) (marks : List ℕ)
             → fits defs.now kept marks water self.old → (bound : ℕ)
             × bounds_put defs.now (key_of self.old) (moment kept marks water)
-            (moment (put_in_order kept (kept_at pos time value)) marks water) time bound
+            (moment (put_in_order kept x) marks water) x.time bound
             × (steps.new ≤ steps.old + bound) }
-        ensures pace { StaysAhead credit is_ahead defs.now time water self.old self.new }
-        ensures due { result ≡ true → LeavesDue fits defs.now (key_of self.old) water
-            (kept_at pos time value) self.old self.new }
-        ensures exact { result ≡ true → LeavesExact fits defs.now (key_of self.old) water
-            (kept_at pos time value) self.old };
+        ensures pace { StaysAhead credit is_ahead defs.now x.time water self.old self.new }
+        ensures due { result ≡ true → LeavesDue fits defs.now (key_of self.old) water x
+            self.old self.new }
+        ensures exact { result ≡ true → LeavesExact fits defs.now (key_of self.old) water x
+            self.old };
 
     /// Makes room for a mark at a time.
     fn reserve_mark(&mut self, defs: &Defs, time: u64, water: u64) -> Result<u64, NoMemory>

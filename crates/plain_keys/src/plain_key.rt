@@ -269,17 +269,6 @@ impl PlainKey {
     }
 }
 
-// A tuple at a position.
-fn kept_at(position: u64, time: u64, value: i64) -> Kept
-    ensures { result ≡ kept_at position time value }
-{
-    Kept {
-        position,
-        time,
-        value,
-    }
-}
-
 // Changes nothing, and tells a proof how far a counter counts.
 fn vouch_count<L>(steps: &Steps<L>)
     ensures { steps.now ≤ most_steps }
@@ -353,19 +342,16 @@ impl KeyWindows for PlainKey {
     fn put<L>(
         &mut self,
         defs: &Defs,
-        pos: u64,
-        time: u64,
-        value: i64,
+        x: Kept,
         water: u64,
         out: &mut Vec<Change>,
         steps: &mut Steps<L>,
     ) -> bool {
         let _windows = defs.windows();
-        let x = kept_at(pos, time, value);
         self.vouch();
-        if water < time {
+        if water < x.time {
             self.put_ahead(x);
-            self.look_behind(defs, time, water);
+            self.look_behind(defs, x.time, water);
             vouch_count(steps);
             false
         } else {
