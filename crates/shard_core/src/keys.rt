@@ -17,7 +17,7 @@ use crate::told::Told;
 use agg_laws::Steps;
 use key_windows::{AnyKey, KeyWindows};
 use std::alloc::Global;
-use stream_base::{Defs, KeyText, NoMemory};
+use stream_base::{Defs, Kept, KeyText, NoMemory};
 
 // The states of the keys. A key has its place in the order in which keys came; each state stands
 // under a watermark of its own, and beside it is up to which watermark nothing is due: up to there
@@ -163,7 +163,12 @@ impl<K: AnyKey> KeyTable<K> {
         let place = self.prepare(alloc, past, key, told)?;
         let defs = past.defs();
         let position = past.len();
-        let stays = self.slots[place].put(defs, position, time, value, place, told, steps)?;
+        let x = Kept {
+            position,
+            time,
+            value,
+        };
+        let stays = self.slots[place].put(defs, x, place, told, steps)?;
         if stays {
             return Ok(place);
         }

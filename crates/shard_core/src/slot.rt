@@ -1,7 +1,7 @@
 ghost use Rattle.std.specs.Prelude.{◌≡◌, ◌≤◌, ◌<◌, ◌+◌, ◌++◌, [], ℕ, List, true, IfOk, OnOk, OnErr};
 ghost use Rattle.std.specs.BTreeSet.{insert_key};
 ghost use Rattle.std.specs.Ordering.{nat_cmp};
-ghost use Rattle.key_windows.specs.Calls.{IsWater, changes_by_mark, changes_by_move, changes_by_put, kept_at, moment};
+ghost use Rattle.key_windows.specs.Calls.{IsWater, changes_by_mark, changes_by_move, changes_by_put, moment};
 ghost use Rattle.key_windows.specs.Dues.{IsDueNumber};
 ghost use Rattle.stream_base.specs.declared.kept.Kept.{Kept};
 ghost use Rattle.stream_base.specs.declared.limits.TheConstants.{JOURNAL_MAX};
@@ -13,7 +13,7 @@ use crate::told::Told;
 use agg_laws::Steps;
 use key_windows::{AnyKey, KeyWindows};
 use std::alloc::Global;
-use stream_base::{Defs, KeyText, NoMemory};
+use stream_base::{Defs, Kept, KeyText, NoMemory};
 
 // The state of a key, and the watermark under which it stands.
 #[derive(Drop)]
@@ -39,53 +39,48 @@ impl<K: AnyKey> Slot<K> {
     pub fn put<L>(
         &mut self,
         defs: &Defs,
-        position: u64,
-        time: u64,
-        value: i64,
+        x: Kept,
         place: usize,
         told: &mut Told,
         steps: &mut Steps<L>,
     ) -> Result<bool, NoMemory>
         requires settled { IsSettled told.old }
-        requires accepted { Accepts K.fits defs.now self.old time }
-        requires position { K.next_position (self.old).state ≤ position }
-        requires few { position < JOURNAL_MAX }
+        requires accepted { Accepts K.fits defs.now self.old x.time }
+        requires position { K.next_position (self.old).state ≤ x.position }
+        requires few { x.position < JOURNAL_MAX }
         ensures settled { IsSettled told.new }
         ensures refused { OnErr result
             (HasRefused K.key_of K.fits K.next_position defs.now self.old self.new
             told.old.log.items told.new.log.items steps.old steps.new) }
         ensures key { OnOk result (K.key_of (self.new).state ≡ K.key_of (self.old).state) }
         ensures water { OnOk result ((self.new).water ≡ (self.old).water) }
-        ensures next { OnOk result (K.next_position (self.new).state ≡ position + 1) }
+        ensures next { OnOk result (K.next_position (self.new).state ≡ x.position + 1) }
         ensures fits { (kept : List Kept) (marks : List ℕ)
             → SlotFits K.fits defs.now kept marks self.old
-            → OnOk result (K.fits defs.now (put_in_order kept (kept_at position time value)) marks
-            (self.new).water (self.new).state) }
+            → OnOk result (K.fits defs.now (put_in_order kept x) marks (self.new).water
+            (self.new).state) }
         ensures changes { (kept : List Kept) (marks : List ℕ)
             → SlotFits K.fits defs.now kept marks self.old
             → OnOk result (told.new.log.items ≡ told.old.log.items
-            ++ changes_by_put defs.now (K.key_of (self.old).state) kept marks (self.old).water
-            (kept_at position time value)) }
+            ++ changes_by_put defs.now (K.key_of (self.old).state) kept marks (self.old).water x) }
         ensures bound { (kept : List Kept) (marks : List ℕ)
             → SlotFits K.fits defs.now kept marks self.old
             → OnOk result ((bound : ℕ) × K.bounds_put defs.now (K.key_of (self.old).state)
             (moment kept marks (self.old).water)
-            (moment (put_in_order kept (kept_at position time value)) marks (self.old).water)
-            time bound × (steps.new ≤ steps.old + bound)) }
+            (moment (put_in_order kept x) marks (self.old).water) x.time bound
+            × (steps.new ≤ steps.old + bound)) }
         ensures due { (kept : List Kept) (marks : List ℕ) (due : ℕ)
             → SlotFits K.fits defs.now kept marks self.old
             → IsDueNumber K.fits defs.now (K.key_of (self.old).state) kept marks (self.old).water
             (self.old).state due → IfOk result (λ stays. stays ≡ true
             → IsDueNumber K.fits defs.now (K.key_of (self.old).state)
-            (put_in_order kept (kept_at position time value)) marks (self.old).water
+            (put_in_order kept x) marks (self.old).water
             (self.new).state due) }
     {
-        let room = self.state.reserve_put(defs, time, self.water)?;
+        let room = self.state.reserve_put(defs, x.time, self.water)?;
         told.reserve(room as usize)?;
         let out = &mut told.waiting;
-        let stays = self
-            .state
-            .put(defs, position, time, value, self.water, out, steps);
+        let stays = self.state.put(defs, x, self.water, out, steps);
         told.settle(place);
         Ok(stays)
     }

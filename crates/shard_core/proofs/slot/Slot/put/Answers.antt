@@ -1,8 +1,6 @@
 -- With room made it stands for the same lists.
-use Rattle.std.proofs.Common.{ℕ, ℤ, List, of_z, rules, subst, to_z, w64}
-use Rattle.std.proofs.lemmas.Int.{to_z-of_z}
+use Rattle.std.proofs.Common.{ℕ, List, rules, subst}
 use Rattle.stream_base.specs.Model.Journal.{put_in_order}
-use Rattle.key_windows.specs.Calls.{kept_at}
 use Rattle.key_windows.specs.Dues.{IsDueNumber}
 use Rattle.shard_core.proofs.slot.Slot.put.Goals as goal
 
@@ -25,12 +23,10 @@ returns-clause-due g c = λ kept marks due stands number stays.
     let old = c.args.self.now in
     let new = c.put-stays.new.self in
     let ready = c.reserve_put.ensures.stays kept marks old.water stands in
-    let after : IsDueNumber fits d (key_of c.reserve_put.new.self) (put_in_order kept (kept_at c.args.position c.args.time (to_z w64 (of_z w64 c.args.value)))) marks old.water new due = record {
+    subst (λ (k : List ℕ). IsDueNumber fits d k (put_in_order kept c.args.x) marks old.water new due) c.reserve_put.ensures.key (record {
       quiet = c.put-stays.ensures.due stays kept marks due ready (record {
         nothing_changes = λ later rises below. rw c.reserve_put.ensures.key (number.quiet.nothing_changes later rises below);
         waits = λ later is rises below. c.reserve_put.ensures.stays kept marks later (number.quiet.waits later is rises below);
       });
       exact = c.put-stays.ensures.exact stays kept marks due ready (rw c.reserve_put.ensures.key number.exact);
-    } in
-    subst (λ (v : ℤ). IsDueNumber fits d (key_of old.state) (put_in_order kept (kept_at c.args.position c.args.time v)) marks old.water new due) (to_z-of_z w64 c.args.value c.ranges.value)
-    (subst (λ (k : List ℕ). IsDueNumber fits d k (put_in_order kept (kept_at c.args.position c.args.time (to_z w64 (of_z w64 c.args.value)))) marks old.water new due) c.reserve_put.ensures.key after)
+    })
