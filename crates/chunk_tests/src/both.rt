@@ -1,5 +1,5 @@
 use agg_laws::{Lift, Monoid, Steps};
-use aggregates::Bundle;
+use aggregates::{Bundle, Partial};
 use std::process::Abort;
 use std::test::Fail;
 use stream_base::{Func, Kept};
@@ -11,7 +11,7 @@ pub struct Work;
 // The tuples of a key, and the same ones in a plain list.
 #[derive(Drop)]
 pub struct Both {
-    pub tuples: Tuples,
+    pub tuples: Tuples<Bundle>,
     pub plain: Vec<Kept>,
     pub steps: Steps<Work>,
 }
