@@ -157,6 +157,8 @@ impl Partial for Bundle {
 
     ghost partial = { record { laws = bundle_laws; lifts = bundle_lifts; totals = total_of_bundles } };
 
+    ghost counts = { tt };
+
     ghost commutes = { λ e. absurd (false≢true e) };
 
     fn can_show(_func: Func) -> bool {

@@ -1,5 +1,6 @@
 ghost use Rattle.std.specs.Prelude.{◌≡◌, ℤ, List, Bool, true};
 ghost use Rattle.stream_base.specs.declared.func.Func.{Func};
+ghost use Rattle.stream_base.specs.declared.func.Func.TheVariants.{Count};
 ghost use Rattle.stream_base.specs.Model.Functions.{shown_of};
 ghost use Rattle.aggregates.specs.Order.{Commutes};
 ghost use Rattle.aggregates.specs.Partial.{IsPartial};
@@ -35,6 +36,9 @@ pub trait Partial: Lift {
 
     // It combines what single values come to.
     ghost partial: { IsPartial Self.is_value Self.empty Self.op Self.of_number of_values };
+
+    // It shows how many values there are.
+    ghost counts: { serves Count };
 
     // Two of them may be swapped, where that is said.
     ghost commutes: { any_order ≡ true → Commutes Self.is_value Self.op };

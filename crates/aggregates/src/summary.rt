@@ -91,6 +91,8 @@ impl Partial for Summary {
     ghost partial = { record { laws = summary_laws; lifts = summary_lifts;
         totals = total_of_summaries } };
 
+    ghost counts = { tt };
+
     ghost commutes = { λ _. summaries_commute };
 
     fn can_show(func: Func) -> bool {
