@@ -131,7 +131,12 @@ fn is_same(first: Span, second: Span) -> bool
 }
 
 // What the instance over a span shows, by the fold of its slices.
-pub fn standing<M: Partial, S: AggStore<M>, L>(store: &S, span: Span, func: Func, steps: &mut Steps<L>) -> Standing
+pub fn standing<M: Partial, S: AggStore<M>, L>(
+    store: &S,
+    span: Span,
+    func: Func,
+    steps: &mut Steps<L>,
+) -> Standing
     requires aligned { IsAlignedWith (S.stored store.now).slices span }
     requires serves { M.serves func }
     ensures span { result.span ≡ span }
