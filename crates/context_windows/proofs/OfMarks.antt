@@ -8,6 +8,7 @@ use Rattle.std.proofs.lemmas.Cmp.{nat_cmp_total}
 use Rattle.std.proofs.lemmas.List.Elements.{All-cons, All-contains, All-filter, All-head, All-tail, All-weaker, Contains-append_cases}
 use Rattle.std.proofs.lemmas.Map.Keys.{sorted_tail}
 use Rattle.stream_base.specs.declared.def.Def.{Def}
+use Rattle.stream_base.specs.declared.func.Func.{Func}
 use Rattle.stream_base.specs.declared.kept.Kept.{Kept}
 use Rattle.stream_base.specs.declared.kind.Kind.{Kind}
 use Rattle.stream_base.specs.declared.kind.Kind.TheVariants.{Marks}
@@ -163,8 +164,8 @@ left_held d window at m n s may time late h =
     }
 
 -- ---- up to which time tuples are settled
-pub stretches_settle : (d : Definitions) (window : ℕ) (m : Moment) (n water : ℕ) (p : Marked) → m.water ≤ water → MayLeave d m n → All (λ (x : Kept). x.time ≤ TIME_MAX) m.kept → DoStandBetween d window m n p → SettlesUpTo d.lateness (at_water (without_first n m) water) (window_at d window) (start_after (water - d.lateness) p.spans)
-stretches_settle d window m n water p rises may times st =
+pub stretches_settle : {serves : Func → Type 0} → (d : Definitions) (window : ℕ) (m : Moment) (n water : ℕ) (p : Marked) → m.water ≤ water → MayLeave d m n → All (λ (x : Kept). x.time ≤ TIME_MAX) m.kept → DoStandBetween serves d window m n p → SettlesUpTo d.lateness (at_water (without_first n m) water) (window_at d window) (start_after (water - d.lateness) p.spans)
+stretches_settle {serves} d window m n water p rises may times st =
     let w = window_at d window in
     let kind = st.marks.kind in
     settles_up_to d m n water w may (is_window d window st.marks.within) (no_events w.kind kind) rises times p.forgotten st.bounded p.spans

@@ -3,6 +3,7 @@ use Rattle.std.proofs.Common.{◌≡◌, ◌∙◌, ℕ, ◌+◌, ◌-◌, ◌�
 use Rattle.std.specs.Prelude.{nat_le, nat_lt}
 use Rattle.std.specs.List.{All, Contains, filter}
 use Rattle.std.proofs.lemmas.List.Elements.{All-contains, All-filter, All-weaker}
+use Rattle.stream_base.specs.declared.func.Func.{Func}
 use Rattle.stream_base.specs.declared.kept.Kept.{Kept}
 use Rattle.stream_base.specs.declared.kind.Kind.{Kind}
 use Rattle.stream_base.specs.declared.kind.Kind.TheVariants.{Tumbling, Sliding, Session, Marks, Events}
@@ -47,8 +48,8 @@ runs_apart gap some (run ∷ runs) a =
 sessions_lie_apart : (gap : ℕ) (kept : List Kept) → 1 ≤ gap → TimesDoNotFall kept → AreApart (map span_of (sessions gap kept))
 sessions_lie_apart gap kept some h = runs_apart gap some (pieces_of (λ x y. nat_le gap (y.time - x.time)) kept) (session_runs gap kept h)
 
-pub sessions_settle : (d : Definitions) (window : ℕ) (m : Moment) (n water : ℕ) (p : Spanned) → m.water ≤ water → MayLeave d m n → All (λ (x : Kept). x.time ≤ TIME_MAX) m.kept → DoStand d window m n p → SettlesUpTo d.lateness (at_water (without_first n m) water) (window_at d window) (start_after (water - d.lateness) p.spans)
-sessions_settle d window m n water p rises may times st =
+pub sessions_settle : {serves : Func → Type 0} → (d : Definitions) (window : ℕ) (m : Moment) (n water : ℕ) (p : Spanned) → m.water ≤ water → MayLeave d m n → All (λ (x : Kept). x.time ≤ TIME_MAX) m.kept → DoStand serves d window m n p → SettlesUpTo d.lateness (at_water (without_first n m) water) (window_at d window) (start_after (water - d.lateness) p.spans)
+sessions_settle {serves} d window m n water p rises may times st =
     let w = window_at d window in
     let session = st.session.session in
     settles_up_to d m n water w may (is_window d window st.session.within) (no_events w.kind session) rises times p.forgotten st.bounded p.spans

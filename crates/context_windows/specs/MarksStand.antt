@@ -1,6 +1,7 @@
 -- What the intervals between the marks of a key stand for, where settled tuples may have left the store.
 use Rattle.std.specs.Prelude.{◌≡◌, ◌≤◌, ◌<◌, ◌-◌, ℕ, drop, length}
 use Rattle.stream_base.specs.Limits.{Definitions}
+use Rattle.stream_base.specs.declared.func.Func.{Func}
 use Rattle.stream_base.specs.declared.kind.Kind.TheVariants.{Marks}
 use Rattle.stream_base.specs.Model.Changes.{Moment}
 use Rattle.window_laws.specs.After.{at_water}
@@ -13,9 +14,15 @@ pub record IsMarksAt (d : Definitions) (window : ℕ) : Type 0 where
   pub within : window < length d.windows
   pub kind : (window_at d window).kind ≡ Marks
 
--- they are the intervals with a tuple of all that is kept of a key, and of what is left of it without so many first tuples, but for some that end by the watermark minus the lateness
-pub record DoStandBetween (d : Definitions) (window : ℕ) (m : Moment) (n : ℕ) (s : Marked) : Type 0 where
+-- one of the definitions is this window between marks, and its function can be shown
+pub record IsMarksShown (serves : Func → Type 0) (d : Definitions) (window : ℕ) : Type 0 where
   pub marks : IsMarksAt d window
+  pub shown : serves (window_at d window).func
+
+-- they are the intervals with a tuple of all that is kept of a key, and of what is left of it without so many first tuples, but for some that end by the watermark minus the lateness; the function of their window can be shown
+pub record DoStandBetween (serves : Func → Type 0) (d : Definitions) (window : ℕ) (m : Moment) (n : ℕ) (s : Marked) : Type 0 where
+  pub marks : IsMarksAt d window
+  pub shown : serves (window_at d window).func
   pub follows : FollowsMarks m.marks m.kept s
   pub left : FollowsMarks m.marks (drop n m.kept) s
   pub bounded : s.forgotten ≤ m.water - d.lateness
@@ -25,9 +32,10 @@ pub record RemembersHolderAt (d : Definitions) (window : ℕ) (m : Moment) (time
   pub remembers : RemembersHolder (window_at d window).func time m.water m.marks m.kept s
 
 -- at a later watermark they stand on
-pub do_stand_between_on : (d : Definitions) (window : ℕ) (m : Moment) (n : ℕ) (s : Marked) (new : ℕ) → DoStandBetween d window m n s → m.water ≤ new → DoStandBetween d window (at_water m new) n s
-do_stand_between_on d window m n s new stood rises = record {
+pub do_stand_between_on : {serves : Func → Type 0} → (d : Definitions) (window : ℕ) (m : Moment) (n : ℕ) (s : Marked) (new : ℕ) → DoStandBetween serves d window m n s → m.water ≤ new → DoStandBetween serves d window (at_water m new) n s
+do_stand_between_on {serves} d window m n s new stood rises = record {
   marks = stood.marks;
+  shown = stood.shown;
   follows = stood.follows;
   left = stood.left;
   bounded = stays_before s.forgotten m.water new d.lateness stood.bounded rises;

@@ -6,6 +6,7 @@ use crate::mark_windows::MarkWindows;
 use crate::settled::settled_with;
 use agg_laws::Steps;
 use agg_store::AggStore;
+use aggregates::Partial;
 use key_parts::KeyPart;
 use std::alloc::Global;
 use stream_base::{Change, Defs, Func, KeyText, NoMemory};
@@ -26,16 +27,16 @@ fn func_at(defs: &Defs, window: u32) -> Func
     windows[window as usize].func
 }
 
-impl KeyPart for MarkPart {
+impl<M: Partial> KeyPart<M> for MarkPart {
     ghost use Rattle.std.proofs.Common.{◌≤◌, ◌-◌, length, zero-le};
-    ghost use Rattle.context_windows.specs.MarksStand.{DoStandBetween, IsMarksAt, RemembersHolderAt, do_stand_between_on};
+    ghost use Rattle.context_windows.specs.MarksStand.{DoStandBetween, IsMarksShown, RemembersHolderAt, do_stand_between_on};
     ghost use Rattle.window_spans.specs.Ahead.{start_after};
     ghost use Rattle.window_spans.specs.Spans.{due_of};
     ghost use Rattle.context_windows.specs.Marked.{holder_in, most_changes};
 
-    ghost is_for = { IsMarksAt };
+    ghost is_for = { IsMarksShown M.serves };
 
-    ghost stands = { λ d window m n s p. DoStandBetween d window m n p.windows };
+    ghost stands = { λ d window m n s p. DoStandBetween M.serves d window m n p.windows };
 
     ghost is_asked = { λ d window m time p. RemembersHolderAt d window m time p.windows };
 
@@ -96,7 +97,7 @@ impl KeyPart for MarkPart {
         self.windows.reserve(window, time, water)
     }
 
-    fn before<S: AggStore, L>(
+    fn before<S: AggStore<M>, L>(
         &mut self,
         defs: &Defs,
         window: u32,
@@ -109,7 +110,7 @@ impl KeyPart for MarkPart {
         self.windows.before(window, func, store, time, water, steps);
     }
 
-    fn put<S: AggStore, L>(
+    fn put<S: AggStore<M>, L>(
         &mut self,
         defs: &Defs,
         window: u32,
@@ -140,7 +141,7 @@ impl KeyPart for MarkPart {
         self.windows.reserve(window, time, water)
     }
 
-    fn mark<S: AggStore, L>(
+    fn mark<S: AggStore<M>, L>(
         &mut self,
         defs: &Defs,
         window: u32,
@@ -159,7 +160,7 @@ impl KeyPart for MarkPart {
             .drop_needless(water.saturating_sub(defs.lateness()));
     }
 
-    fn reserve_water<S: AggStore>(
+    fn reserve_water<S: AggStore<M>>(
         &mut self,
         defs: &Defs,
         window: u32,
@@ -172,7 +173,7 @@ impl KeyPart for MarkPart {
         Ok(self.windows.due(window, old, new))
     }
 
-    fn water<S: AggStore, L>(
+    fn water<S: AggStore<M>, L>(
         &mut self,
         defs: &Defs,
         window: u32,
@@ -188,7 +189,7 @@ impl KeyPart for MarkPart {
             .water(window, func, store, key, old, new, out, steps);
     }
 
-    fn next_due<S: AggStore>(&self, defs: &Defs, window: u32, store: &S, water: u64) -> u64 {
+    fn next_due<S: AggStore<M>>(&self, defs: &Defs, window: u32, store: &S, water: u64) -> u64 {
         let _ = defs;
         let _ = window;
         let _ = store;

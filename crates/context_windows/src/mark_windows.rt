@@ -20,6 +20,7 @@ ghost use Rattle.context_windows.specs.Spanned.{changes_of};
 
 use agg_laws::Steps;
 use agg_store::AggStore;
+use aggregates::Partial;
 use std::alloc::Global;
 use std::marker::Model;
 use stream_base::{Change, Func, KeyText, NoMemory};
@@ -90,7 +91,7 @@ impl MarkWindows {
 
     /// Keeps what the interval shows that holds a time, if it stands. It is called before the store
     /// takes the tuple in.
-    pub fn before<S: AggStore, L>(
+    pub fn before<M: Partial, S: AggStore<M>, L>(
         &mut self,
         window: u32,
         func: Func,
@@ -102,6 +103,7 @@ impl MarkWindows {
         requires time { time < FINAL }
         requires aligned { AreAlignedWith (S.stored store.now).slices
             (asked_at time water self.old.spans) }
+        requires serves { M.serves func }
         ensures kept { DiffersInStood (spanned_of self.old) (spanned_of self.new) }
         ensures marks { self.new.marks ≡ self.old.marks }
         ensures remembers { (marks : List ℕ) (kept : List Kept) → FollowsMarks marks kept self.old
@@ -116,7 +118,7 @@ impl MarkWindows {
 
     /// Takes in a tuple that the store has taken in, and appends exactly the window's changes: at most
     /// one, of the interval that holds it. `reserve` made the room; `before` kept what stood.
-    pub fn put<S: AggStore, L>(
+    pub fn put<M: Partial, S: AggStore<M>, L>(
         &mut self,
         window: u32,
         func: Func,
@@ -130,6 +132,7 @@ impl MarkWindows {
         requires takes { MayTake time self.old.spare }
         requires aligned { AreAlignedWith (S.stored store.now).slices
             (entered_at time water self.old) }
+        requires serves { M.serves func }
         requires spare { length (entered_at time water self.old) ≤ room out.old }
         ensures follows { (marks : List ℕ) (kept : List Kept) (x : Kept)
             → FollowsMarks marks kept self.old → self.old.forgotten ≤ time → x.time ≡ time
@@ -160,7 +163,7 @@ impl MarkWindows {
     /// Takes in a mark that the store has taken in, and appends exactly the window's changes: the
     /// interval that the mark parts is taken back where it stood, and each of its parts that has a
     /// tuple and stands is new. `reserve` made the room.
-    pub fn mark<S: AggStore, L>(
+    pub fn mark<M: Partial, S: AggStore<M>, L>(
         &mut self,
         window: u32,
         func: Func,
@@ -174,6 +177,7 @@ impl MarkWindows {
         requires takes { MayTake time self.old.spare }
         requires aligned { AreAlignedWith (S.stored store.now).slices
             (with_parts time (parted_of time self.old.spans)) }
+        requires serves { M.serves func }
         requires spare { most_changes time water (holder_in time self.old.spans self.old.marks)
             ≤ room out.old }
         ensures follows { (marks : List ℕ) (kept : List Kept) → FollowsMarks marks kept self.old
@@ -239,7 +243,7 @@ impl MarkWindows {
 
     /// Appends exactly the intervals that a move of the watermark completes, as new. `due` says how
     /// many.
-    pub fn water<S: AggStore, L>(
+    pub fn water<M: Partial, S: AggStore<M>, L>(
         &self,
         window: u32,
         func: Func,
@@ -252,6 +256,7 @@ impl MarkWindows {
     )
         requires aligned { AreAlignedWith (S.stored store.now).slices
             (due_of old new self.now.spans) }
+        requires serves { M.serves func }
         requires spare { length (due_of old new self.now.spans) ≤ room out.old }
         ensures changes { (m : Moment) → FollowsMarks m.marks m.kept self.now
             → self.now.forgotten ≤ old → m.water ≡ old

@@ -5,6 +5,7 @@ use crate::sessions::Sessions;
 use crate::settled::settled_with;
 use agg_laws::Steps;
 use agg_store::AggStore;
+use aggregates::Partial;
 use key_parts::KeyPart;
 use std::alloc::Global;
 use stream_base::{Change, Defs, KeyText, NoMemory};
@@ -16,16 +17,16 @@ pub struct SessionPart {
     sessions: Sessions,
 }
 
-impl KeyPart for SessionPart {
+impl<M: Partial> KeyPart<M> for SessionPart {
     ghost use Rattle.std.proofs.Common.{◌≤◌, ◌-◌, length, zero-le};
-    ghost use Rattle.context_windows.specs.SessionsStand.{AreAsked, DoStand, do_stand_on};
+    ghost use Rattle.context_windows.specs.SessionsStand.{AreAsked, DoStand, IsSessionShown, do_stand_on};
     ghost use Rattle.window_spans.specs.Ahead.{start_after};
     ghost use Rattle.window_spans.specs.Spans.{due_of, put_changes};
-    ghost use Rattle.context_windows.specs.Spanned.{IsSessionAt, gap_at};
+    ghost use Rattle.context_windows.specs.Spanned.{gap_at};
 
-    ghost is_for = { IsSessionAt };
+    ghost is_for = { IsSessionShown M.serves };
 
-    ghost stands = { λ d window m n s p. DoStand d window m n p.sessions };
+    ghost stands = { λ d window m n s p. DoStand M.serves d window m n p.sessions };
 
     ghost is_asked = { λ d window m time p. AreAsked d window m time p.sessions };
 
@@ -84,7 +85,7 @@ impl KeyPart for SessionPart {
         self.sessions.reserve(defs, window, time, water)
     }
 
-    fn before<S: AggStore, L>(
+    fn before<S: AggStore<M>, L>(
         &mut self,
         defs: &Defs,
         window: u32,
@@ -97,7 +98,7 @@ impl KeyPart for SessionPart {
             .before(defs, window, store, time, water, steps);
     }
 
-    fn put<S: AggStore, L>(
+    fn put<S: AggStore<M>, L>(
         &mut self,
         defs: &Defs,
         window: u32,
@@ -129,7 +130,7 @@ impl KeyPart for SessionPart {
     }
 
     // A mark changes no session.
-    fn mark<S: AggStore, L>(
+    fn mark<S: AggStore<M>, L>(
         &mut self,
         defs: &Defs,
         window: u32,
@@ -141,7 +142,7 @@ impl KeyPart for SessionPart {
         steps: &mut Steps<L>,
     ) {}
 
-    fn reserve_water<S: AggStore>(
+    fn reserve_water<S: AggStore<M>>(
         &mut self,
         defs: &Defs,
         window: u32,
@@ -153,7 +154,7 @@ impl KeyPart for SessionPart {
         Ok(self.sessions.due(defs, window, old, new))
     }
 
-    fn water<S: AggStore, L>(
+    fn water<S: AggStore<M>, L>(
         &mut self,
         defs: &Defs,
         window: u32,
@@ -168,7 +169,7 @@ impl KeyPart for SessionPart {
             .water(defs, window, store, key, old, new, out, steps);
     }
 
-    fn next_due<S: AggStore>(&self, defs: &Defs, window: u32, store: &S, water: u64) -> u64 {
+    fn next_due<S: AggStore<M>>(&self, defs: &Defs, window: u32, store: &S, water: u64) -> u64 {
         let _ = defs;
         let _ = window;
         let _ = store;

@@ -16,6 +16,7 @@ ghost use Rattle.context_windows.specs.Spanned.{Follows, HasAsked, HoldsSessions
 use crate::windows::{gap_of, window_at};
 use agg_laws::Steps;
 use agg_store::AggStore;
+use aggregates::Partial;
 use std::alloc::Global;
 use std::marker::Model;
 use stream_base::{Change, Defs, KeyText, NoMemory};
@@ -99,7 +100,7 @@ impl Sessions {
 
     /// Keeps what those sessions show that stand and that a tuple at a time may change, at most two.
     /// It is called before the store takes the tuple in.
-    pub fn before<S: AggStore, L>(
+    pub fn before<M: Partial, S: AggStore<M>, L>(
         &mut self,
         defs: &Defs,
         window: u32,
@@ -111,6 +112,7 @@ impl Sessions {
         requires comes { MayComeAt defs.now window time }
         requires aligned { AreAlignedWith (S.stored store.now).slices
             (asked_of (gap_at defs.now window) time water self.old.spans) }
+        requires serves { M.serves (window_at defs.now window).func }
         ensures kept { DiffersInStood self.old self.new }
         ensures asked { HasAsked (gap_at defs.now window) time water self.new }
         ensures remembers { (kept : List Kept) → Follows (gap_at defs.now window) kept self.old
@@ -130,7 +132,7 @@ impl Sessions {
     /// sessions less than the gap away from it become one with it, and those that stood and stand no
     /// longer are taken back. `reserve` made the room, and said how many changes there will be;
     /// `before` kept what stood.
-    pub fn put<S: AggStore, L>(
+    pub fn put<M: Partial, S: AggStore<M>, L>(
         &mut self,
         defs: &Defs,
         window: u32,
@@ -146,6 +148,7 @@ impl Sessions {
         requires asked { HasAsked (gap_at defs.now window) time water self.old }
         requires aligned { AreAlignedWith (S.stored store.now).slices
             (told_at (gap_at defs.now window) time water self.old.spans) }
+        requires serves { M.serves (window_at defs.now window).func }
         requires spare { put_changes (gap_at defs.now window) time water self.old.spans
             ≤ room out.old }
         ensures follows { (kept : List Kept) (x : Kept)
@@ -204,7 +207,7 @@ impl Sessions {
 
     /// Appends exactly the sessions that a move of the watermark completes, as new. `due` says how
     /// many.
-    pub fn water<S: AggStore, L>(
+    pub fn water<M: Partial, S: AggStore<M>, L>(
         &self,
         defs: &Defs,
         window: u32,
@@ -218,6 +221,7 @@ impl Sessions {
         requires session { IsSessionAt defs.now window }
         requires aligned { AreAlignedWith (S.stored store.now).slices
             (due_of old new self.now.spans) }
+        requires serves { M.serves (window_at defs.now window).func }
         requires spare { length (due_of old new self.now.spans) ≤ room out.old }
         ensures changes { (m : Moment) → Follows (gap_at defs.now window) m.kept self.now
             → self.now.forgotten ≤ old → m.water ≡ old

@@ -10,9 +10,10 @@ ghost use Rattle.key_parts.specs.Calls.{window_at};
 ghost use Rattle.key_parts.specs.Moves.{IsPutStep};
 
 use crate::key_part::KeyPart;
+use aggregates::Partial;
 
 /// A part that a window of any kind can have.
-pub trait AnyPart: KeyPart {
+pub trait AnyPart<M: Partial>: KeyPart<M> {
     ghost use Rattle.std.specs.Prelude.{◌≡◌, ◌≤◌, ◌<◌, ℕ, true, length};
     ghost use Rattle.stream_base.specs.Kinds.{is_timed};
     ghost use Rattle.stream_base.specs.Limits.{Definitions};
@@ -23,9 +24,9 @@ pub trait AnyPart: KeyPart {
     ghost use Rattle.key_parts.specs.Calls.{window_at};
     ghost use Rattle.key_parts.specs.Moves.{IsPutStep};
 
-    /// It is for the window at each place of all definitions.
+    /// It is for the window at each place of all definitions of which M shows the function.
     ghost serves: { (d : Definitions) (window : ℕ) → window < length d.windows
-        → Self.is_for d window };
+        → M.serves (window_at d window).func → Self.is_for d window };
 
     /// Where its window is tumbling or sliding it need not be told of a tuple that the store took in
     /// at or behind the watermark: it stands for what is known of the key then, too.

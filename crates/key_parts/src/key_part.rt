@@ -14,6 +14,7 @@ ghost use Rattle.key_parts.specs.Work.{AddsAtMost, Spends, change_work, most_mov
 
 use agg_laws::Steps;
 use agg_store::AggStore;
+use aggregates::Partial;
 use std::alloc::Global;
 use stream_base::{Change, Defs, KeyText, NoMemory};
 
@@ -24,7 +25,7 @@ use stream_base::{Change, Defs, KeyText, NoMemory};
 ///
 /// The definitions and the window that a call is handed are those of every call before it. A clause
 /// that speaks of what is known of the key holds for all that the part stands for.
-pub trait KeyPart: Drop {
+pub trait KeyPart<M: Partial>: Drop {
     ghost use Rattle.std.specs.Prelude.{◌≡◌, ◌≤◌, [], ℕ, List};
     ghost use Rattle.stream_base.specs.Limits.{Definitions};
     ghost use Rattle.stream_base.specs.Laws.{completions};
@@ -33,7 +34,8 @@ pub trait KeyPart: Drop {
     ghost use Rattle.agg_store.specs.Stored.{IsAsBefore, Stored};
     ghost use Rattle.key_parts.specs.Calls.{StandsAt, window_at};
 
-    /// The window at a place of the definitions is of the kind that it is for.
+    /// The window at a place of the definitions is of the kind that it is for, and its function can
+    /// be shown.
     ghost is_for: { Definitions → ℕ → Type 0 };
 
     /// For the window at a place of the definitions it stands for what is known of a key, of which
@@ -108,7 +110,7 @@ pub trait KeyPart: Drop {
 
     /// Keeps what stands of the instances that a tuple at a time changes. It is called before the
     /// store takes the tuple in.
-    fn before<S: AggStore, L>(
+    fn before<S: AggStore<M>, L>(
         &mut self,
         defs: &Defs,
         window: u32,
@@ -136,7 +138,7 @@ pub trait KeyPart: Drop {
 
     /// Takes in a tuple that the store has taken in, or that is settled at once where each window
     /// counts events.
-    fn put<S: AggStore, L>(
+    fn put<S: AggStore<M>, L>(
         &mut self,
         defs: &Defs,
         window: u32,
@@ -194,7 +196,7 @@ pub trait KeyPart: Drop {
             self.old self.new result };
 
     /// Takes in a mark that the store has taken in.
-    fn mark<S: AggStore, L>(
+    fn mark<S: AggStore<M>, L>(
         &mut self,
         defs: &Defs,
         window: u32,
@@ -229,7 +231,7 @@ pub trait KeyPart: Drop {
             → is_ahead defs.now window water (S.stored store.now) self.new };
 
     /// Makes room for a move of the watermark, and answers for how many changes.
-    fn reserve_water<S: AggStore>(
+    fn reserve_water<S: AggStore<M>>(
         &mut self,
         defs: &Defs,
         window: u32,
@@ -245,7 +247,7 @@ pub trait KeyPart: Drop {
 
     /// Takes in a move of the watermark, and appends the instances that it completes. With no credit
     /// it is bounded by the slices of the store and the rows.
-    fn water<S: AggStore, L>(
+    fn water<S: AggStore<M>, L>(
         &mut self,
         defs: &Defs,
         window: u32,
@@ -295,7 +297,7 @@ pub trait KeyPart: Drop {
 
     /// The first watermark at which something becomes complete: a move to below it changes nothing.
     /// Later than the final one where nothing is left to become so.
-    fn next_due<S: AggStore>(&self, defs: &Defs, window: u32, store: &S, water: u64) -> u64
+    fn next_due<S: AggStore<M>>(&self, defs: &Defs, window: u32, store: &S, water: u64) -> u64
         requires { StandsForSome (StandsAt stands defs.now window) water
             (S.stored store.now) self.now }
         ensures none_before { (key : List ℕ) (m : Moment) (n new : ℕ)

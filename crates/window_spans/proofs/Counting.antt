@@ -1,4 +1,4 @@
--- How many values a bundle has.
+-- How many values a partial has.
 use Rattle.std.proofs.Common.{◌≡◌, ◌∙◌, ℤ, ℕ, ◌+◌, ◌<◌, List, [], ◌∷◌, length, map, ap, arith}
 use Rattle.std.specs.Prelude.{◌%◌, ◌^◌, pos}
 use Rattle.std.specs.List.{fold}

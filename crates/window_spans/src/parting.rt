@@ -8,6 +8,7 @@ ghost use Rattle.window_spans.specs.Parted.{back_of, front_of, part_if};
 use crate::joining::{remove_between, replace};
 use crate::span::Span;
 use agg_store::AggStore;
+use aggregates::Partial;
 
 /// The first part of an interval, where a mark comes.
 pub fn front_of(span: Span, time: u64) -> Span
@@ -30,7 +31,7 @@ pub fn back_of(span: Span, time: u64) -> Span
 }
 
 /// Whether a tuple lies within a span. No slice is folded for it.
-pub fn is_filled<S: AggStore>(store: &S, span: Span) -> bool
+pub fn is_filled<M: Partial, S: AggStore<M>>(store: &S, span: Span) -> bool
     requires { IsAligned (S.stored store.now).slices span.low }
     ensures { result ≡ nat_lt 0
         (length (within span.low span.high (tuples_of (S.stored store.now)))) }

@@ -4,7 +4,6 @@ ghost use Rattle.stream_base.specs.declared.change.Change.TheVariants.{New};
 ghost use Rattle.stream_base.specs.Model.Changes.{former_of, row_of};
 ghost use Rattle.stream_base.specs.Model.Windows.{Instance};
 ghost use Rattle.stream_base.specs.Vectors.{Adds, room};
-ghost use Rattle.aggregates.specs.Bundled.{bundle_of};
 ghost use Rattle.window_spans.specs.declared.standing.Standing.{Standing};
 ghost use Rattle.window_spans.specs.Held.{AreAlignedWith, AreHeld, IsAlignedWith, IsHeld};
 ghost use Rattle.window_spans.specs.Parted.{come_if, gone_if, shown_if};
@@ -16,7 +15,7 @@ use crate::span::Span;
 use crate::standing::Standing;
 use agg_laws::Steps;
 use agg_store::AggStore;
-use aggregates::Bundle;
+use aggregates::Partial;
 use stream_base::{Change, Former, Func, KeyText, Row, Shown};
 
 /// Whose instances are told: a window, by its place among the definitions, and a key.
@@ -132,28 +131,35 @@ fn is_same(first: Span, second: Span) -> bool
 }
 
 // What the instance over a span shows, by the fold of its slices.
-pub fn standing<S: AggStore, L>(store: &S, span: Span, func: Func, steps: &mut Steps<L>) -> Standing
-    requires { IsAlignedWith (S.stored store.now).slices span }
+pub fn standing<M: Partial, S: AggStore<M>, L>(
+    store: &S,
+    span: Span,
+    func: Func,
+    steps: &mut Steps<L>,
+) -> Standing
+    requires aligned { IsAlignedWith (S.stored store.now).slices span }
+    requires serves { M.serves func }
     ensures span { result.span ≡ span }
     ensures value { (i : Instance) → IsHeld span (S.stored store.now) i
         → result ≡ as_standing func i }
     ensures cost { steps.new ≤ steps.old + 64 * ((S.stored store.now).reach + 2) }
 {
-    let bundle = store.fold(span.low, span.high, steps);
+    let partial = store.fold(span.low, span.high, steps);
     Standing {
         span,
-        former: former(&bundle, func),
+        former: former(&partial, func),
     }
 }
 
-// What a bundle shows, and of how many values.
-fn former(bundle: &Bundle, func: Func) -> Former
-    ensures { (i : Instance) → bundle.now ≡ bundle_of (map (λ x. x.value) i.chosen)
+// What a partial shows, and of how many values.
+fn former<M: Partial>(partial: &M, func: Func) -> Former
+    requires { M.serves func }
+    ensures { (i : Instance) → partial.now ≡ M.of_values (map (λ x. x.value) i.chosen)
         → length i.chosen < 2 ^ 64 → result ≡ former_of func i }
 {
     Former {
-        number: count_of(bundle.show(Func::Count)),
-        shown: bundle.show(func),
+        number: count_of(partial.show(Func::Count)),
+        shown: partial.show(func),
     }
 }
 
@@ -168,7 +174,7 @@ fn count_of(shown: Shown) -> u64
 
 /// Tells the session that a tuple made, if it stands: again, where one of two stood over its span,
 /// and else as new.
-pub fn tell_joined<S: AggStore, L>(
+pub fn tell_joined<M: Partial, S: AggStore<M>, L>(
     teller: &Teller,
     store: &S,
     first: Option<Standing>,
@@ -181,6 +187,7 @@ pub fn tell_joined<S: AggStore, L>(
 )
     requires aligned { AreAlignedWith (S.stored store.now).slices
         (filter (stands water) (joined ∷ [])) }
+    requires serves { M.serves func }
     requires spare { length (filter (stands water) (joined ∷ [])) ≤ room out.old }
     ensures told { (i : Instance) → IsHeld joined (S.stored store.now) i
         → out.new.items ≡ out.old.items
@@ -197,7 +204,7 @@ pub fn tell_joined<S: AggStore, L>(
 }
 
 /// Tells all instances over some spans as new.
-pub fn tell_all<S: AggStore, L>(
+pub fn tell_all<M: Partial, S: AggStore<M>, L>(
     teller: &Teller,
     store: &S,
     spans: &[Span],
@@ -206,6 +213,7 @@ pub fn tell_all<S: AggStore, L>(
     steps: &mut Steps<L>,
 )
     requires aligned { AreAlignedWith (S.stored store.now).slices spans.now }
+    requires serves { M.serves func }
     requires spare { length spans.now ≤ room out.old }
     ensures told { (is : List Instance) → AreHeld spans.now (S.stored store.now) is → out.new.items
         ≡ out.old.items
@@ -220,13 +228,14 @@ pub fn tell_all<S: AggStore, L>(
 }
 
 /// What the instance over a span shows, if there is one.
-pub fn ask<S: AggStore, L>(
+pub fn ask<M: Partial, S: AggStore<M>, L>(
     store: &S,
     span: Option<Span>,
     func: Func,
     steps: &mut Steps<L>,
 ) -> Option<Standing>
-    requires { AreAlignedWith (S.stored store.now).slices (option_to_list span) }
+    requires aligned { AreAlignedWith (S.stored store.now).slices (option_to_list span) }
+    requires serves { M.serves func }
     ensures span { map (λ s. s.span) (option_to_list result) ≡ option_to_list span }
     ensures value { (is : List Instance) → AreHeld (option_to_list span) (S.stored store.now) is
         → option_to_list result ≡ map (as_standing func) is }
@@ -240,7 +249,7 @@ pub fn ask<S: AggStore, L>(
 }
 
 /// Tells the interval over a span as gone, if it stands.
-pub fn tell_taken<S: AggStore, L>(
+pub fn tell_taken<M: Partial, S: AggStore<M>, L>(
     teller: &Teller,
     store: &S,
     span: Span,
@@ -250,6 +259,7 @@ pub fn tell_taken<S: AggStore, L>(
     steps: &mut Steps<L>,
 )
     requires aligned { IsAlignedWith (S.stored store.now).slices span }
+    requires serves { M.serves func }
     requires spare { length (filter (stands water) (span ∷ [])) ≤ room out.old }
     ensures told { (i : Instance) → IsHeld span (S.stored store.now) i → i.bound ≡ i.high
         → out.new.items ≡ out.old.items
@@ -264,7 +274,7 @@ pub fn tell_taken<S: AggStore, L>(
 }
 
 /// Tells the interval over a span as new, if it has a tuple and stands.
-pub fn tell_part<S: AggStore, L>(
+pub fn tell_part<M: Partial, S: AggStore<M>, L>(
     teller: &Teller,
     store: &S,
     span: Span,
@@ -275,6 +285,7 @@ pub fn tell_part<S: AggStore, L>(
     steps: &mut Steps<L>,
 )
     requires aligned { IsAlignedWith (S.stored store.now).slices span }
+    requires serves { M.serves func }
     requires spare { length (shown_if filled water span) ≤ room out.old }
     ensures told { (i : Instance) → IsHeld span (S.stored store.now) i
         → out.new.items ≡ out.old.items

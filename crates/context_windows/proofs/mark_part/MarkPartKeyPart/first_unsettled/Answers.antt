@@ -9,7 +9,7 @@ use Rattle.context_windows.proofs.OfMarks.{stretches_settle}
 use Rattle.context_windows.proofs.mark_part.MarkPartKeyPart.first_unsettled.Goals as goal
 
 pub returns-clause-settles : goal.returns-clause-settles
-returns-clause-settles c = λ m n s w le st.
+returns-clause-settles g c = λ m n s w le st.
     let d = c.args.defs.now in
     let is : c.first_open.result ≡ start_after (c.args.water - d.lateness) c.args.self.now.windows.spans = search rules in
     subst (SettlesUpTo d.lateness (at_water (without_first n m) c.args.water) (window_at d c.args.window)) (sym is)

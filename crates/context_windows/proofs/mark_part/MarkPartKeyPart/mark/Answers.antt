@@ -29,6 +29,7 @@ returns-clause-stands g c = λ m n before t.
     let held = stretches_held d c.args.window t.stood.marks m n (g.S.AggStore.stored c.args.store.now) (rest_marked d m n before c.args.time (g.S.AggStore.stored c.args.store.now) t.step) c.args.time late in
     record {
       marks = t.stood.marks;
+      shown = t.stood.shown;
       follows = c.drop_needless.ensures.follows (insert_key nat_cmp m.marks c.args.time) m.kept (c.mark.ensures.follows m.marks m.kept t.stood.follows open_ held);
       left = c.drop_needless.ensures.follows (insert_key nat_cmp m.marks c.args.time) (drop n m.kept) (c.mark.ensures.follows m.marks (drop n m.kept) t.stood.left open_ (left_held d c.args.window t.stood.marks m n (g.S.AggStore.stored c.args.store.now) t.step.held.may_leave c.args.time late held));
       bounded = omega (arith, c.drop_needless.ensures.forgotten, c.mark.ensures.takes.forgotten, t.stood.bounded, t.water_is, c.saturating_sub.ensures, c.lateness.ensures.value);

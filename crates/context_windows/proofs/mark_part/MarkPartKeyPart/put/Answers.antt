@@ -36,6 +36,7 @@ returns-clause-stands g c = λ m n before more t.
     let open_ : c.args.self.now.windows.forgotten ≤ c.args.time = omega (arith, t.stood.bounded, t.step.in_time) in
     record {
       marks = t.stood.marks;
+      shown = t.stood.shown;
       follows = c.put.ensures.follows m.marks m.kept x t.stood.follows open_ refl;
       left = subst (λ l. FollowsMarks m.marks l c.put.new.self) (left_with d m n before x more (g.S.AggStore.stored c.args.store.now) w (is_window d c.args.window at.within) (no_events w.kind at.kind) t.step) (c.put.ensures.follows m.marks (drop n m.kept) x t.stood.left open_ refl);
       bounded = subst (λ n. n ≤ m.water - d.lateness) (sym c.put.ensures.takes.forgotten) t.stood.bounded;

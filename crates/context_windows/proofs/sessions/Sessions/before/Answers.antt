@@ -9,13 +9,13 @@ use Rattle.context_windows.specs.Spanned.{gap_at, window_at}
 use Rattle.context_windows.proofs.Changing.{remembered}
 use Rattle.context_windows.proofs.sessions.Sessions.before.Goals as goal
 
-pub ask-self-inside-requires : goal.ask-self-inside-requires
-ask-self-inside-requires g c =
+pub ask-self-inside-requires-clause-aligned : goal.ask-self-inside-requires-clause-aligned
+ask-self-inside-requires-clause-aligned g c =
     let is : option_to_list c.standing_near-first.result.0 ++ option_to_list c.standing_near-first.result.1 ≡ asked_of (gap_at c.args.defs.now c.args.window) c.args.time c.args.water c.args.self.now.spans = search rules in
     (All-split (IsAlignedWith (g.S.AggStore.stored c.args.store.now).slices) (option_to_list c.standing_near-first.result.0) (option_to_list c.standing_near-first.result.1) (subst (All (IsAlignedWith (g.S.AggStore.stored c.args.store.now).slices)) (sym is) c.requires.aligned)).0
 
-pub ask-self-inside-requires-2 : goal.ask-self-inside-requires-2
-ask-self-inside-requires-2 g c =
+pub ask-self-inside-requires-2-clause-aligned : goal.ask-self-inside-requires-2-clause-aligned
+ask-self-inside-requires-2-clause-aligned g c =
     let is : option_to_list c.standing_near-first.result.0 ++ option_to_list c.standing_near-first.result.1 ≡ asked_of (gap_at c.args.defs.now c.args.window) c.args.time c.args.water c.args.self.now.spans = search rules in
     (All-split (IsAlignedWith (g.S.AggStore.stored c.args.store.now).slices) (option_to_list c.standing_near-first.result.0) (option_to_list c.standing_near-first.result.1) (subst (All (IsAlignedWith (g.S.AggStore.stored c.args.store.now).slices)) (sym is) c.requires.aligned)).1
 
