@@ -99,8 +99,6 @@ impl Partial for Summary {
 
     ghost counts = { tt };
 
-    ghost counts = { tt };
-
     ghost commutes = { λ _. summaries_commute };
 
     fn can_show(func: Func) -> bool {

@@ -9,7 +9,7 @@ use agg_store::AggStore;
 use aggregates::Partial;
 use key_parts::KeyPart;
 use std::alloc::Global;
-use stream_base::{Change, Defs, Func, KeyText, NoMemory};
+use stream_base::{Change, Defs, Func, Kept, KeyText, NoMemory};
 
 /// The intervals between the marks of one key for a window of it. They are those of all tuples and
 /// marks that were kept of the key: what has left the store lay in intervals that are forgotten.
@@ -116,18 +116,14 @@ impl<M: Partial> KeyPart<M> for MarkPart {
         window: u32,
         store: &S,
         key: &KeyText,
-        pos: u64,
-        time: u64,
-        value: i64,
+        x: Kept,
         water: u64,
         out: &mut Vec<Change>,
         steps: &mut Steps<L>,
     ) {
-        let _ = pos;
-        let _ = value;
         let func = func_at(defs, window);
         self.windows
-            .put(window, func, store, key, time, water, out, steps);
+            .put(window, func, store, key, x.time, water, out, steps);
     }
 
     fn reserve_mark(

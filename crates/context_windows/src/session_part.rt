@@ -8,7 +8,7 @@ use agg_store::AggStore;
 use aggregates::Partial;
 use key_parts::KeyPart;
 use std::alloc::Global;
-use stream_base::{Change, Defs, KeyText, NoMemory};
+use stream_base::{Change, Defs, Kept, KeyText, NoMemory};
 
 /// The sessions of one key for a session window of it. They end and start by all tuples that were
 /// kept of the key: what has left the store lay in sessions that are forgotten.
@@ -104,17 +104,13 @@ impl<M: Partial> KeyPart<M> for SessionPart {
         window: u32,
         store: &S,
         key: &KeyText,
-        pos: u64,
-        time: u64,
-        value: i64,
+        x: Kept,
         water: u64,
         out: &mut Vec<Change>,
         steps: &mut Steps<L>,
     ) {
-        let _ = pos;
-        let _ = value;
         self.sessions
-            .put(defs, window, store, key, time, water, out, steps);
+            .put(defs, window, store, key, x.time, water, out, steps);
     }
 
     fn reserve_mark(

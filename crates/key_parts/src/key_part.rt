@@ -7,7 +7,7 @@ ghost use Rattle.stream_base.specs.Vectors.{room};
 ghost use Rattle.window_laws.specs.After.{at_water, with_mark, with_tuple};
 ghost use Rattle.window_laws.specs.Settled.{without_first};
 ghost use Rattle.agg_store.specs.Stored.{Stored};
-ghost use Rattle.key_windows.specs.Calls.{IsAccepted, IsWater, LeadsOn, kept_at, moment};
+ghost use Rattle.key_windows.specs.Calls.{IsAccepted, IsWater, LeadsOn, moment};
 ghost use Rattle.key_parts.specs.Calls.{LosesSettled, MayCome, MayMove, MayTell, Prepares, StandsAt, StandsForSome, TakesMark, TakesTuple, window_at};
 ghost use Rattle.key_parts.specs.Moves.{SettlesUpTo};
 ghost use Rattle.key_parts.specs.Work.{AddsAtMost, Spends, change_work, most_moved, row_work};
@@ -16,7 +16,7 @@ use agg_laws::Steps;
 use agg_store::AggStore;
 use aggregates::Partial;
 use std::alloc::Global;
-use stream_base::{Change, Defs, KeyText, NoMemory};
+use stream_base::{Change, Defs, Kept, KeyText, NoMemory};
 
 /// The part of one window in the state of a key. The tuples lie in the store of slices that all parts
 /// of a key share, which takes a tuple or a mark in before the parts do. `put`, `mark` and `water`
@@ -144,31 +144,26 @@ pub trait KeyPart<M: Partial>: Drop {
         window: u32,
         store: &S,
         key: &KeyText,
-        pos: u64,
-        time: u64,
-        value: i64,
+        x: Kept,
         water: u64,
         out: &mut Vec<Change>,
         steps: &mut Steps<L>,
     )
         requires takes { (m : Moment) × (n : ℕ) × (before : Stored) × (more : ℕ)
-            × TakesTuple stands defs.now window is_asked water (kept_at pos time value)
-            (S.stored store.now) self.old m n before more }
-        requires ready { is_ready defs.now window time water self.old }
-        requires spare { put_room defs.now window time water self.old ≤ room out.old }
+            × TakesTuple stands defs.now window is_asked water x (S.stored store.now)
+            self.old m n before more }
+        requires ready { is_ready defs.now window x.time water self.old }
+        requires spare { put_room defs.now window x.time water self.old ≤ room out.old }
         ensures stands { (m : Moment) (n : ℕ) (before : Stored) (more : ℕ)
-            → TakesTuple stands defs.now window is_asked water (kept_at pos time value)
-            (S.stored store.now) self.old m n before more
-            → stands defs.now window (with_tuple m (kept_at pos time value)) more
-            (S.stored store.now) self.new }
+            → TakesTuple stands defs.now window is_asked water x (S.stored store.now)
+            self.old m n before more
+            → stands defs.now window (with_tuple m x) more (S.stored store.now) self.new }
         ensures changes { (m : Moment) (n : ℕ) (before : Stored) (more : ℕ)
-            → TakesTuple stands defs.now window is_asked water (kept_at pos time value)
-            (S.stored store.now) self.old m n before more → out.new.items ≡ out.old.items
-            ++ (retractions key.now m (with_tuple m (kept_at pos time value))
-            (window, window_at defs.now window)
-            ++ emissions key.now m (with_tuple m (kept_at pos time value))
-            (window, window_at defs.now window)) }
-        ensures adds { AddsAtMost (put_room defs.now window time water self.old)
+            → TakesTuple stands defs.now window is_asked water x (S.stored store.now)
+            self.old m n before more → out.new.items ≡ out.old.items
+            ++ (retractions key.now m (with_tuple m x) (window, window_at defs.now window)
+            ++ emissions key.now m (with_tuple m x) (window, window_at defs.now window)) }
+        ensures adds { AddsAtMost (put_room defs.now window x.time water self.old)
             out.old out.new }
         ensures owed { owed self.old ≤ vec_len out.new - vec_len out.old }
         ensures lean { is_lean defs.now window water self.new }
@@ -176,8 +171,8 @@ pub trait KeyPart<M: Partial>: Drop {
             (S.stored store.now).reach * (vec_len out.new - vec_len out.old))
             steps.old steps.new (credit self.old) (credit self.new) }
         ensures ahead { (m : Moment) (n : ℕ) (before : Stored) (more : ℕ)
-            → TakesTuple stands defs.now window is_asked water (kept_at pos time value)
-            (S.stored store.now) self.old m n before more → complete_by defs.now window water ≤ time
+            → TakesTuple stands defs.now window is_asked water x (S.stored store.now)
+            self.old m n before more → complete_by defs.now window water ≤ x.time
             → is_ahead defs.now window water before self.old
             → is_ahead defs.now window water (S.stored store.now) self.new };
 

@@ -3,7 +3,6 @@ use Rattle.std.proofs.Common.{◌∙◌, ◌++◌, ◌≤◌, ◌+◌, ◌-◌, 
 use Rattle.window_laws.specs.After.{with_tuple}
 use Rattle.context_windows.specs.Marked.{FollowsMarks, RemembersHolder, entered_at, marks_window}
 use Rattle.context_windows.specs.Spanned.{changes_of, window_at}
-use Rattle.key_windows.specs.Calls.{kept_at}
 use Rattle.context_windows.proofs.Enough.{holder_alike}
 use Rattle.context_windows.proofs.Edges.{edged_aligned, entered_edged, marks_with, parts_at_edges}
 use Rattle.context_windows.proofs.OfMarks.{marks_window_is, marks_work, no_events, spans_edged, stretches_held}
@@ -14,26 +13,26 @@ pub put-requires-clause-aligned : goal.put-requires-clause-aligned
 put-requires-clause-aligned g c =
     let d = c.args.defs.now in
     let w = window_at d c.args.window in
-    let x = kept_at c.args.pos c.args.time c.args.value in
+    let x = c.args.x in
     let t = c.requires.takes in
     let p = c.args.self.now.windows in
     let store = (g.S.AggStore.stored c.args.store.now) in
     let at = (t.4).stood.marks in
     let rest = rest_with d t.0 t.1 t.2 x t.3 store w (is_window d c.args.window at.within) (no_events w.kind at.kind) (t.4).step in
     let has = marks_with d t.0 t.1 t.2 x t.3 store w (is_window d c.args.window at.within) (no_events w.kind at.kind) (t.4).step in
-    let open_ : p.forgotten ≤ c.args.time = omega (arith, (t.4).stood.bounded, (t.4).step.in_time) in
+    let open_ : p.forgotten ≤ c.args.x.time = omega (arith, (t.4).stood.bounded, (t.4).step.in_time) in
     let marks = (t.0).marks in
-    edged_aligned marks store.slices (entered_at c.args.time c.args.water p)
+    edged_aligned marks store.slices (entered_at c.args.x.time c.args.water p)
     (parts_at_edges d.windows marks store (rest_windows d (with_tuple t.0 x) t.1 store rest) has)
-    (entered_edged marks c.args.time c.args.water p (spans_edged marks (t.0).kept p (t.4).stood.follows) (holder_alike p.forgotten p.marks marks c.args.time (t.4).stood.follows.known open_))
+    (entered_edged marks c.args.x.time c.args.water p (spans_edged marks (t.0).kept p (t.4).stood.follows) (holder_alike p.forgotten p.marks marks c.args.x.time (t.4).stood.follows.known open_))
 
 pub returns-clause-stands : goal.returns-clause-stands
 returns-clause-stands g c = λ m n before more t.
     let d = c.args.defs.now in
     let w = window_at d c.args.window in
     let at = t.stood.marks in
-    let x = kept_at c.args.pos c.args.time c.args.value in
-    let open_ : c.args.self.now.windows.forgotten ≤ c.args.time = omega (arith, t.stood.bounded, t.step.in_time) in
+    let x = c.args.x in
+    let open_ : c.args.self.now.windows.forgotten ≤ c.args.x.time = omega (arith, t.stood.bounded, t.step.in_time) in
     record {
       marks = t.stood.marks;
       shown = t.stood.shown;
@@ -46,16 +45,16 @@ pub returns-clause-changes : goal.returns-clause-changes
 returns-clause-changes g c = λ m n before more t.
     let d = c.args.defs.now in
     let w = window_at d c.args.window in
-    let x = kept_at c.args.pos c.args.time c.args.value in
+    let x = c.args.x in
     let p = c.args.self.now.windows in
     let at = t.stood.marks in
-    let late : m.water - d.lateness ≤ c.args.time = omega (arith, t.step.in_time) in
-    let open_ : c.args.self.now.windows.forgotten ≤ c.args.time = omega (arith, t.stood.bounded, late) in
+    let late : m.water - d.lateness ≤ c.args.x.time = omega (arith, t.step.in_time) in
+    let open_ : c.args.self.now.windows.forgotten ≤ c.args.x.time = omega (arith, t.stood.bounded, late) in
     let rest = rest_with d m n before x more (g.S.AggStore.stored c.args.store.now) w (is_window d c.args.window at.within) (no_events w.kind at.kind) t.step in
-    let remembers : RemembersHolder c.func_at-func.result c.args.time c.args.water m.marks m.kept p =
-    subst (λ f. RemembersHolder f c.args.time c.args.water m.marks m.kept p) (sym c.func_at-func.ensures) (subst (λ water. RemembersHolder w.func c.args.time water m.marks m.kept p) t.water_is t.asked.remembers) in
+    let remembers : RemembersHolder c.func_at-func.result c.args.x.time c.args.water m.marks m.kept p =
+    subst (λ f. RemembersHolder f c.args.x.time c.args.water m.marks m.kept p) (sym c.func_at-func.ensures) (subst (λ water. RemembersHolder w.func c.args.x.time water m.marks m.kept p) t.water_is t.asked.remembers) in
     c.put.ensures.changes m x t.stood.follows open_ refl t.water_is remembers
-    (stretches_held d c.args.window at (with_tuple m x) n (g.S.AggStore.stored c.args.store.now) rest c.args.time late)
+    (stretches_held d c.args.window at (with_tuple m x) n (g.S.AggStore.stored c.args.store.now) rest c.args.x.time late)
     ∙ ap (λ def. c.args.out.now.items ++ changes_of c.args.key.now m (with_tuple m x) (c.args.window, def)) (ap marks_window c.func_at-func.ensures ∙ marks_window_is w at.kind)
 
 pub returns-clause-owed : goal.returns-clause-owed
@@ -64,10 +63,10 @@ returns-clause-owed g c =
     let d = c.args.defs.now in
     let p = c.args.self.now.windows in
     let m = t.0 in
-    let open_ : p.forgotten ≤ c.args.time = omega (arith, (t.4).stood.bounded, (t.4).step.in_time) in
+    let open_ : p.forgotten ≤ c.args.x.time = omega (arith, (t.4).stood.bounded, (t.4).step.in_time) in
     c.put.ensures.owed m.marks m.kept (t.4).stood.follows open_
-    (subst (λ f. RemembersHolder f c.args.time c.args.water m.marks m.kept p) (sym c.func_at-func.ensures)
-    (subst (λ water. RemembersHolder (window_at d c.args.window).func c.args.time water m.marks m.kept p) (t.4).water_is (t.4).asked.remembers))
+    (subst (λ f. RemembersHolder f c.args.x.time c.args.water m.marks m.kept p) (sym c.func_at-func.ensures)
+    (subst (λ water. RemembersHolder (window_at d c.args.window).func c.args.x.time water m.marks m.kept p) (t.4).water_is (t.4).asked.remembers))
 
 pub returns-clause-cost : goal.returns-clause-cost
 returns-clause-cost g c =
