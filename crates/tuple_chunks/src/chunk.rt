@@ -10,7 +10,7 @@ use crate::part::Part;
 use crate::places::{cut, place_of, tuples_before};
 use crate::sums::{covers, forget, sum_of};
 use agg_laws::Steps;
-use aggregates::Bundle;
+use aggregates::Partial;
 use slice_lists::Slice;
 use std::alloc::Global;
 use std::marker::Model;
@@ -21,12 +21,12 @@ pub const MOST: usize = 64;
 
 /// A few tuples of a key, one behind another, and what they come to once a fold has asked for it.
 #[derive(Drop)]
-pub struct Chunk {
+pub struct Chunk<M: Partial> {
     tuples: Vec<Kept>,
-    sum: Option<Bundle>,
+    sum: Option<M>,
 }
 
-impl Model for Chunk {
+impl<M: Partial> Model for Chunk<M> {
     ghost use Rattle.std.specs.Prelude.{vec_len, vec_capacity, ◌-◌};
     ghost use Rattle.stream_base.specs.Laws.{TimesDoNotFall};
     ghost use Rattle.tuple_chunks.specs.Held.{Held};
@@ -39,12 +39,12 @@ impl Model for Chunk {
       spare = vec_capacity c.tuples - vec_len c.tuples;
     } };
 
-    ghost invariant = { λ c. TimesDoNotFall c.tuples.items × IsKeptSum c.sum c.tuples.items };
+    ghost invariant = { λ c. TimesDoNotFall c.tuples.items × IsKeptSum M.of_values c.sum c.tuples.items };
 }
 
-impl Chunk {
+impl<M: Partial> Chunk<M> {
     /// A chunk of these tuples, with room for one more.
-    pub fn of(alloc: Global, tuples: &[Kept]) -> Result<Chunk, NoMemory>
+    pub fn of(alloc: Global, tuples: &[Kept]) -> Result<Chunk<M>, NoMemory>
         requires ordered { TimesDoNotFall tuples.now }
         ensures tuples { IfOk result (λ c. c.tuples ≡ tuples.now) }
         ensures room { IfOk result (λ c. 1 ≤ c.spare) }
@@ -59,7 +59,7 @@ impl Chunk {
     }
 }
 
-impl Part for Chunk {
+impl<M: Partial> Part<M> for Chunk<M> {
     ghost tuples = { λ c. c.tuples };
 
     ghost spare = { λ c. c.spare };
@@ -80,7 +80,7 @@ impl Part for Chunk {
         self.tuples.len() < MOST && self.tuples.len() < self.tuples.capacity()
     }
 
-    fn settle(&mut self, is_last: bool) -> Result<Option<Chunk>, NoMemory> {
+    fn settle(&mut self, is_last: bool) -> Result<Option<Chunk<M>>, NoMemory> {
         let len = self.tuples.len();
         if len < MOST {
             self.tuples.reserve(1)?;
@@ -108,7 +108,7 @@ impl Part for Chunk {
         self.sum = None;
     }
 
-    fn fold<L>(&mut self, low: u64, high: u64, steps: &mut Steps<L>) -> Option<Bundle> {
+    fn fold<L>(&mut self, low: u64, high: u64, steps: &mut Steps<L>) -> Option<M> {
         if !covers(low, high, first_time(&self.tuples), last_time(&self.tuples)) {
             return sum_of(part_of(&self.tuples, low, high), steps);
         }
