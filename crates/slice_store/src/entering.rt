@@ -66,8 +66,7 @@ fn front<M: Partial, T: AggTree<M>, L>(
 {
     let low = runs.slice(at).low;
     let own = partials.take(low, steps);
-    let tuple: M = lifted(&x);
-    let partial = tuple.combine(&own, steps);
+    let partial = lifted::<M>(&x).combine(&own, steps);
     partials.insert(x.time, partial, steps);
     runs.enter(at, at + 1, x);
 }
