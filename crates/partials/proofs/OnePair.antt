@@ -7,9 +7,7 @@ use Rattle.std.proofs.lemmas.Bool.{eqb-true}
 use Rattle.std.proofs.lemmas.Bool.Decides.{nat_tests}
 use Rattle.std.proofs.lemmas.List.Elements.{All-weaker}
 use Rattle.stream_base.proofs.Filters.{cases_of, filter_none}
-use Rattle.aggregates.specs.Bundled.{Bundled, IsBundle, empty_bundle, bundles_combined}
-use Rattle.aggregates.specs.BundleLaws.{bundle_laws}
-use Rattle.agg_laws.specs.Laws.{total}
+use Rattle.agg_laws.specs.Laws.{MonoidLaws, total}
 use Rattle.agg_laws.specs.Pairs as pairs
 use Rattle.agg_laws.specs.Pairs.{AreRising, value_at, within}
 use Rattle.agg_laws.proofs.RisingPairs.{rising_above, rising_second}
@@ -63,5 +61,5 @@ module _ {M : Type 0} where
           ap (λ c. cond c (p ∷ within k (k + 1) ps) (within k (k + 1) ps)) (other k p.0 t) ∙ later (sym found ∙ e)
 
 -- what one pair's range comes to
-pub read_one : (k : ℕ) (b : Bundled) (ps : List (ℕ × Bundled)) → AreRising ps → IsBundle b → value_at k ps ≡ Some b → total empty_bundle bundles_combined (pairs.values_of (within k (k + 1) ps)) ≡ b
-read_one k b ps h v e = ap (λ l. total empty_bundle bundles_combined (pairs.values_of l)) (one_there k b ps h e) ∙ bundle_laws.left_unit b v
+pub read_one : {M : Type 0} {IsValue : M → Type 0} {empty : M} {op : M → M → M} → MonoidLaws IsValue empty op → (k : ℕ) (b : M) (ps : List (ℕ × M)) → AreRising ps → IsValue b → value_at k ps ≡ Some b → total empty op (pairs.values_of (within k (k + 1) ps)) ≡ b
+read_one {M} {IsValue} {empty} {op} laws k b ps h v e = ap (λ l. total empty op (pairs.values_of l)) (one_there k b ps h e) ∙ laws.left_unit b v

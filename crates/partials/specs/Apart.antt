@@ -1,17 +1,16 @@
 -- Pairs in a tree, and the newest ones in a row beside it.
 use Rattle.std.specs.Prelude.{◌≡◌, ◌≤◌, ◌<◌, ◌+◌, ◌-◌, ◌*◌, ◌/◌, ◌^◌, ◌||◌, ℕ, Bool, List, Some, length, max, min, nat_le, nat_lt, if◌then◌else◌, All}
 use Rattle.agg_laws.specs.Pairs.{distance, value_at}
-use Rattle.aggregates.specs.Bundled.{Bundled, IsBundle}
 
 -- pairs of the time of a slice's first tuple and the slice's partial, for how many more there is room, what the bounds on steps go by, and from which time on partials stand in the row
-pub record Sums : Type 0 where
-  pub pairs : List (ℕ × Bundled)
+pub record Sums (M : Type 0) : Type 0 where
+  pub pairs : List (ℕ × M)
   pub spare : ℕ
   pub reach : ℕ
   pub edge : ℕ
 
 -- no room was used, the reach didn't grow, and the row begins where it did
-pub record KeepsRoom (old new : Sums) : Type 0 where
+pub record KeepsRoom {M : Type 0} (old new : Sums M) : Type 0 where
   pub spare : old.spare ≤ new.spare
   pub reach : new.reach ≤ old.reach
   pub edge : new.edge ≡ old.edge
@@ -26,12 +25,12 @@ pub record SpendsNear (Near : ℕ → ℕ → Type 0) (behind reach more made ma
   pub cost : makes ≤ made + (64 * (levels + 2) + more)
 
 -- a partial that stood in the row stands there still, and one that came from where the row began stands there now, unless 256 lie behind it
-abbrev pub KeepsRow : Sums → Sums → Type 0
+abbrev pub KeepsRow : {M : Type 0} → Sums M → Sums M → Type 0
 KeepsRow old new = (time : ℕ) → old.edge ≤ time → distance time new.pairs < 256 → new.edge ≤ time
 
 -- the partial under a time is read, in one step at most
-pub record Reads (low : ℕ) (pairs : List (ℕ × Bundled)) (read : Bundled) (made makes : ℕ) : Type 0 where
-  pub value : (b : Bundled) → IsBundle b → value_at low pairs ≡ Some b → read ≡ b
+pub record Reads {M : Type 0} (IsValue : M → Type 0) (low : ℕ) (pairs : List (ℕ × M)) (read : M) (made makes : ℕ) : Type 0 where
+  pub value : (b : M) → IsValue b → value_at low pairs ≡ Some b → read ≡ b
   pub cost : makes ≤ made + 1
 
 -- all keys are below an edge
@@ -43,7 +42,7 @@ abbrev pub AreFrom : {M : Type 0} → ℕ → List (ℕ × M) → Type 0
 AreFrom edge pairs = All (λ p. edge ≤ p.0) pairs
 
 -- the keys in a tree are below an edge, and those in the row beside it aren't, of which there are at most 256
-pub record AreApart (inside near : List (ℕ × Bundled)) (edge : ℕ) : Type 0 where
+pub record AreApart {M : Type 0} (inside near : List (ℕ × M)) (edge : ℕ) : Type 0 where
   pub below : AreBelow edge inside
   pub from : AreFrom edge near
   pub few : length near ≤ 256

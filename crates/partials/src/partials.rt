@@ -1,13 +1,11 @@
 //! The partials of slices.
 ghost use Rattle.std.specs.Prelude.{◌≡◌, ◌≤◌, ◌<◌, ◌+◌, ◌*◌, ◌^◌, ◌++◌, ℕ, [], None, Some, length, OnOk, IsTrue, true, false};
-ghost use Rattle.aggregates.specs.Bundled.{Bundled, IsBundle, bundles_combined, empty_bundle};
 ghost use Rattle.agg_laws.specs.Counters.{Spends};
 ghost use Rattle.agg_laws.specs.Laws.{total};
 ghost use Rattle.agg_laws.specs.Pairs.{distance, has_key, inserted, least_key, replaced, value_at, values_of, within, without};
 ghost use Rattle.partials.specs.Apart.{AreBelow, AreFrom, IsReachOver, KeepsRoom, KeepsRow, Reads, SpendsNear, may_need_tree};
 
 use agg_laws::{AggTree, Monoid, Probes, Steps};
-use aggregates::Bundle;
 use pair_row::PairRow;
 use std::alloc::Global;
 use std::marker::Model;
@@ -23,18 +21,18 @@ const NEAR: u64 = 256;
 /// the bounds on steps go by: the reach of the tree, or that of a tree which folds as fast as the
 /// row, whichever is greater.
 #[derive(Drop)]
-pub struct Partials<T: AggTree<Bundle>> {
+pub struct Partials<M: Monoid, T: AggTree<M>> {
     tree: T,
-    near: PairRow<Bundle>,
+    near: PairRow<M>,
     // The keys in the tree are below it, and those in the row aren't.
     edge: u64,
 }
 
-impl<T: AggTree<Bundle>> Model for Partials<T> {
+impl<M: Monoid, T: AggTree<M>> Model for Partials<M, T> {
     ghost use Rattle.std.specs.Prelude.{◌++◌, length, max};
     ghost use Rattle.partials.specs.Apart.{Sums, AreApart, may_need_tree, room_for, row_reach};
 
-    ghost Value = { Sums };
+    ghost Value = { Sums M };
 
     ghost view = { λ p. record {
       pairs = (T.table p.tree).pairs ++ p.near.pairs;
@@ -48,9 +46,9 @@ impl<T: AggTree<Bundle>> Model for Partials<T> {
     ghost invariant = { λ p. AreApart (T.table p.tree).pairs p.near.pairs p.edge };
 }
 
-impl<T: AggTree<Bundle>> Partials<T> {
+impl<M: Monoid, T: AggTree<M>> Partials<M, T> {
     /// No partial.
-    pub fn new(alloc: Global) -> Partials<T>
+    pub fn new(alloc: Global) -> Partials<M, T>
         ensures pairs { (result).pairs ≡ [] }
         ensures reach { (result).reach ≡ 0 }
         ensures edge { (result).edge ≡ 0 }
@@ -85,7 +83,7 @@ impl<T: AggTree<Bundle>> Partials<T> {
     }
 
     /// Puts a partial under a time that has none.
-    pub fn insert<L>(&mut self, low: u64, partial: Bundle, steps: &mut Steps<L>)
+    pub fn insert<L>(&mut self, low: u64, partial: M, steps: &mut Steps<L>)
         requires absent { has_key low (self.old).pairs ≡ false }
         requires room { 1 ≤ (self.old).spare }
         ensures inserted { (self.new).pairs ≡ inserted low partial (self.old).pairs }
@@ -106,7 +104,7 @@ impl<T: AggTree<Bundle>> Partials<T> {
 
     /// Puts another partial under a time that has one: with no step in the row, and else with as
     /// many as a tree takes where no more partials lie behind.
-    pub fn set<L>(&mut self, low: u64, partial: Bundle, steps: &mut Steps<L>)
+    pub fn set<L>(&mut self, low: u64, partial: M, steps: &mut Steps<L>)
         requires { IsTrue (has_key low (self.old).pairs) }
         ensures replaced { (self.new).pairs ≡ replaced low partial (self.old).pairs }
         ensures keeps { KeepsRoom self.old self.new }
@@ -125,10 +123,10 @@ impl<T: AggTree<Bundle>> Partials<T> {
 
     /// Combines the partial under a time with another one behind it: in one step in the row, and else
     /// in two more than `set` takes.
-    pub fn extend<L>(&mut self, low: u64, more: &Bundle, steps: &mut Steps<L>)
+    pub fn extend<L>(&mut self, low: u64, more: &M, steps: &mut Steps<L>)
         requires { IsTrue (has_key low (self.old).pairs) }
-        ensures extended { (b : Bundled) → IsBundle b → value_at low (self.old).pairs ≡ Some b
-            → (self.new).pairs ≡ replaced low (bundles_combined b more.now) (self.old).pairs }
+        ensures extended { (b : M) → M.is_value b → value_at low (self.old).pairs ≡ Some b
+            → (self.new).pairs ≡ replaced low (M.op b more.now) (self.old).pairs }
         ensures keeps { KeepsRoom self.old self.new }
         ensures row { (self.old).edge ≤ low → steps.new ≤ steps.old + 1 }
         ensures near { SpendsNear T.near (distance low (self.old).pairs) (self.old).reach 2
@@ -143,8 +141,8 @@ impl<T: AggTree<Bundle>> Partials<T> {
     }
 
     /// Takes out the partial under a time.
-    pub fn take<L>(&mut self, low: u64, steps: &mut Steps<L>) -> Bundle
-        ensures value { (b : Bundled) → value_at low (self.old).pairs ≡ Some b → result ≡ b }
+    pub fn take<L>(&mut self, low: u64, steps: &mut Steps<L>) -> M
+        ensures value { (b : M) → value_at low (self.old).pairs ≡ Some b → result ≡ b }
         ensures pairs { (self.new).pairs ≡ without low (self.old).pairs }
         ensures keeps { KeepsRoom self.old self.new }
         ensures cost { steps.new ≤ steps.old + 64 * ((self.old).reach + 2) }
@@ -157,19 +155,19 @@ impl<T: AggTree<Bundle>> Partials<T> {
     }
 
     /// The partial under a time, at most one step.
-    pub fn read<L>(&self, low: u64, steps: &mut Steps<L>) -> Bundle
-        ensures { Reads low (self.now).pairs result steps.old steps.new }
+    pub fn read<L>(&self, low: u64, steps: &mut Steps<L>) -> M
+        ensures { Reads M.is_value low (self.now).pairs result steps.old steps.new }
     {
         if low < self.edge {
             read_in(&self.tree, low, steps)
         } else {
-            self.near.get(low).unwrap_or(Bundle::unit())
+            self.near.get(low).unwrap_or(M::unit())
         }
     }
 
     /// The partials with `low <= key < high` combined in the order of keys.
-    pub fn fold_range<L>(&self, low: u64, high: u64, steps: &mut Steps<L>) -> Bundle
-        ensures value { result ≡ total empty_bundle bundles_combined
+    pub fn fold_range<L>(&self, low: u64, high: u64, steps: &mut Steps<L>) -> M
+        ensures value { result ≡ total M.empty M.op
             (values_of (within low high (self.now).pairs)) }
         ensures work { Spends (64 * ((self.now).reach + 2))
             (length (within low high (self.now).pairs)) steps.old steps.new }
@@ -180,7 +178,7 @@ impl<T: AggTree<Bundle>> Partials<T> {
 }
 
 // Whether one pair more may go into the tree.
-fn needs_tree<T: AggTree<Bundle>>(tree: &T, near: &PairRow<Bundle>, edge: u64) -> bool
+fn needs_tree<M: Monoid, T: AggTree<M>>(tree: &T, near: &PairRow<M>, edge: u64) -> bool
     requires few { length near.now.pairs ≤ 256 }
     ensures needs { result
         ≡ may_need_tree edge (length ((T.table tree.now).pairs ++ near.now.pairs)) }
@@ -192,7 +190,7 @@ fn needs_tree<T: AggTree<Bundle>>(tree: &T, near: &PairRow<Bundle>, edge: u64) -
 
 // Whether a key belongs into the row: it lies behind those in the tree, and where the row is full
 // also behind the first one there, which then leaves.
-fn is_near(near: &PairRow<Bundle>, edge: u64, key: u64) -> bool
+fn is_near<M: Monoid>(near: &PairRow<M>, edge: u64, key: u64) -> bool
     requires from { AreFrom edge near.now.pairs }
     requires absent { has_key key near.now.pairs ≡ false }
     ensures edge { result ≡ true → edge ≤ key }
@@ -213,9 +211,9 @@ fn is_near(near: &PairRow<Bundle>, edge: u64, key: u64) -> bool
 }
 
 // Brings the first pair of a full row into a tree, and answers where the row begins then.
-fn make_way<T: AggTree<Bundle>, L>(
+fn make_way<M: Monoid, T: AggTree<M>, L>(
     tree: &mut T,
-    near: &mut PairRow<Bundle>,
+    near: &mut PairRow<M>,
     edge: u64,
     steps: &mut Steps<L>,
 ) -> u64
@@ -247,9 +245,9 @@ fn make_way<T: AggTree<Bundle>, L>(
 }
 
 // Brings the first pair of a row into a tree, and answers where the row begins then.
-fn bring_in<T: AggTree<Bundle>, L>(
+fn bring_in<M: Monoid, T: AggTree<M>, L>(
     tree: &mut T,
-    near: &mut PairRow<Bundle>,
+    near: &mut PairRow<M>,
     edge: u64,
     steps: &mut Steps<L>,
 ) -> u64
@@ -280,30 +278,30 @@ fn bring_in<T: AggTree<Bundle>, L>(
 
 // The fold of a range of a tree whose keys are below an edge; nothing of it where the range begins
 // there or behind.
-fn fold_below<T: AggTree<Bundle>, L>(
+fn fold_below<M: Monoid, T: AggTree<M>, L>(
     tree: &T,
     edge: u64,
     low: u64,
     high: u64,
     steps: &mut Steps<L>,
-) -> Bundle
+) -> M
     requires { AreBelow edge (T.table tree.now).pairs }
-    ensures value { result ≡ total empty_bundle bundles_combined
+    ensures value { result ≡ total M.empty M.op
         (values_of (within low high (T.table tree.now).pairs)) }
     ensures work { Spends (32 * (T.reach tree.now + 2))
         (length (within low high (T.table tree.now).pairs)) steps.old steps.new }
 {
     if edge <= low {
-        return Bundle::unit();
+        return M::unit();
     }
     let mut probes = Probes::new();
     tree.fold_range(low, high, &mut probes, steps)
 }
 
 // The partial under a time in a tree, which isn't the last of all.
-fn read_in<T: AggTree<Bundle>, L>(tree: &T, low: u64, steps: &mut Steps<L>) -> Bundle
+fn read_in<M: Monoid, T: AggTree<M>, L>(tree: &T, low: u64, steps: &mut Steps<L>) -> M
     requires { low + 1 < 2 ^ 64 }
-    ensures { Reads low (T.table tree.now).pairs result steps.old steps.new }
+    ensures { Reads M.is_value low (T.table tree.now).pairs result steps.old steps.new }
 {
     let mut probes = Probes::new();
     tree.fold_range(low, low + 1, &mut probes, steps)
@@ -312,12 +310,12 @@ fn read_in<T: AggTree<Bundle>, L>(tree: &T, low: u64, steps: &mut Steps<L>) -> B
 // Combines the partial under a time in a tree with another one behind it. It is a function of its own:
 // inside `extend` its local variables would be cleared for each tuple in order, too.
 #[inline(always)]
-fn extend_in<T: AggTree<Bundle>, L>(tree: &mut T, low: u64, more: &Bundle, steps: &mut Steps<L>)
+fn extend_in<M: Monoid, T: AggTree<M>, L>(tree: &mut T, low: u64, more: &M, steps: &mut Steps<L>)
     requires inner { low + 1 < 2 ^ 64 }
     requires there { IsTrue (has_key low (T.table tree.old).pairs) }
-    ensures extended { (b : Bundled) → IsBundle b → value_at low (T.table tree.old).pairs ≡ Some b
+    ensures extended { (b : M) → M.is_value b → value_at low (T.table tree.old).pairs ≡ Some b
         → (T.table tree.new).pairs
-        ≡ replaced low (bundles_combined b more.now) (T.table tree.old).pairs }
+        ≡ replaced low (M.op b more.now) (T.table tree.old).pairs }
     ensures below { (edge : ℕ) → AreBelow edge (T.table tree.old).pairs
         → AreBelow edge (T.table tree.new).pairs }
     ensures spare { (T.table tree.old).spare ≤ (T.table tree.new).spare }
@@ -332,8 +330,8 @@ fn extend_in<T: AggTree<Bundle>, L>(tree: &mut T, low: u64, more: &Bundle, steps
 }
 
 // Takes the partial under a time out of a tree.
-fn take_from<T: AggTree<Bundle>, L>(tree: &mut T, low: u64, steps: &mut Steps<L>) -> Bundle
-    ensures value { (b : Bundled) → value_at low (T.table tree.old).pairs ≡ Some b → result ≡ b }
+fn take_from<M: Monoid, T: AggTree<M>, L>(tree: &mut T, low: u64, steps: &mut Steps<L>) -> M
+    ensures value { (b : M) → value_at low (T.table tree.old).pairs ≡ Some b → result ≡ b }
     ensures pairs { (T.table tree.new).pairs ≡ without low (T.table tree.old).pairs }
     ensures spare { (T.table tree.old).spare ≤ (T.table tree.new).spare }
     ensures reach { T.reach tree.new ≤ T.reach tree.old }
@@ -341,17 +339,17 @@ fn take_from<T: AggTree<Bundle>, L>(tree: &mut T, low: u64, steps: &mut Steps<L>
 {
     let mut probes = Probes::new();
     match tree.remove(low, &mut probes, steps) {
-        Some(bundle) => bundle,
-        None => Bundle::unit(),
+        Some(partial) => partial,
+        None => M::unit(),
     }
 }
 
 // Takes the partial under a time out of a row.
-fn take_near(near: &mut PairRow<Bundle>, low: u64) -> Bundle
-    ensures value { (b : Bundled) → value_at low near.old.pairs ≡ Some b → result ≡ b }
+fn take_near<M: Monoid>(near: &mut PairRow<M>, low: u64) -> M
+    ensures value { (b : M) → value_at low near.old.pairs ≡ Some b → result ≡ b }
     ensures pairs { near.new.pairs ≡ without low near.old.pairs }
     ensures spare { near.old.spare ≤ near.new.spare }
     ensures row { length near.new.pairs ≤ length near.old.pairs }
 {
-    near.remove(low).unwrap_or(Bundle::unit())
+    near.remove(low).unwrap_or(M::unit())
 }

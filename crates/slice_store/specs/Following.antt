@@ -1,5 +1,5 @@
 -- Slices and their partials: when a tuple may enter them, and that the partials follow what becomes of the slices.
-use Rattle.std.specs.Prelude.{◌≡◌, ◌≤◌, ◌+◌, ℕ, List, length, map, nat_le, if◌then◌else◌}
+use Rattle.std.specs.Prelude.{◌≡◌, ◌≤◌, ◌+◌, ℕ, ℤ, List, length, map, nat_le, if◌then◌else◌}
 use Rattle.stream_base.specs.declared.kept.Kept.{Kept}
 use Rattle.stream_base.specs.Model.Windows.{last_time}
 use Rattle.partials.specs.Apart.{Sums}
@@ -7,24 +7,24 @@ use Rattle.slice_lists.specs.Slices.{AreSlices, CanEnter, CanSplit, Sliced}
 use Rattle.agg_store.specs.Stored.{partial_of}
 
 -- a tuple may enter the slices from one place up to another, which are as every store has them: the partials are those of the slices, and there is room for one more
-pub record MayEnter (from to : ℕ) (x : Kept) (runs : Sliced) (partials : Sums) : Type 0 where
+pub record MayEnter {M : Type 0} (of_values : List ℤ → M) (from to : ℕ) (x : Kept) (runs : Sliced) (partials : Sums M) : Type 0 where
   pub holds : AreSlices runs.slices
   pub can : CanEnter from to x runs
   pub spare : 1 ≤ partials.spare
-  pub stand : partials.pairs ≡ map partial_of runs.slices
+  pub stand : partials.pairs ≡ map (partial_of of_values) runs.slices
 
 -- a slice may be split at a time, and the slices are as every store has them: the partials are those of the slices, and there is room for one more
-pub record MaySplit (at time : ℕ) (runs : Sliced) (partials : Sums) : Type 0 where
+pub record MaySplit {M : Type 0} (of_values : List ℤ → M) (at time : ℕ) (runs : Sliced) (partials : Sums M) : Type 0 where
   pub holds : AreSlices runs.slices
   pub can : CanSplit at time runs
   pub spare : 1 ≤ partials.spare
-  pub stand : partials.pairs ≡ map partial_of runs.slices
+  pub stand : partials.pairs ≡ map (partial_of of_values) runs.slices
 
 -- the slices have become these, as every store has them, and the partials are theirs again; one room at most was used of both, and the reach grew by one at most
-pub record Follow (these : List (List Kept)) (runs : Sliced) (partials : Sums) (runs' : Sliced) (partials' : Sums) : Type 0 where
+pub record Follow {M : Type 0} (of_values : List ℤ → M) (these : List (List Kept)) (runs : Sliced) (partials : Sums M) (runs' : Sliced) (partials' : Sums M) : Type 0 where
   pub slices : runs'.slices ≡ these
   pub holds : AreSlices runs'.slices
-  pub stand : partials'.pairs ≡ map partial_of runs'.slices
+  pub stand : partials'.pairs ≡ map (partial_of of_values) runs'.slices
   pub room : runs.spare ≤ runs'.spare + 1
   pub spare : partials.spare ≤ partials'.spare + 1
   pub reach : partials'.reach ≤ partials.reach + 1

@@ -7,21 +7,21 @@ ghost use Rattle.slice_store.specs.Following.{Follow, MayEnter, refolded};
 
 use crate::lifting::lifted;
 use agg_laws::{AggTree, Monoid, Steps};
-use aggregates::Bundle;
+use aggregates::Partial;
 use partials::Partials;
 use slice_runs::Runs;
 use stream_base::Kept;
 
 // The tuple becomes a slice of its own.
-fn add<T: AggTree<Bundle>, L>(
-    runs: &mut Runs,
-    partials: &mut Partials<T>,
+fn add<M: Partial, T: AggTree<M>, L>(
+    runs: &mut Runs<M>,
+    partials: &mut Partials<M, T>,
     at: usize,
     x: Kept,
     steps: &mut Steps<L>,
 )
-    requires { MayEnter at at x runs.old partials.old }
-    ensures follow { Follow (entered_at at at x (runs.old).slices)
+    requires { MayEnter M.of_values at at x runs.old partials.old }
+    ensures follow { Follow M.of_values (entered_at at at x (runs.old).slices)
         runs.old partials.old runs.new partials.new }
     ensures cost { steps.new ≤ steps.old + 64 * ((partials.old).reach + 2) }
 {
@@ -30,16 +30,16 @@ fn add<T: AggTree<Bundle>, L>(
 }
 
 // The tuple comes behind those of a slice: its partial is combined with it once.
-fn extend<T: AggTree<Bundle>, L>(
-    runs: &mut Runs,
-    partials: &mut Partials<T>,
+fn extend<M: Partial, T: AggTree<M>, L>(
+    runs: &mut Runs<M>,
+    partials: &mut Partials<M, T>,
     at: usize,
     x: Kept,
     steps: &mut Steps<L>,
 )
-    requires may { MayEnter at (at + 1) x runs.old partials.old }
+    requires may { MayEnter M.of_values at (at + 1) x runs.old partials.old }
     requires late { last_time (slice_index_or (runs.old).slices at []) ≤ x.time }
-    ensures follow { Follow (entered_at at (at + 1) x (runs.old).slices)
+    ensures follow { Follow M.of_values (entered_at at (at + 1) x (runs.old).slices)
         runs.old partials.old runs.new partials.new }
     ensures near { SpendsNear T.near (length (runs.old).slices - (at + 1)) (partials.old).reach 2
         steps.old steps.new }
@@ -51,37 +51,37 @@ fn extend<T: AggTree<Bundle>, L>(
 }
 
 // The tuple comes before those of a slice, which then begins with it.
-fn front<T: AggTree<Bundle>, L>(
-    runs: &mut Runs,
-    partials: &mut Partials<T>,
+fn front<M: Partial, T: AggTree<M>, L>(
+    runs: &mut Runs<M>,
+    partials: &mut Partials<M, T>,
     at: usize,
     x: Kept,
     steps: &mut Steps<L>,
 )
-    requires may { MayEnter at (at + 1) x runs.old partials.old }
+    requires may { MayEnter M.of_values at (at + 1) x runs.old partials.old }
     requires early { x.time < first_time (slice_index_or (runs.old).slices at []) }
-    ensures follow { Follow (entered_at at (at + 1) x (runs.old).slices)
+    ensures follow { Follow M.of_values (entered_at at (at + 1) x (runs.old).slices)
         runs.old partials.old runs.new partials.new }
     ensures cost { steps.new ≤ steps.old + 128 * ((partials.old).reach + 3) }
 {
     let low = runs.slice(at).low;
     let own = partials.take(low, steps);
-    let bundle = lifted(&x).combine(&own, steps);
-    partials.insert(x.time, bundle, steps);
+    let partial = lifted::<M>(&x).combine(&own, steps);
+    partials.insert(x.time, partial, steps);
     runs.enter(at, at + 1, x);
 }
 
 // The tuple comes between those of a slice, whose tuples are folded anew in event order.
-fn refold<T: AggTree<Bundle>, L>(
-    runs: &mut Runs,
-    partials: &mut Partials<T>,
+fn refold<M: Partial, T: AggTree<M>, L>(
+    runs: &mut Runs<M>,
+    partials: &mut Partials<M, T>,
     at: usize,
     x: Kept,
     steps: &mut Steps<L>,
 )
-    requires may { MayEnter at (at + 1) x runs.old partials.old }
+    requires may { MayEnter M.of_values at (at + 1) x runs.old partials.old }
     requires late { first_time (slice_index_or (runs.old).slices at []) ≤ x.time }
-    ensures follow { Follow (entered_at at (at + 1) x (runs.old).slices)
+    ensures follow { Follow M.of_values (entered_at at (at + 1) x (runs.old).slices)
         runs.old partials.old runs.new partials.new }
     ensures near { SpendsNear T.near (length (runs.old).slices - (at + 1)) (partials.old).reach
         (length (slice_index_or (runs.old).slices at []) + 1) steps.old steps.new }
@@ -90,20 +90,20 @@ fn refold<T: AggTree<Bundle>, L>(
 {
     let low = runs.slice(at).low;
     runs.enter(at, at + 1, x);
-    let bundle = runs.fold_of(at, steps);
-    partials.set(low, bundle, steps);
+    let partial = runs.fold_of(at, steps);
+    partials.set(low, partial, steps);
 }
 
 // The tuple comes between two slices and joins them.
-fn merge<T: AggTree<Bundle>, L>(
-    runs: &mut Runs,
-    partials: &mut Partials<T>,
+fn merge<M: Partial, T: AggTree<M>, L>(
+    runs: &mut Runs<M>,
+    partials: &mut Partials<M, T>,
     at: usize,
     x: Kept,
     steps: &mut Steps<L>,
 )
-    requires { MayEnter at (at + 2) x runs.old partials.old }
-    ensures follow { Follow (entered_at at (at + 2) x (runs.old).slices)
+    requires { MayEnter M.of_values at (at + 2) x runs.old partials.old }
+    ensures follow { Follow M.of_values (entered_at at (at + 2) x (runs.old).slices)
         runs.old partials.old runs.new partials.new }
     ensures cost { steps.new ≤ steps.old + 128 * ((partials.old).reach + 3) }
 {
@@ -112,23 +112,23 @@ fn merge<T: AggTree<Bundle>, L>(
     let left = partials.read(low, steps);
     let right = partials.take(next, steps);
     let longer = left.combine(&lifted(&x), steps);
-    let bundle = longer.combine(&right, steps);
-    partials.set(low, bundle, steps);
+    let partial = longer.combine(&right, steps);
+    partials.set(low, partial, steps);
     runs.enter(at, at + 2, x);
 }
 
 /// Puts a tuple in its place, where the slices from one place up to another become one with it, and
 /// brings the partials after it.
-pub fn enter<T: AggTree<Bundle>, L>(
-    runs: &mut Runs,
-    partials: &mut Partials<T>,
+pub fn enter<M: Partial, T: AggTree<M>, L>(
+    runs: &mut Runs<M>,
+    partials: &mut Partials<M, T>,
     from: usize,
     to: usize,
     x: Kept,
     steps: &mut Steps<L>,
 )
-    requires { MayEnter from to x runs.old partials.old }
-    ensures follow { Follow (entered_at from to x (runs.old).slices)
+    requires { MayEnter M.of_values from to x runs.old partials.old }
+    ensures follow { Follow M.of_values (entered_at from to x (runs.old).slices)
         runs.old partials.old runs.new partials.new }
     ensures cost { steps.new ≤ steps.old + (128 * ((partials.old).reach + 3)
         + length (joined (slices_between from to (runs.old).slices))) }

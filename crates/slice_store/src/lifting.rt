@@ -1,14 +1,12 @@
 //! What a tuple comes to.
 ghost use Rattle.std.specs.Prelude.{◌≡◌, ◌∷◌, []};
-ghost use Rattle.aggregates.specs.Bundled.{bundle_of};
 
-use agg_laws::Lift;
-use aggregates::Bundle;
+use aggregates::Partial;
 use stream_base::Kept;
 
 /// What a tuple alone comes to.
-pub fn lifted(x: &Kept) -> Bundle
-    ensures { result ≡ bundle_of ((x.now).value ∷ []) }
+pub fn lifted<M: Partial>(x: &Kept) -> M
+    ensures { result ≡ M.of_values ((x.now).value ∷ []) }
 {
-    Bundle::lift(x.value)
+    M::lift(x.value)
 }

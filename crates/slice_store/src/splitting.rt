@@ -4,20 +4,20 @@ ghost use Rattle.slice_lists.specs.Slices.{split_at};
 ghost use Rattle.slice_store.specs.Following.{Follow, MaySplit};
 
 use agg_laws::{AggTree, Steps};
-use aggregates::Bundle;
+use aggregates::Partial;
 use partials::Partials;
 use slice_runs::Runs;
 
 /// Splits a slice at a time inside it, and folds the tuples of both parts.
-pub fn split<T: AggTree<Bundle>, L>(
-    runs: &mut Runs,
-    partials: &mut Partials<T>,
+pub fn split<M: Partial, T: AggTree<M>, L>(
+    runs: &mut Runs<M>,
+    partials: &mut Partials<M, T>,
     at: usize,
     time: u64,
     steps: &mut Steps<L>,
 )
-    requires { MaySplit at time runs.old partials.old }
-    ensures follow { Follow (split_at at time (runs.old).slices)
+    requires { MaySplit M.of_values at time runs.old partials.old }
+    ensures follow { Follow M.of_values (split_at at time (runs.old).slices)
         runs.old partials.old runs.new partials.new }
     ensures cost { steps.new ≤ steps.old + (128 * ((partials.old).reach + 3)
         + length (slice_index_or (runs.old).slices at [])) }

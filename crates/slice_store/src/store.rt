@@ -23,7 +23,7 @@ use crate::placed::Placed;
 use crate::splitting::split;
 use agg_laws::{AggTree, Steps};
 use agg_store::AggStore;
-use aggregates::Bundle;
+use aggregates::Partial;
 use partials::Partials;
 use slice_lists::Slice;
 use slice_runs::{Marks, Runs, first_entered, last_entered};
@@ -40,14 +40,14 @@ use stream_base::{Defs, Kept, NoMemory};
 /// The definitions that a call is handed are those of every call before it: that the slices are
 /// theirs is a condition of `put` and `mark`, and each of them says it again.
 #[derive(Drop)]
-pub struct SliceStore<T: AggTree<Bundle>> {
-    runs: Runs,
+pub struct SliceStore<M: Partial, T: AggTree<M>> {
+    runs: Runs<M>,
     marks: Marks,
     dropped: u64,
-    partials: Partials<T>,
+    partials: Partials<M, T>,
 }
 
-impl<T: AggTree<Bundle>> Model for SliceStore<T> {
+impl<M: Partial, T: AggTree<M>> Model for SliceStore<M, T> {
     ghost use Rattle.std.specs.Prelude.{min};
     ghost use Rattle.agg_store.specs.Stored.{Stored};
     ghost use Rattle.slice_store.specs.Inside.{AreInside};
@@ -62,12 +62,12 @@ impl<T: AggTree<Bundle>> Model for SliceStore<T> {
       reach = s.partials.reach;
     } };
 
-    ghost invariant = { λ s. AreInside s.runs.slices s.marks.times s.partials.pairs };
+    ghost invariant = { λ s. AreInside M.of_values s.runs.slices s.marks.times s.partials.pairs };
 }
 
-impl<T: AggTree<Bundle>> SliceStore<T> {
+impl<M: Partial, T: AggTree<M>> SliceStore<M, T> {
     /// No tuple and no mark.
-    pub fn new(alloc: Global) -> SliceStore<T>
+    pub fn new(alloc: Global) -> SliceStore<M, T>
         ensures slices { (result).slices ≡ [] }
         ensures marks { (result).marks ≡ [] }
         ensures dropped { (result).dropped ≡ 0 }
@@ -201,10 +201,10 @@ impl<T: AggTree<Bundle>> SliceStore<T> {
     }
 }
 
-impl<T: AggTree<Bundle>> AggStore for SliceStore<T> {
+impl<M: Partial, T: AggTree<M>> AggStore<M> for SliceStore<M, T> {
     ghost stored = { λ s. s };
 
-    fn fold<L>(&self, low: u64, high: u64, steps: &mut Steps<L>) -> Bundle {
+    fn fold<L>(&self, low: u64, high: u64, steps: &mut Steps<L>) -> M {
         self.partials.fold_range(low, high, steps)
     }
 

@@ -3,13 +3,13 @@ ghost use Rattle.agg_store.specs.Stored.{IsSliced};
 
 use crate::order::Order;
 use agg_laws::{AggTree, Steps};
-use aggregates::Bundle;
+use aggregates::Partial;
 use slice_store::SliceStore;
 use stream_base::{Defs, NoMemory};
 
 /// Puts so many tuples into a store.
-pub fn fill<T: AggTree<Bundle>, L>(
-    store: &mut SliceStore<T>,
+pub fn fill<M: Partial, T: AggTree<M>, L>(
+    store: &mut SliceStore<M, T>,
     defs: &Defs,
     order: Order,
     count: u64,

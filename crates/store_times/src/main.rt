@@ -7,7 +7,7 @@ mod order;
 
 use agg_laws::{AggTree, Steps};
 use agg_store::AggStore;
-use aggregates::Bundle;
+use aggregates::{Bundle, Partial};
 use filling::fill;
 use pair_row::FlatTree;
 use order::Order;
@@ -38,7 +38,7 @@ fn main(rt: HostRuntime) -> io::Result<()> {
         return Ok(());
     };
     let mut steps: Steps<Work> = Steps::start(&rt);
-    let mut store: SliceStore<FlatTree<Bundle>> = SliceStore::new(rt.alloc());
+    let mut store: SliceStore<Bundle, FlatTree<Bundle>> = SliceStore::new(rt.alloc());
     if fill(&mut store, &defs, Order::named(what), count, &mut steps).is_err() {
         println!(rt; "no memory")?;
     }
@@ -49,7 +49,7 @@ fn main(rt: HostRuntime) -> io::Result<()> {
 }
 
 // The fold of all tuples.
-fn fold_all<T: AggTree<Bundle>, L>(store: &SliceStore<T>, steps: &mut Steps<L>) -> Bundle {
+fn fold_all<M: Partial, T: AggTree<M>, L>(store: &SliceStore<M, T>, steps: &mut Steps<L>) -> M {
     let _count = store.slice_count();
     store.fold(0, FINAL, steps)
 }

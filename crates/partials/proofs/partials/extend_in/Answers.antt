@@ -1,6 +1,5 @@
 -- The sum takes the place of the partial that was read, and its key stays.
 use Rattle.std.proofs.Common.{◌∙◌, ap, sym, subst, arith}
-use Rattle.aggregates.specs.Bundled.{bundles_combined}
 use Rattle.agg_laws.specs.Pairs.{distance, replaced}
 use Rattle.partials.specs.Apart.{AreBelow}
 use Rattle.partials.proofs.RowFacts.{below_replaced, near_in_tree}
@@ -9,7 +8,7 @@ use Rattle.partials.proofs.partials.extend_in.Goals as goal
 pub returns-clause-extended : goal.returns-clause-extended
 returns-clause-extended g c =
     let xs = (g.T.AggTree.table c.args.tree.now).pairs in
-    λ b v e. c.set.ensures.replaces.replaced ∙ ap (λ s. replaced c.args.low s xs) (c.combine.ensures.value ∙ ap (λ own. bundles_combined own c.args.more.now) (c.read_in-own.ensures.value b v e))
+    λ b v e. c.set.ensures.replaces.replaced ∙ ap (λ s. replaced c.args.low s xs) (c.combine.ensures.value ∙ ap (λ own. g.M.Monoid.op own c.args.more.now) (c.read_in-own.ensures.value b v e))
 
 pub returns-clause-below : goal.returns-clause-below
 returns-clause-below g c =

@@ -1,4 +1,4 @@
--- The tuple's bundle stands between the partials of the slices around it.
+-- The tuple's partial stands between the partials of the slices around it.
 use Rattle.std.proofs.Common.{◌∙◌, ap, sym, map, refl}
 use Rattle.agg_laws.specs.Pairs.{has_key, inserted}
 use Rattle.agg_store.specs.Stored.{partial_of}
@@ -7,7 +7,7 @@ use Rattle.slice_store.proofs.entering.add.Goals as goal
 
 pub insert-requires-clause-absent : goal.insert-requires-clause-absent
 insert-requires-clause-absent g c =
-    ap (has_key c.args.x.time) c.requires.stand ∙ alone_absent c.args.runs.now.slices c.args.at c.args.at c.args.x c.requires.holds.ordered c.requires.can.ordered refl
+    ap (has_key c.args.x.time) c.requires.stand ∙ alone_absent g.M.Partial.of_values c.args.runs.now.slices c.args.at c.args.at c.args.x c.requires.holds.ordered c.requires.can.ordered refl
 
 pub returns-clause-follow : goal.returns-clause-follow
 returns-clause-follow g c =
@@ -16,8 +16,8 @@ returns-clause-follow g c =
       holds = c.enter.ensures.holds;
       stand = c.insert.ensures.inserted
           ∙ ap (inserted c.args.x.time c.lifted.result) c.requires.stand
-          ∙ alone_there c.args.runs.now.slices c.args.at c.args.at c.args.x c.requires.holds.ordered c.requires.can.ordered refl c.lifted.result c.lifted.ensures
-          ∙ ap (map partial_of) (sym c.enter.ensures.slices);
+          ∙ alone_there g.M.Partial.of_values c.args.runs.now.slices c.args.at c.args.at c.args.x c.requires.holds.ordered c.requires.can.ordered refl c.lifted.result c.lifted.ensures
+          ∙ ap (map (partial_of g.M.Partial.of_values)) (sym c.enter.ensures.slices);
       room = c.enter.ensures.spare;
       spare = c.insert.ensures.spare;
       reach = c.insert.ensures.reach;

@@ -4,14 +4,13 @@ use Rattle.std.specs.Prelude.{FitsSigned}
 use Rattle.std.specs.Int.{w64}
 use Rattle.std.proofs.lemmas.List.Elements.{All-cons, All-nil}
 use Rattle.stream_base.specs.Model.Windows.{first_time}
-use Rattle.aggregates.specs.Bundled.{bundle_of, bundles_combined}
 use Rattle.agg_laws.specs.Pairs.{distance, has_key, replaced, value_at}
-use Rattle.aggregates.proofs.Bundles.{bundle_of-append}
+use Rattle.aggregates.proofs.Partials.{of_values-append}
 use Rattle.slice_lists.specs.declared.slice.Slice.{Slice}
 use Rattle.slice_lists.specs.Slices.{values_of}
 use Rattle.agg_store.specs.Stored.{partial_of}
 use Rattle.slice_lists.proofs.SliceFacts.{values_at}
-use Rattle.slice_store.proofs.PartialFacts.{extended_there, partial_behind, partial_found, partial_is_value, partial_there}
+use Rattle.slice_store.proofs.PartialFacts.{extended_there, partial_behind, partial_found, slice_is_value, partial_there}
 use Rattle.slice_store.proofs.CostFacts.{spends_more}
 use Rattle.slice_store.proofs.CountFacts.{few_slices}
 use Rattle.slice_store.proofs.entering.extend.Goals as goal
@@ -24,7 +23,7 @@ extend-requires g c =
     let l : c.args.at < length c.args.runs.now.slices = omega (arith, c.requires.may.can.within) in
     ap (λ (s : Slice). has_key s.low c.args.partials.now.pairs) c.slice-low.ensures.shown
     ∙ ap (has_key (first_time (get_or c.args.runs.now.slices c.args.at []))) c.requires.may.stand
-    ∙ partial_there c.args.runs.now.slices c.args.at l c.slice-low.ensures.holds.ordered
+    ∙ partial_there g.M.Partial.of_values c.args.runs.now.slices c.args.at l c.slice-low.ensures.holds.ordered
 
 pub returns-clause-follow : goal.returns-clause-follow
 returns-clause-follow g c =
@@ -32,20 +31,20 @@ returns-clause-follow g c =
     let p = get_or runs c.args.at [] in
     let x = c.args.x in
     let l : c.args.at < length runs = omega (arith, c.requires.may.can.within) in
-    let found : value_at c.slice-low.result.low c.args.partials.now.pairs ≡ Some (bundle_of (values_of p)) =
+    let found : value_at c.slice-low.result.low c.args.partials.now.pairs ≡ Some (g.M.Partial.of_values (values_of p)) =
     ap (λ (s : Slice). value_at s.low c.args.partials.now.pairs) c.slice-low.ensures.shown
     ∙ ap (value_at (first_time p)) c.requires.may.stand
-    ∙ partial_found runs c.args.at l c.slice-low.ensures.holds.ordered in
-    let both : bundles_combined (bundle_of (values_of p)) c.lifted.result ≡ bundle_of (values_of p ++ x.value ∷ []) =
-    ap (bundles_combined (bundle_of (values_of p))) c.lifted.ensures
-    ∙ bundle_of-append (values_of p) (x.value ∷ []) (values_at runs c.args.at l c.slice-low.ensures.holds) (All-cons (FitsSigned w64) x.value [] c.requires.may.can.value (All-nil (FitsSigned w64))) in
+    ∙ partial_found g.M.Partial.of_values runs c.args.at l c.slice-low.ensures.holds.ordered in
+    let both : g.M.Monoid.op (g.M.Partial.of_values (values_of p)) c.lifted.result ≡ g.M.Partial.of_values (values_of p ++ x.value ∷ []) =
+    ap (g.M.Monoid.op (g.M.Partial.of_values (values_of p))) c.lifted.ensures
+    ∙ of_values-append g.met.M.Partial.partial (values_of p) (x.value ∷ []) (values_at runs c.args.at l c.slice-low.ensures.holds) (All-cons (FitsSigned w64) x.value [] c.requires.may.can.value (All-nil (FitsSigned w64))) in
     record {
       slices = c.enter.ensures.slices;
       holds = c.enter.ensures.holds;
-      stand = c.extend.ensures.extended (bundle_of (values_of p)) (partial_is_value runs c.args.at l c.slice-low.ensures.holds) found
-          ∙ (λ i. replaced (ap (λ (s : Slice). s.low) c.slice-low.ensures.shown i) (bundles_combined (bundle_of (values_of p)) c.lifted.result) (c.requires.may.stand i))
-          ∙ extended_there runs c.args.at (c.args.at + 1) x c.slice-low.ensures.holds.ordered c.requires.may.can.ordered refl l c.requires.late (bundles_combined (bundle_of (values_of p)) c.lifted.result) both
-          ∙ ap (map partial_of) (sym c.enter.ensures.slices);
+      stand = c.extend.ensures.extended (g.M.Partial.of_values (values_of p)) (slice_is_value g.met.M.Partial.partial runs c.args.at l c.slice-low.ensures.holds) found
+          ∙ (λ i. replaced (ap (λ (s : Slice). s.low) c.slice-low.ensures.shown i) (g.M.Monoid.op (g.M.Partial.of_values (values_of p)) c.lifted.result) (c.requires.may.stand i))
+          ∙ extended_there g.M.Partial.of_values runs c.args.at (c.args.at + 1) x c.slice-low.ensures.holds.ordered c.requires.may.can.ordered refl l c.requires.late (g.M.Monoid.op (g.M.Partial.of_values (values_of p)) c.lifted.result) both
+          ∙ ap (map (partial_of g.M.Partial.of_values)) (sym c.enter.ensures.slices);
       room = c.enter.ensures.spare;
       spare = omega (arith, c.extend.ensures.keeps.spare);
       reach = omega (arith, c.extend.ensures.keeps.reach);
@@ -58,5 +57,5 @@ returns-clause-near g c =
     let behind : distance c.slice-low.result.low c.args.partials.now.pairs ≡ length runs - (c.args.at + 1) =
     ap (λ (s : Slice). distance s.low c.args.partials.now.pairs) c.slice-low.ensures.shown
     ∙ ap (distance (first_time (get_or runs c.args.at []))) c.requires.may.stand
-    ∙ partial_behind runs c.args.at l c.slice-low.ensures.holds.ordered in
+    ∙ partial_behind g.M.Partial.of_values runs c.args.at l c.slice-low.ensures.holds.ordered in
     spends_more g.T.AggTree.near _ (length runs - (c.args.at + 1)) c.args.partials.now.reach 2 2 _ _ _ c.extend.ensures.near (omega (arith, behind)) (omega arith)

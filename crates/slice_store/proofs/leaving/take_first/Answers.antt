@@ -13,7 +13,7 @@ loop-at-preserved g c =
     record {
       stand = c.take-partial.ensures.pairs
           ∙ (λ i. without (ap (λ (s : Slice). s.low) c.slice.ensures.shown i) (c.loop-at.invariant.stand i))
-          ∙ first_leaves runs at l c.slice.ensures.holds.ordered;
+          ∙ first_leaves g.M.Partial.of_values runs at l c.slice.ensures.holds.ordered;
       keeps = record {
         spare = omega (arith, c.loop-at.invariant.keeps.spare, c.take-partial.ensures.keeps.spare);
         reach = omega (arith, c.loop-at.invariant.keeps.reach, c.take-partial.ensures.keeps.reach);

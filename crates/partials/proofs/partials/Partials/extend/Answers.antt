@@ -1,7 +1,6 @@
 -- The pair with the key is in the tree where the key is below the edge, and else in the row.
 use Rattle.std.proofs.Common.{◌∙◌, ◌++◌, ap, sym, subst, arith, length}
 use Rattle.partials.specs.Apart.{AreFrom, row_reach}
-use Rattle.aggregates.specs.Bundled.{bundles_combined}
 use Rattle.partials.proofs.RowFacts.{absent_before, absent_behind, from_replaced, near_before_row, near_in_row, replaced_inside, replaced_near, there_inside, there_near, value_inside, value_near, value_there}
 use Rattle.partials.proofs.partials.Partials.extend.Goals as goal
 
@@ -26,7 +25,7 @@ returns-then-low-self-clause-extended g c b is e =
     let absent = absent_before s.edge c.args.low s.near.pairs c.if-low-self.true c.self.invariant.from in
     rw (← c.self.view_is)
     (ap (λ l. l ++ s.near.pairs) (c.extend_in.ensures.extended b is (sym (value_inside c.args.low xs s.near.pairs absent) ∙ (rw (← c.self.view_is) at e)))
-    ∙ sym (replaced_inside c.args.low (bundles_combined b c.args.more.now) xs s.near.pairs absent))
+    ∙ sym (replaced_inside c.args.low (g.M.Monoid.op b c.args.more.now) xs s.near.pairs absent))
 
 pub extend-requires : goal.extend-requires
 extend-requires g c =
@@ -41,7 +40,7 @@ invariant_of-self-else-low-self g c =
     let there = value_there c.args.low s.near.pairs (there_near c.args.low xs s.near.pairs (rw (← c.self.view_is) at c.requires) (absent_behind s.edge c.args.low xs c.if-low-self.false c.self.invariant.below)) in
     record {
       below = c.self.invariant.below;
-      from = subst (AreFrom s.edge) (sym (c.extend.ensures.extended there.0 there.1)) (from_replaced s.edge c.args.low (bundles_combined there.0 c.args.more.now) s.near.pairs c.self.invariant.from);
+      from = subst (AreFrom s.edge) (sym (c.extend.ensures.extended there.0 there.1)) (from_replaced s.edge c.args.low (g.M.Monoid.op there.0 c.args.more.now) s.near.pairs c.self.invariant.from);
       few = omega (arith, c.self.invariant.few, c.extend.ensures.count);
     }
 
@@ -52,7 +51,7 @@ returns-else-low-self-clause-extended g c b is e =
     let absent = absent_behind s.edge c.args.low xs c.if-low-self.false c.self.invariant.below in
     rw (← c.self.view_is)
     (ap (λ l. xs ++ l) (c.extend.ensures.extended b (sym (value_near c.args.low xs s.near.pairs absent) ∙ (rw (← c.self.view_is) at e)))
-    ∙ sym (replaced_near c.args.low (bundles_combined b c.args.more.now) xs s.near.pairs absent))
+    ∙ sym (replaced_near c.args.low (g.M.Monoid.op b c.args.more.now) xs s.near.pairs absent))
 
 pub returns-then-low-self-clause-near : goal.returns-then-low-self-clause-near
 returns-then-low-self-clause-near g c =
