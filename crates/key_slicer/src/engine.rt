@@ -15,7 +15,7 @@ use key_parts::AnyPart;
 use key_windows::{AnyKey, KeyWindows};
 use slice_store::SliceStore;
 use std::alloc::Global;
-use stream_base::{Change, Defs, KeyText, NoMemory};
+use stream_base::{Change, Defs, Kept, KeyText, NoMemory};
 
 impl<T: AggTree<Bundle> + Drop, P: AnyPart<Bundle>> AnyKey for KeyState<Bundle, T, P> {
     ghost serves_all = { λ d. all_of (λ w. Unit {0}) (λ w. tt) d.windows };
@@ -87,33 +87,30 @@ impl<M: Partial, T: AggTree<M> + Drop, P: AnyPart<M>> KeyWindows for KeyState<M,
     fn put<L>(
         &mut self,
         defs: &Defs,
-        pos: u64,
-        time: u64,
-        value: i64,
+        x: Kept,
         water: u64,
         out: &mut Vec<Change>,
         steps: &mut Steps<L>,
     ) -> bool {
-        if needs_no_part(defs, time, water) {
-            self.next = pos + 1;
-            let entered = put_in(&mut self.store, defs, pos, time, value, steps);
+        if needs_no_part(defs, x.time, water) {
+            self.next = x.position + 1;
+            let entered = put_in(&mut self.store, defs, x, steps);
             return entered;
         }
-        self.parts.before(defs, &self.store, time, water, steps);
-        let joined = put_in(&mut self.store, defs, pos, time, value, steps);
+        self.parts
+            .before(defs, &self.store, x.time, water, steps);
+        let joined = put_in(&mut self.store, defs, x, steps);
         self.parts.put(
             defs,
             &self.store,
             &self.key,
-            pos,
-            time,
-            value,
+            x,
             water,
             &mut self.scratch,
             steps,
         );
         append_sorted(self.scratch.as_slice(), out);
-        self.next = pos + 1;
+        self.next = x.position + 1;
         leaves_due(defs, joined)
     }
 

@@ -9,7 +9,7 @@ ghost use Rattle.agg_store.specs.Stored.{tuples_of};
 ghost use Rattle.slice_lists.specs.Slices.{joined};
 ghost use Rattle.slice_store.specs.declared.placed.Placed.TheVariants.{Appended};
 ghost use Rattle.slice_store.specs.Placing.{is_last, placed_in};
-ghost use Rattle.key_windows.specs.Calls.{IsWater, kept_at};
+ghost use Rattle.key_windows.specs.Calls.{IsWater};
 ghost use Rattle.key_parts.specs.Moves.{Comes, all_count_events};
 ghost use Rattle.key_slicer.specs.States.{IsFirstTime, MayEnter, needs_no_part};
 
@@ -19,7 +19,7 @@ use agg_store::AggStore;
 use aggregates::Partial;
 use key_parts::KeyPart;
 use slice_store::{Placed, SliceStore};
-use stream_base::{Change, Defs, FINAL, KeyText, Kind, NoMemory, TIME_MAX};
+use stream_base::{Change, Defs, FINAL, Kept, KeyText, Kind, NoMemory, TIME_MAX};
 
 /// The windows of one key. Its tuples lie in slices that all windows share, and each window has a
 /// part of its own. Settled slices leave.
@@ -122,26 +122,22 @@ fn all_timed(defs: &Defs) -> bool
 pub fn put_in<M: Partial, T: AggTree<M>, L>(
     store: &mut SliceStore<M, T>,
     defs: &Defs,
-    pos: u64,
-    time: u64,
-    value: i64,
+    x: Kept,
     steps: &mut Steps<L>,
 ) -> bool
-    requires { MayEnter defs.now time store.old }
-    ensures comes { (n : ℕ) → (more : ℕ)
-        × Comes defs.now n store.old (kept_at pos time value) more store.new }
+    requires { MayEnter defs.now x.time store.old }
+    ensures comes { (n : ℕ) → (more : ℕ) × Comes defs.now n store.old x more store.new }
     ensures bare { all_count_events defs.now → store.new.slices ≡ [] }
     ensures reach { store.new.reach ≤ store.old.reach + 1 }
     ensures work { steps.new ≤ steps.old + (128 * (store.old.reach + 3)
-        + length (joined (slices_near (defs.now).windows time store.old))) }
+        + length (joined (slices_near (defs.now).windows x.time store.old))) }
     ensures joined { result ≡ true
-        → placed_in (slices_near (defs.now).windows time store.old) (is_last time store.old)
+        → placed_in (slices_near (defs.now).windows x.time store.old) (is_last x.time store.old)
         ≡ Appended }
-    ensures enters { result ≡ true
-        → tuples_of store.new ≡ put_in_order (tuples_of store.old) (kept_at pos time value) }
+    ensures enters { result ≡ true → tuples_of store.new ≡ put_in_order (tuples_of store.old) x }
 {
     if !all_count_events(defs) {
-        store.put(defs, pos, time, value, steps) == Placed::Appended
+        store.put(defs, x.position, x.time, x.value, steps) == Placed::Appended
     } else {
         false
     }

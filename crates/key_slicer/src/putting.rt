@@ -5,7 +5,7 @@ ghost use Rattle.stream_base.specs.Model.Changes.{Moment};
 ghost use Rattle.stream_base.specs.Vectors.{room};
 ghost use Rattle.window_laws.specs.After.{with_tuple};
 ghost use Rattle.agg_store.specs.Stored.{Stored};
-ghost use Rattle.key_windows.specs.Calls.{IsAccepted, kept_at};
+ghost use Rattle.key_windows.specs.Calls.{IsAccepted};
 ghost use Rattle.key_parts.specs.Calls.{MayCome, Prepares, StandsForSome};
 ghost use Rattle.key_parts.specs.Work.{AddsAtMost, Spends};
 ghost use Rattle.key_slicer.specs.Parts.{AllAhead, AllStandAt, AllTakeTuple, AreStanding, EachPart, all_credit, rooms, turns};
@@ -16,7 +16,7 @@ use agg_laws::{AggTree, Steps};
 use aggregates::Partial;
 use key_parts::KeyPart;
 use slice_store::SliceStore;
-use stream_base::{Change, Defs, KeyText, NoMemory};
+use stream_base::{Change, Defs, Kept, KeyText, NoMemory};
 
 impl<M: Partial, P: KeyPart<M>> Parts<M, P> {
     // Makes room for a tuple at a time in each part, and answers for how many changes.
@@ -79,52 +79,45 @@ impl<M: Partial, P: KeyPart<M>> Parts<M, P> {
         defs: &Defs,
         store: &SliceStore<M, T>,
         key: &KeyText,
-        pos: u64,
-        time: u64,
-        value: i64,
+        x: Kept,
         water: u64,
         out: &mut Vec<Change>,
         steps: &mut Steps<L>,
     )
         requires takes { (m : Moment) × (n : ℕ) × (before : Stored) × (more : ℕ)
-            × AllTakeTuple P.stands defs.now P.is_asked water (kept_at pos time value)
-            store.now self.old.list.items m n before more }
+            × AllTakeTuple P.stands defs.now P.is_asked water x store.now
+            self.old.list.items m n before more }
         requires ready { EachPart
-            (λ i part. P.is_ready defs.now i time water part) self.old.list.items }
-        requires spare { rooms (λ i part. P.put_room defs.now i time water part)
+            (λ i part. P.is_ready defs.now i x.time water part) self.old.list.items }
+        requires spare { rooms (λ i part. P.put_room defs.now i x.time water part)
             self.old.list.items ≤ room out.old }
         ensures stands { (m : Moment) (n : ℕ) (before : Stored) (more : ℕ)
-            → AllTakeTuple P.stands defs.now P.is_asked water (kept_at pos time value) store.now
+            → AllTakeTuple P.stands defs.now P.is_asked water x store.now
             self.old.list.items m n before more
-            → AreStanding P.stands defs.now (with_tuple m (kept_at pos time value)) more store.now
-            self.new.list.items }
+            → AreStanding P.stands defs.now (with_tuple m x) more store.now self.new.list.items }
         ensures changes { (m : Moment) (n : ℕ) (before : Stored) (more : ℕ)
-            → AllTakeTuple P.stands defs.now P.is_asked water (kept_at pos time value) store.now
+            → AllTakeTuple P.stands defs.now P.is_asked water x store.now
             self.old.list.items m n before more → out.new.items ≡ out.old.items
-            ++ flat_map (turns key.now m (with_tuple m (kept_at pos time value)))
-            (enumerate_from 0 (defs.now).windows) }
+            ++ flat_map (turns key.now m (with_tuple m x)) (enumerate_from 0 (defs.now).windows) }
         ensures adds { AddsAtMost
-            (rooms (λ i part. P.put_room defs.now i time water part) self.old.list.items)
+            (rooms (λ i part. P.put_room defs.now i x.time water part) self.old.list.items)
             out.old out.new }
         ensures owed { rooms (λ i part. P.owed part) self.old.list.items
             ≤ vec_len out.new - vec_len out.old }
         ensures work { (m : Moment) (n : ℕ) (before : Stored) (more : ℕ)
-            → AllTakeTuple P.stands defs.now P.is_asked water (kept_at pos time value) store.now
+            → AllTakeTuple P.stands defs.now P.is_asked water x store.now
             self.old.list.items m n before more → steps.new ≤ steps.old
-            + turns_work defs.now key.now m (with_tuple m (kept_at pos time value))
-            store.now.reach }
+            + turns_work defs.now key.now m (with_tuple m x) store.now.reach }
         ensures credit { all_credit P.credit self.new.list.items
             ≤ all_credit P.credit self.old.list.items }
         ensures ahead { (m : Moment) (n : ℕ) (before : Stored) (more : ℕ)
-            → AllTakeTuple P.stands defs.now P.is_asked water (kept_at pos time value) store.now
-            self.old.list.items m n before more → water ≤ time
+            → AllTakeTuple P.stands defs.now P.is_asked water x store.now
+            self.old.list.items m n before more → water ≤ x.time
             → AllAhead P.is_ahead defs.now water before self.old.list.items
             → AllAhead P.is_ahead defs.now water store.now self.new.list.items }
     {
         for window in 0..window_count(defs) {
-            self.list[window as usize].put(
-                defs, window, store, key, pos, time, value, water, out, steps,
-            );
+            self.list[window as usize].put(defs, window, store, key, x, water, out, steps);
         }
     }
 }

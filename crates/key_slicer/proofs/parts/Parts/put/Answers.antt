@@ -1,7 +1,6 @@
 -- One part more took the tuple in.
 use Rattle.std.proofs.Common.{◌≡◌, ◌∙◌, ◌+◌, ◌-◌, ◌<◌, ◌≤◌, ◌++◌, ℕ, vec_len, ap, arith, drop, get_or, length, subst, sym, to_z, of_z, w64}
 use Rattle.std.specs.List.{enumerate_from, flat_map}
-use Rattle.std.proofs.lemmas.Int.{to_z-of_z}
 use Rattle.std.proofs.lemmas.List.{drop_all}
 use Rattle.stream_base.specs.declared.kind.Kind.TheVariants.{Marks}
 use Rattle.stream_base.specs.declared.func.Func.TheVariants.{Count}
@@ -23,18 +22,18 @@ loop-window-preserved g c =
     let i = c.loop-window.window in
     let now = c.loop-window.self.list.items in
     let start = c.args.self.now.list.items in
-    let x = kept_at c.args.pos c.args.time (to_z w64 (of_z w64 c.args.value)) in
+    let x = c.args.x in
     let asked = g.P.KeyPart.is_asked in
     let step = IsPutIn g.P.KeyPart.stands d asked g.P.KeyPart.is_ahead c.args.water x c.args.store.now in
     let within : i < length start = omega arith in
     let here : i < length now = omega (arith, c.loop-window.invariant.stepped.as_many) in
     let untouched = is_untouched step i start now c.index_mut.result.now within c.loop-window.invariant.stepped c.index_mut.ensures.value in
-    let room = λ (j : ℕ) (part : g.row.P.Denot). g.P.KeyPart.put_room d j c.args.time c.args.water part in
+    let room = λ (j : ℕ) (part : g.row.P.Denot). g.P.KeyPart.put_room d j c.args.x.time c.args.water part in
     let first : rooms_from room i (drop i start) ≡ room i (get_or start i c.index_mut.result.now) + rooms_from room (i + 1) (drop (i + 1) start) = room_first room i start c.index_mut.result.now within in
     let same : room i c.index_mut.result.now ≡ room i (get_or start i c.index_mut.result.now) = ap (room i) (untouched c.index_mut.result.now) in
     let r = c.requires.takes in
     let come : AllTakeTuple g.P.KeyPart.stands d asked c.args.water x c.args.store.now start r.0 r.1 r.2 r.3 =
-    subst (λ v. AllTakeTuple g.P.KeyPart.stands d asked c.args.water (kept_at c.args.pos c.args.time v) c.args.store.now start r.0 r.1 r.2 r.3) (sym (to_z-of_z w64 c.args.value c.ranges.value)) r.4 in
+    r.4 in
     let owed = λ (j : ℕ) (part : g.row.P.Denot). g.P.KeyPart.owed part in
     let asked_first : rooms_from owed i (drop i start) ≡ owed i (get_or start i c.index_mut.result.now) + rooms_from owed (i + 1) (drop (i + 1) start) = room_first owed i start c.index_mut.result.now within in
     let asked_same : owed i c.index_mut.result.now ≡ owed i (get_or start i c.index_mut.result.now) = ap (owed i) (untouched c.index_mut.result.now) in
@@ -65,11 +64,7 @@ pub returns-clause-changes : goal.returns-clause-changes
 returns-clause-changes g c =
     let d = c.args.defs.now in
     let start = c.args.self.now.list.items in
-    subst
-    (λ v. (m : Moment) (n : ℕ) (before : Stored) (more : ℕ) → AllTakeTuple g.P.KeyPart.stands d g.P.KeyPart.is_asked c.args.water (kept_at c.args.pos c.args.time v) c.args.store.now start m n before more
-    → c.loop-window.out.items ≡ c.args.out.now.items ++ flat_map (turns c.args.key.now m (with_tuple m (kept_at c.args.pos c.args.time v))) (enumerate_from 0 d.windows))
-    (to_z-of_z w64 c.args.value c.ranges.value)
-    (λ m n before more all. appended_all (turns c.args.key.now m (with_tuple m (kept_at c.args.pos c.args.time (to_z w64 (of_z w64 c.args.value))))) d.windows c.loop-window.window c.args.out.now.items c.loop-window.out.items (omega arith)
+    (λ m n before more all. appended_all (turns c.args.key.now m (with_tuple m c.args.x)) d.windows c.loop-window.window c.args.out.now.items c.loop-window.out.items (omega arith)
     (c.loop-window.invariant.changes m n before more all))
 
 pub returns-clause-owed : goal.returns-clause-owed
@@ -83,21 +78,13 @@ returns-clause-work g c =
     let d = c.args.defs.now in
     let start = c.args.self.now.list.items in
     let reach = c.args.store.now.reach in
-    subst
-    (λ v. (m : Moment) (n : ℕ) (before : Stored) (more : ℕ) → AllTakeTuple g.P.KeyPart.stands d g.P.KeyPart.is_asked c.args.water (kept_at c.args.pos c.args.time v) c.args.store.now start m n before more
-    → c.loop-window.steps ≤ c.args.steps.now + turns_work d c.args.key.now m (with_tuple m (kept_at c.args.pos c.args.time v)) reach)
-    (to_z-of_z w64 c.args.value c.ranges.value)
-    (λ m n before more all. omega (arith, c.loop-window.invariant.work m n before more all, summed_all (turn_work c.args.key.now m (with_tuple m (kept_at c.args.pos c.args.time (to_z w64 (of_z w64 c.args.value)))) reach) d.windows c.loop-window.window (omega arith)))
+    (λ m n before more all. omega (arith, c.loop-window.invariant.work m n before more all, summed_all (turn_work c.args.key.now m (with_tuple m c.args.x) reach) d.windows c.loop-window.window (omega arith)))
 
 pub returns-clause-ahead : goal.returns-clause-ahead
 returns-clause-ahead g c =
     let d = c.args.defs.now in
     let start = c.args.self.now.list.items in
     let now = c.loop-window.self.list.items in
-    let x = kept_at c.args.pos c.args.time (to_z w64 (of_z w64 c.args.value)) in
-    subst
-    (λ v. (m : Moment) (n : ℕ) (before : Stored) (more : ℕ) → AllTakeTuple g.P.KeyPart.stands d g.P.KeyPart.is_asked c.args.water (kept_at c.args.pos c.args.time v) c.args.store.now start m n before more → c.args.water ≤ c.args.time
-    → EachPart (λ i part. g.P.KeyPart.is_ahead d i c.args.water before part) start → EachPart (λ i part. g.P.KeyPart.is_ahead d i c.args.water c.args.store.now part) now)
-    (to_z-of_z w64 c.args.value c.ranges.value)
+    let x = c.args.x in
     (λ m n before more all le each. each_done (λ j part. g.P.KeyPart.is_ahead d j c.args.water c.args.store.now part) (IsPutIn g.P.KeyPart.stands d g.P.KeyPart.is_asked g.P.KeyPart.is_ahead c.args.water x c.args.store.now) c.loop-window.window start now (omega (arith, all.stood.as_many)) c.loop-window.invariant.stepped
     (λ j y l h. h.ahead m n before more (record { water_is = all.water_is; is_water = all.is_water; step = all.step; stood = all.stood.each j y l; asked = all.asked j y l }) le (each j y l)))
