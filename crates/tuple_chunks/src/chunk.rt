@@ -39,7 +39,8 @@ impl<M: Partial> Model for Chunk<M> {
       spare = vec_capacity c.tuples - vec_len c.tuples;
     } };
 
-    ghost invariant = { λ c. TimesDoNotFall c.tuples.items × IsKeptSum M.of_values c.sum c.tuples.items };
+    ghost invariant = { λ c. TimesDoNotFall c.tuples.items
+        × IsKeptSum M.of_values c.sum c.tuples.items };
 }
 
 impl<M: Partial> Chunk<M> {
