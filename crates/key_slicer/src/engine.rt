@@ -18,7 +18,7 @@ use std::alloc::Global;
 use stream_base::{Change, Defs, Kept, KeyText, NoMemory};
 
 impl<T: AggTree<Bundle> + Drop, P: AnyPart<Bundle>> AnyKey for KeyState<Bundle, T, P> {
-    ghost serves_all = { λ d. all_of (λ w. Unit {0}) (λ w. tt) d.windows };
+    ghost serves_all = { λ d k w l. tt };
 }
 
 impl<M: Partial, T: AggTree<M> + Drop, P: AnyPart<M>> KeyWindows for KeyState<M, T, P> {
@@ -97,8 +97,7 @@ impl<M: Partial, T: AggTree<M> + Drop, P: AnyPart<M>> KeyWindows for KeyState<M,
             let entered = put_in(&mut self.store, defs, x, steps);
             return entered;
         }
-        self.parts
-            .before(defs, &self.store, x.time, water, steps);
+        self.parts.before(defs, &self.store, x.time, water, steps);
         let joined = put_in(&mut self.store, defs, x, steps);
         self.parts.put(
             defs,

@@ -96,12 +96,7 @@ impl<M: Partial, P: KeyPart<M>> Parts<M, P> {
 
     // The first watermark at which something becomes complete in a window. Later than the final one
     // where nothing is left to become so.
-    pub fn next_due<T: AggTree<M>>(
-        &self,
-        defs: &Defs,
-        store: &SliceStore<M, T>,
-        water: u64,
-    ) -> u64
+    pub fn next_due<T: AggTree<M>>(&self, defs: &Defs, store: &SliceStore<M, T>, water: u64) -> u64
         requires { StandsForSome (AllStandAt P.stands defs.now) water store.now
             self.now.list.items }
         ensures none_before { (key : List ℕ) (m : Moment) (n new : ℕ)

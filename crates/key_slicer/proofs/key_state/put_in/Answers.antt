@@ -1,5 +1,5 @@
 -- The tuple enters the store, or is settled at once.
-use Rattle.std.proofs.Common.{◌≡◌, ◌∙◌, ◌+◌, true, false, subst, sym, w64}
+use Rattle.std.proofs.Common.{◌≡◌, ◌∙◌, ◌+◌, true, false, rules, subst, sym, w64}
 use Rattle.std.specs.List.{list_all}
 use Rattle.std.proofs.lemmas.Int.{to_z-of_z}
 use Rattle.stream_base.specs.Model.Journal.{put_in_order}
@@ -15,7 +15,7 @@ returns-then-not-all_count_events-clause-comes g c = λ n.
     let d = c.args.defs.now in
     let some : list_all (λ w. is_events w.kind) d.windows ≡ false = sym c.all_count_events.ensures ∙ c.if-not-all_count_events.true in (
       n,
-      subst (λ v. Comes d n c.args.store.now (kept_at c.args.x.position c.args.x.time v) n c.put.new.self) (to_z-of_z w64 c.args.x.value c.ranges.x.value)
+      subst (λ v. Comes d n c.args.store.now (kept_at c.args.x.position c.args.x.time v) n c.put.new.self) (to_z-of_z w64 c.args.x.value (search rules))
           (Enters some (record { put = c.put.ensures.put; tuples = c.put.ensures.tuples; sliced = c.put.ensures.sliced; marks = c.put.ensures.marks; dropped = c.put.ensures.dropped })),
     )
 
@@ -27,4 +27,4 @@ returns-else-not-all_count_events-clause-comes g c = λ n.
 
 pub returns-then-not-all_count_events-clause-enters : goal.returns-then-not-all_count_events-clause-enters
 returns-then-not-all_count_events-clause-enters g c = λ joined.
-    subst (λ v. tuples_of c.put.new.self ≡ put_in_order (tuples_of c.args.store.now) (kept_at c.args.x.position c.args.x.time v)) (to_z-of_z w64 c.args.x.value c.ranges.x.value) c.put.ensures.tuples
+    subst (λ v. tuples_of c.put.new.self ≡ put_in_order (tuples_of c.args.store.now) (kept_at c.args.x.position c.args.x.time v)) (to_z-of_z w64 c.args.x.value (search rules)) c.put.ensures.tuples

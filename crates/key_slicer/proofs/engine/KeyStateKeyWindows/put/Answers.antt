@@ -1,12 +1,11 @@
 -- The store and the parts took the tuple in.
-use Rattle.std.proofs.Common.{◌≡◌, ◌∙◌, ◌≤◌, ◌+◌, ◌-◌, ◌++◌, ℕ, length, vec_len, arith, refl, rules, subst, sym, to_z, of_z, w64}
-use Rattle.std.specs.Prelude.{FitsSigned}
+use Rattle.std.proofs.Common.{◌≡◌, ◌∙◌, ◌+◌, ◌-◌, ℕ, length, vec_len, arith, refl, rules, sym}
 use Rattle.std.specs.List.{enumerate_from, flat_map}
 use Rattle.stream_base.specs.Model.Changes.{changes_between}
 use Rattle.stream_base.specs.Model.Journal.{put_in_order}
 use Rattle.window_laws.specs.After.{with_tuple}
 use Rattle.agg_store.specs.Stored.{tuples_of}
-use Rattle.key_windows.specs.Calls.{changes_by_put, kept_at, moment}
+use Rattle.key_windows.specs.Calls.{changes_by_put, moment}
 use Rattle.key_slicer.specs.Parts.{AllTakeTuple, rooms, turns}
 use Rattle.key_slicer.specs.States.{Fits}
 use Rattle.key_slicer.specs.Work.{put_work}
@@ -60,7 +59,7 @@ returns-clause-taken g c = record {
       let all : AllTakeTuple g.P.KeyPart.stands d g.P.KeyPart.is_asked c.args.water x c.put_in-joined.new.store c.before-2.new.self.list.items m f.without s.store more =
       all_take g.P.KeyPart.stands d g.P.KeyPart.is_asked m c.args.water s.next s.store s.parts.list.items c.before-2.new.self.list.items x c.put_in-joined.new.store refl c.requires.comes.ready.water_is f
       c.requires.position c.requires.few c.requires.comes.in_time.within c.requires.comes.in_time.accepted c.put_in-joined.ensures.comes c.before-2.ensures.stays c.before-2.ensures.asked in
-      (fits_put g.P.KeyPart.stands d kept marks c.args.water f.without s.store x more c.put_in-joined.new.store c.put.new.self.list.items c.requires.comes.ready.water_is fits.none_settled all.step (c.ranges.value) (c.put.ensures.stands m f.without s.store more all) c.put_in-joined.ensures.bare);
+      (fits_put g.P.KeyPart.stands d kept marks c.args.water f.without s.store x more c.put_in-joined.new.store c.put.new.self.list.items c.requires.comes.ready.water_is fits.none_settled all.step (search rules) (c.put.ensures.stands m f.without s.store more all) c.put_in-joined.ensures.bare);
 }
 
 pub returns-clause-work : goal.returns-clause-work
@@ -155,7 +154,7 @@ returns-then-needs_no_part-clause-taken g c = record {
       let f = fits.known in
       let more = (c.put_in-entered.ensures.comes f.without).0 in
       let step = put_step g.P.KeyPart.stands d m s.next s.store s.parts.list.items x more c.put_in-entered.new.store f c.requires.position c.requires.few c.requires.comes.in_time.within c.requires.comes.in_time.accepted (c.put_in-entered.ensures.comes f.without).1 in
-      (fits_put g.P.KeyPart.stands d kept marks c.args.water f.without s.store x more c.put_in-entered.new.store s.parts.list.items c.requires.comes.ready.water_is fits.none_settled step (c.ranges.value)
+      (fits_put g.P.KeyPart.stands d kept marks c.args.water f.without s.store x more c.put_in-entered.new.store s.parts.list.items c.requires.comes.ready.water_is fits.none_settled step (search rules)
       (all_untold g.P.KeyPart.stands d m f.without s.store x more c.put_in-entered.new.store s.parts.list.items (c.needs_no_part.ensures.timed c.if-needs_no_part.true) (c.needs_no_part.ensures.behind c.if-needs_no_part.true) step f.stood (g.met.P.AnyPart.stands_with_tuple d)) c.put_in-entered.ensures.bare);
 }
 

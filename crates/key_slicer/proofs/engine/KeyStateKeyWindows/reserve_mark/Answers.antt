@@ -43,16 +43,16 @@ returns-in_err-make_room g c = record {
   stays = λ kept marks w fits.
       let s = c.args.self.now in
       let t = c.make_room.new.self in
-      fits_same g.P.KeyPart.stands c.args.defs.now kept marks w s.next t.next c.reserve.new.self t.store c.reserve_mark.new.self.list.items t.parts.list.items c.make_room.ensures.next c.make_room.ensures.store (ap (λ (p : Parts g.row.P.Denot). p.list.items) c.make_room.ensures.parts)
+      fits_same g.P.KeyPart.stands c.args.defs.now kept marks w s.next t.next c.reserve.new.self t.store c.reserve_mark.new.self.list.items t.parts.list.items c.make_room.ensures.next c.make_room.ensures.store (ap (λ (p : Parts g.row.M.Denot g.row.P.Denot). p.list.items) c.make_room.ensures.parts)
       (fits_reserved g.P.KeyPart.stands c.args.defs.now (g.met.P.KeyPart.stands_with_room c.args.defs.now) kept marks w s.next s.store c.reserve.new.self s.parts.list.items c.reserve_mark.new.self.list.items c.reserve_mark.ensures.stays c.reserve.ensures.kept fits);
   ready = search rules;
   promised = search rules;
-  credit = omega (arith, ap (λ (p : Parts g.row.P.Denot). rooms (λ i part. g.P.KeyPart.credit part) p.list.items) c.make_room.ensures.parts, c.reserve_mark.ensures.credit);
+  credit = omega (arith, ap (λ (p : Parts g.row.M.Denot g.row.P.Denot). rooms (λ i part. g.P.KeyPart.credit part) p.list.items) c.make_room.ensures.parts, c.reserve_mark.ensures.credit);
   ahead = λ w each.
       let s = c.args.self.now in
       let d = c.args.defs.now in
       let t = c.make_room.new.self in
-      ahead_same (g.P.KeyPart.is_ahead d) w c.reserve.new.self t.store c.reserve_mark.new.self.list.items t.parts.list.items c.make_room.ensures.store (ap (λ (p : Parts g.row.P.Denot). p.list.items) c.make_room.ensures.parts)
+      ahead_same (g.P.KeyPart.is_ahead d) w c.reserve.new.self t.store c.reserve_mark.new.self.list.items t.parts.list.items c.make_room.ensures.store (ap (λ (p : Parts g.row.M.Denot g.row.P.Denot). p.list.items) c.make_room.ensures.parts)
       (ahead_reserved (g.P.KeyPart.is_ahead d) (g.met.P.KeyPart.ahead_with_room d) w s.store c.reserve.new.self s.parts.list.items c.reserve_mark.new.self.list.items c.reserve_mark.ensures.ahead c.reserve.ensures.kept each);
 }
 
@@ -63,20 +63,20 @@ returns g c = record {
   stays = λ kept marks w fits.
       let s = c.args.self.now in
       let t = c.make_room.new.self in
-      fits_same g.P.KeyPart.stands c.args.defs.now kept marks w s.next t.next c.reserve.new.self t.store c.reserve_mark.new.self.list.items t.parts.list.items c.make_room.ensures.next c.make_room.ensures.store (ap (λ (p : Parts g.row.P.Denot). p.list.items) c.make_room.ensures.parts)
+      fits_same g.P.KeyPart.stands c.args.defs.now kept marks w s.next t.next c.reserve.new.self t.store c.reserve_mark.new.self.list.items t.parts.list.items c.make_room.ensures.next c.make_room.ensures.store (ap (λ (p : Parts g.row.M.Denot g.row.P.Denot). p.list.items) c.make_room.ensures.parts)
       (fits_reserved g.P.KeyPart.stands c.args.defs.now (g.met.P.KeyPart.stands_with_room c.args.defs.now) kept marks w s.next s.store c.reserve.new.self s.parts.list.items c.reserve_mark.new.self.list.items c.reserve_mark.ensures.stays c.reserve.ensures.kept fits);
   ready =
       let d = c.args.defs.now in
       let t = c.make_room.new.self in
       ready_to_take g.T.AggTree.bounded (λ i part. g.P.KeyPart.is_ready d i c.args.time c.args.water part) (λ i part. g.P.KeyPart.mark_room d i c.args.time c.args.water part) c.args.water c.reserve.new.self t.store c.reserve_mark.new.self.list.items t.parts.list.items
-      c.in_ok-room.room t.promise t.scratch.items (vec_capacity t.scratch - vec_len t.scratch) c.requires.to_come.is_water c.in_ok-room.ensures.ready c.in_ok-reserve.ensures.room c.in_ok-reserve.ensures.reach c.in_ok-room.ensures.room c.make_room.ensures.store (ap (λ (p : Parts g.row.P.Denot). p.list.items) c.make_room.ensures.parts)
+      c.in_ok-room.room t.promise t.scratch.items (vec_capacity t.scratch - vec_len t.scratch) c.requires.to_come.is_water c.in_ok-room.ensures.ready c.in_ok-reserve.ensures.room c.in_ok-reserve.ensures.reach c.in_ok-room.ensures.room c.make_room.ensures.store (ap (λ (p : Parts g.row.M.Denot g.row.P.Denot). p.list.items) c.make_room.ensures.parts)
       c.in_ok-make_room.ensures.promised c.in_ok-make_room.ensures.empty c.in_ok-make_room.ensures.fits_in;
   promised = search rules;
-  credit = omega (arith, ap (λ (p : Parts g.row.P.Denot). rooms (λ i part. g.P.KeyPart.credit part) p.list.items) c.make_room.ensures.parts, c.reserve_mark.ensures.credit);
+  credit = omega (arith, ap (λ (p : Parts g.row.M.Denot g.row.P.Denot). rooms (λ i part. g.P.KeyPart.credit part) p.list.items) c.make_room.ensures.parts, c.reserve_mark.ensures.credit);
   ahead = λ w each.
       let s = c.args.self.now in
       let d = c.args.defs.now in
       let t = c.make_room.new.self in
-      ahead_same (g.P.KeyPart.is_ahead d) w c.reserve.new.self t.store c.reserve_mark.new.self.list.items t.parts.list.items c.make_room.ensures.store (ap (λ (p : Parts g.row.P.Denot). p.list.items) c.make_room.ensures.parts)
+      ahead_same (g.P.KeyPart.is_ahead d) w c.reserve.new.self t.store c.reserve_mark.new.self.list.items t.parts.list.items c.make_room.ensures.store (ap (λ (p : Parts g.row.M.Denot g.row.P.Denot). p.list.items) c.make_room.ensures.parts)
       (ahead_reserved (g.P.KeyPart.is_ahead d) (g.met.P.KeyPart.ahead_with_room d) w s.store c.reserve.new.self s.parts.list.items c.reserve_mark.new.self.list.items c.reserve_mark.ensures.ahead c.reserve.ensures.kept each);
 }

@@ -2,7 +2,7 @@
 use Rattle.std.proofs.Common.{◌<◌, arith, length}
 use Rattle.key_slicer.specs.Parts.{rooms}
 use Rattle.key_slicer.proofs.AheadFacts.{ahead_set, credit_less}
-use Rattle.key_slicer.proofs.Loops.{each_done, is_untouched, one_stepped, standing_on}
+use Rattle.key_slicer.proofs.Loops.{each_done, one_stepped, standing_on}
 use Rattle.key_slicer.proofs.Steps.{IsLeaner}
 use Rattle.key_slicer.proofs.parts.Parts.drop_needless.Goals as goal
 

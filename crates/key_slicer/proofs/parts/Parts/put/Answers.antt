@@ -1,15 +1,11 @@
 -- One part more took the tuple in.
-use Rattle.std.proofs.Common.{◌≡◌, ◌∙◌, ◌+◌, ◌-◌, ◌<◌, ◌≤◌, ◌++◌, ℕ, vec_len, ap, arith, drop, get_or, length, subst, sym, to_z, of_z, w64}
-use Rattle.std.specs.List.{enumerate_from, flat_map}
+use Rattle.std.proofs.Common.{◌≡◌, ◌∙◌, ◌+◌, ◌-◌, ◌<◌, ◌≤◌, ℕ, vec_len, ap, arith, drop, get_or, length}
 use Rattle.std.proofs.lemmas.List.{drop_all}
 use Rattle.stream_base.specs.declared.kind.Kind.TheVariants.{Marks}
 use Rattle.stream_base.specs.declared.func.Func.TheVariants.{Count}
-use Rattle.stream_base.specs.Model.Changes.{Moment}
 use Rattle.window_laws.specs.After.{with_tuple}
-use Rattle.agg_store.specs.Stored.{Stored}
-use Rattle.key_windows.specs.Calls.{kept_at}
-use Rattle.key_slicer.specs.Parts.{AllTakeTuple, EachPart, rooms, turns}
-use Rattle.key_slicer.specs.Work.{turn_work, turns_work}
+use Rattle.key_slicer.specs.Parts.{AllTakeTuple, rooms, turns}
+use Rattle.key_slicer.specs.Work.{turn_work}
 use Rattle.key_slicer.proofs.AheadFacts.{credit_less}
 use Rattle.key_slicer.proofs.Loops.{appended_all, appended_more, each_done, grown, is_untouched, one_stepped, room_first, rooms_from, summed_all, tuple_for_one}
 use Rattle.key_slicer.proofs.Steps.{IsPutIn}
