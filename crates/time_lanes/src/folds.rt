@@ -64,17 +64,15 @@ pub fn show_together<M: Partial, S: AggStore<M>, L>(
         + length (slices_under span.now (S.stored store.now).slices complete)
         + 4 * complete.count }
 {
-    let split = complete.first * span.slide + span.length;
+    let low = complete.first * span.slide + span.length;
     let none = M::unit();
     let count = complete.count;
-    show_first(
-        func, span, store, complete, count, split, &none, shown, steps,
-    );
+    show_first(func, span, store, complete, count, low, &none, shown, steps);
 }
 
 // Shows the first so many of them, given what is folded from a time up to the end of the first one.
-// Gives what is folded from there on to the end of the last of these. The calls keep what each has
-// before that end: an array of partials would ask for a bound on their size.
+// Gives what is folded from there on to the end of the last of these. Each call keeps what its
+// interval has before that end, since an array of partials would ask for a bound on their size.
 fn show_first<M: Partial, S: AggStore<M>, L>(
     func: Func,
     span: &Span,
