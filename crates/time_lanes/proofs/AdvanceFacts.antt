@@ -1,5 +1,5 @@
 -- A lane that follows a move of the watermark.
-use Rattle.std.proofs.Common.{◌≡◌, ◌∙◌, ℕ, ◌+◌, ◌-◌, ◌*◌, ◌/◌, ◌<◌, ◌≤◌, max, true, false, cond, List, [], ◌++◌, length, map, ap, sym, subst, arith, inl, inr}
+use Rattle.std.proofs.Common.{◌≡◌, ◌∙◌, ℕ, ℤ, ◌+◌, ◌-◌, ◌*◌, ◌/◌, ◌<◌, ◌≤◌, max, true, false, cond, List, [], ◌++◌, length, map, ap, sym, subst, arith, inl, inr}
 use Rattle.std.specs.Prelude.{◌⊎◌}
 use Rattle.std.proofs.lemmas.Bool.{cases_Bool, cases_lt, le-ltb, lt-ltb}
 use Rattle.std.proofs.lemmas.Nat.{le-div}
@@ -61,17 +61,17 @@ module _ (len slide : ℕ) (span : IsSpan len slide) where
   ends_above time = to_next len slide span.moves span.overlaps time ((time + slide - len) / slide) (omega arith)
 
   -- ---- what is held where a lane begins to move
-  module _ (old : ℕ) (s : Stored) (lane : Laned) (held : Holding) (partials : held.partials ≡ fresh_partials lane) (to : held.to ≡ fresh_to lane) where
-    pub begins : (lane.stale ≡ false → lane.partials ≡ partials_of (runs_within (next_start len slide old) lane.to s.slices)) → HoldsFrom (next_start len slide old) s held
-    begins h = by (cases_Bool lane.stale)
+  module _ {M : Type 0} (old : ℕ) (s : Stored) (lane : Laned M) (held : Holding M) (partials : held.partials ≡ fresh_partials lane) (to : held.to ≡ fresh_to lane) where
+    pub begins : (of_values : List ℤ → M) → (lane.stale ≡ false → lane.partials ≡ partials_of of_values (runs_within (next_start len slide old) lane.to s.slices)) → HoldsFrom of_values (next_start len slide old) s held
+    begins of_values h = by (cases_Bool lane.stale)
       where
-        by : (lane.stale ≡ true) ⊎ (lane.stale ≡ false) → held.partials ≡ partials_of (runs_within (next_start len slide old) held.to s.slices)
+        by : (lane.stale ≡ true) ⊎ (lane.stale ≡ false) → held.partials ≡ partials_of of_values (runs_within (next_start len slide old) held.to s.slices)
         by (inl t) =
             let zero : held.to ≡ 0 = to ∙ ap (λ b. cond b 0 lane.to) t in
-            partials ∙ ap (λ b. cond b [] lane.partials) t ∙ sym (ap partials_of (none_turned (next_start len slide old) held.to s.slices (omega arith)))
+            partials ∙ ap (λ b. cond b [] lane.partials) t ∙ sym (ap (partials_of of_values) (none_turned (next_start len slide old) held.to s.slices (omega arith)))
         by (inr f) =
             let same : held.to ≡ lane.to = to ∙ ap (λ b. cond b 0 lane.to) f in
-            partials ∙ ap (λ b. cond b [] lane.partials) f ∙ h f ∙ ap (λ n. partials_of (runs_within (next_start len slide old) n s.slices)) (sym same)
+            partials ∙ ap (λ b. cond b [] lane.partials) f ∙ h f ∙ ap (λ n. partials_of of_values (runs_within (next_start len slide old) n s.slices)) (sym same)
 
     pub goes_to : lane.to ≤ last_end len slide old → held.to ≤ last_end len slide old
     goes_to h = by (cases_Bool lane.stale)
@@ -119,24 +119,24 @@ module _ (len slide : ℕ) (span : IsSpan len slide) where
 
 -- ---- a window's numbers
 -- what a lane knows, of intervals of a length and a slide
-pub record KnowsAt (len slide water : ℕ) (s : Stored) (lane : Laned) : Type 0 where
+pub record KnowsAt {M : Type 0} (of_values : List ℤ → M) (len slide water : ℕ) (s : Stored) (lane : Laned M) : Type 0 where
   pub reached : lane.to ≤ last_end len slide water
   pub edge : IsEdge len slide lane.to
-  pub held : lane.stale ≡ false → lane.partials ≡ partials_of (runs_within (next_start len slide water) lane.to s.slices)
+  pub held : lane.stale ≡ false → lane.partials ≡ partials_of of_values (runs_within (next_start len slide water) lane.to s.slices)
 
 module _ (kind : Kind) (len slide : ℕ) (l : len ≡ length_of kind) (m : slide ≡ slide_of kind) where
-  pub knows_at : (water : ℕ) (s : Stored) (lane : Laned) → Knows kind water s lane → KnowsAt len slide water s lane
-  knows_at water s lane k =
-      subst (λ n. KnowsAt n slide water s lane) (sym l)
-      (subst (λ n. KnowsAt (length_of kind) n water s lane) (sym m) record { reached = k.reached; edge = k.edge; held = k.held })
+  pub knows_at : {M : Type 0} {of_values : List ℤ → M} (water : ℕ) (s : Stored) (lane : Laned M) → Knows of_values kind water s lane → KnowsAt of_values len slide water s lane
+  knows_at {M} {of_values} water s lane k =
+      subst (λ n. KnowsAt of_values n slide water s lane) (sym l)
+      (subst (λ n. KnowsAt of_values (length_of kind) n water s lane) (sym m) record { reached = k.reached; edge = k.edge; held = k.held })
 
-  pub knows_of : (water : ℕ) (s : Stored) (lane : Laned) → KnowsAt len slide water s lane → Knows kind water s lane
-  knows_of water s lane k =
-      let n : KnowsAt (length_of kind) (slide_of kind) water s lane = subst (λ n. KnowsAt (length_of kind) n water s lane) m (subst (λ n. KnowsAt n slide water s lane) l k) in
+  pub knows_of : {M : Type 0} {of_values : List ℤ → M} (water : ℕ) (s : Stored) (lane : Laned M) → KnowsAt of_values len slide water s lane → Knows of_values kind water s lane
+  knows_of {M} {of_values} water s lane k =
+      let n : KnowsAt of_values (length_of kind) (slide_of kind) water s lane = subst (λ n. KnowsAt of_values (length_of kind) n water s lane) m (subst (λ n. KnowsAt of_values n slide water s lane) l k) in
       record { reached = n.reached; edge = n.edge; held = n.held }
 
   -- the slices that are taken up
-  pub taken_is : (start to old new : ℕ) (lane : Laned) (slices : List (List Kept)) → start ≡ next_start len slide old → to ≡ fresh_to lane
+  pub taken_is : {M : Type 0} (start to old new : ℕ) (lane : Laned M) (slices : List (List Kept)) → start ≡ next_start len slide old → to ≡ fresh_to lane
       → length (runs_within (max start to) (last_end len slide new) slices) ≡ length (runs_within (max (next_start (length_of kind) (slide_of kind) old) (fresh_to lane)) (last_end (length_of kind) (slide_of kind) new) slices)
   taken_is start to old new lane slices s t =
       (λ i. length (runs_within (max (s i) (t i)) (last_end len slide new) slices))
@@ -169,7 +169,7 @@ move_changes window key def old new gone kept marks len slide start before after
     ∙ (λ i. before ++ map (new_at window key def.func (l i) kept) (due_from (l i) (m i) kept (next_start (l i) (m i) old) new))
     ∙ ap (λ q. before ++ q) (completions_told window key def old new gone kept marks timed span apart)
 
-pub fresh_at_most : (lane : Laned) (last : ℕ) → lane.to ≤ last → fresh_to lane ≤ last
+pub fresh_at_most : {M : Type 0} (lane : Laned M) (last : ℕ) → lane.to ≤ last → fresh_to lane ≤ last
 fresh_at_most lane last h = by (cases_Bool lane.stale)
   where
     by : (lane.stale ≡ true) ⊎ (lane.stale ≡ false) → fresh_to lane ≤ last
@@ -182,7 +182,7 @@ none_missed_at kind len slide l m water slices to h =
     (λ i. runs_within to (last_end (sym l i) (sym m i) water) slices) ∙ none_turned to (last_end len slide water) slices h
 
 -- and none in the beginning
-pub missed_at : (kind : Kind) (len slide : ℕ) → len ≡ length_of kind → slide ≡ slide_of kind → (water : ℕ) (s : Stored) (lane : Laned) → KnowsAll kind water s lane → runs_within (fresh_to lane) (last_end len slide water) s.slices ≡ []
+pub missed_at : {M : Type 0} (kind : Kind) (len slide : ℕ) → len ≡ length_of kind → slide ≡ slide_of kind → (water : ℕ) (s : Stored) (lane : Laned M) → KnowsAll kind water s lane → runs_within (fresh_to lane) (last_end len slide water) s.slices ≡ []
 missed_at kind len slide l m water s lane k =
     ap (λ b. runs_within (cond b 0 lane.to) (last_end len slide water) s.slices) k.fresh
     ∙ (λ i. runs_within lane.to (last_end (l i) (m i) water) s.slices)

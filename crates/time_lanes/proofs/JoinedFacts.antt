@@ -22,7 +22,7 @@ use Rattle.slice_lists.proofs.RunFacts.{put_first, put_behind}
 use Rattle.slice_lists.specs.Slices.{values_of}
 use Rattle.time_lanes.specs.Joined.{greatest_with, is_order_free, joined_change, least_with, shown_with}
 use Rattle.time_lanes.specs.Told.{again_or_new, former_if}
-use Rattle.time_lanes.proofs.Counts.{counted}
+use Rattle.time_lanes.proofs.Counts.{counted, counts_up}
 
 -- ---- a fold whose steps may be swapped
 module _ {A : Type 0} (step : A → ℤ → A) (swap : (a : A) (v w : ℤ) → step (step a v) w ≡ step (step a w) v) where
@@ -82,15 +82,6 @@ mean_swap m v w = ap (λ z. (z, count_sum (count_sum m.1 1) 1)) (sum_swap m.0 v 
 picked : (join : ℤ → ℤ → ℤ) (a : ℤ) (values : List ℤ) → (b : ℤ) × (fold (λ (o : Option ℤ) v. either_or join o (Some v)) (Some a) values ≡ Some b)
 picked join a [] = (a, refl)
 picked join a (v ∷ values) = picked join (join a v) values
-
-small : (n : ℕ) → n < 2 ^ 64 → n % 2 ^ 64 ≡ n
-small n h = omega arith
-
-counts_up : (n : ℕ) (values : List ℤ) → n + length values < 2 ^ 64 → fold (λ n v. count_sum n 1) n values ≡ n + length values
-counts_up n [] h = omega arith
-counts_up n (v ∷ values) h =
-    let one : count_sum n 1 ≡ n + 1 = small (n + 1) (omega arith) in
-    counts_up (count_sum n 1) values (omega (arith, one)) ∙ omega (arith, one)
 
 number_of : (ks : List Kept) → length (values_of ks) ≡ length ks
 number_of ks = length-map ks (λ (x : Kept). x.value)

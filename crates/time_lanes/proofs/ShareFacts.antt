@@ -1,17 +1,17 @@
 -- Folds of neighbouring parts of the slices.
-use Rattle.std.proofs.Common.{◌≡◌, ◌∙◌, ℕ, ◌+◌, ◌-◌, ◌*◌, ◌≤◌, ◌<◌, List, ◌++◌, length, get_or, ap, sym, subst, arith, inl, inr}
+use Rattle.std.proofs.Common.{◌≡◌, ◌∙◌, ℕ, zero, suc, max, ℤ, ◌+◌, ◌-◌, ◌*◌, ◌≤◌, ◌<◌, List, ◌++◌, length, get_or, ap, sym, subst, arith, inl, inr}
 use Rattle.std.specs.Prelude.{◌⊎◌, FitsSigned, min, slice_set}
 use Rattle.std.specs.Int.{w64}
 use Rattle.std.specs.List.{All}
 use Rattle.std.proofs.lemmas.Bool.{cases_lt}
 use Rattle.std.proofs.lemmas.Grind.{get_or-set_at}
-use Rattle.std.proofs.lemmas.List.{get_or-set_other, get_or_default, map-append}
+use Rattle.std.proofs.lemmas.List.{get_or-set_other, map-append}
 use Rattle.std.proofs.lemmas.List.Concat.{flat_map-append}
 use Rattle.std.proofs.lemmas.List.Elements.{All-filter}
 use Rattle.stream_base.specs.declared.kept.Kept.{Kept}
 use Rattle.stream_base.specs.Model.Windows.{is_within, within}
-use Rattle.aggregates.specs.Bundled.{Bundled, bundle_of, bundles_combined, empty_bundle}
-use Rattle.aggregates.proofs.Bundles.{bundle_of-append}
+use Rattle.aggregates.specs.Partial.{IsPartial}
+use Rattle.aggregates.proofs.Partials.{of_values-append, of_values-none}
 use Rattle.slice_lists.specs.Runs.{IsAligned, runs_within}
 use Rattle.slice_lists.proofs.Order.{All-map_of}
 use Rattle.slice_lists.specs.Slices.{AreSlices, joined, values_of}
@@ -20,7 +20,7 @@ use Rattle.time_lanes.specs.declared.late.Complete.{Complete}
 use Rattle.time_lanes.specs.declared.span.Span.{Span}
 use Rattle.time_lanes.specs.Folds.{AreClose, IsShared, slices_under}
 use Rattle.time_lanes.proofs.Ranges.{in_two, none_turned}
-use Rattle.time_lanes.proofs.WalkFacts.{times_mono}
+use Rattle.time_lanes.proofs.WalkFacts.{one_time_more, times_mono}
 
 module _ (slices : List (List Kept)) (h : AreSlices slices) where
   fits : (low high : ℕ) → All (FitsSigned w64) (values_of (within low high (joined slices)))
@@ -34,41 +34,26 @@ module _ (slices : List (List Kept)) (h : AreSlices slices) where
       ∙ flat_map-append (λ (r : List Kept). r) (runs_within a b slices) (runs_within b c slices)
       ∙ sym (λ i. within_aligned a b slices h.ordered pa pb i ++ within_aligned b c slices h.ordered pb pc i)
 
+module _ {M : Type 0} {IsValue : M → Type 0} {empty : M} {op : M → M → M} {of_number : ℤ → M} {of_values : List ℤ → M} (p : IsPartial IsValue empty op of_number of_values) (slices : List (List Kept)) (h : AreSlices slices) where
   -- and so their folds combine to its fold
-  pub folds_joined : (a b c : ℕ) → a ≤ b → b ≤ c → IsAligned slices a → IsAligned slices b → IsAligned slices c → bundles_combined (bundle_of (values_of (within a b (joined slices)))) (bundle_of (values_of (within b c (joined slices)))) ≡ bundle_of (values_of (within a c (joined slices)))
+  pub folds_joined : (a b c : ℕ) → a ≤ b → b ≤ c → IsAligned slices a → IsAligned slices b → IsAligned slices c → op (of_values (values_of (within a b (joined slices)))) (of_values (values_of (within b c (joined slices)))) ≡ of_values (values_of (within a c (joined slices)))
   folds_joined a b c l m pa pb pc =
-      bundle_of-append (values_of (within a b (joined slices))) (values_of (within b c (joined slices))) (fits a b) (fits b c)
-      ∙ ap bundle_of (sym (map-append (λ (x : Kept). x.value) (within a b (joined slices)) (within b c (joined slices))))
-      ∙ ap (λ q. bundle_of (values_of q)) (sym (within_two a b c l m pa pb pc))
+      of_values-append p (values_of (within a b (joined slices))) (values_of (within b c (joined slices))) (fits slices h a b) (fits slices h b c)
+      ∙ ap of_values (sym (map-append (λ (x : Kept). x.value) (within a b (joined slices)) (within b c (joined slices))))
+      ∙ ap (λ q. of_values (values_of q)) (sym (within_two slices h a b c l m pa pb pc))
 
   -- from a time up to itself there is nothing
-  pub nothing_folded : (a : ℕ) → IsAligned slices a → empty_bundle ≡ bundle_of (values_of (within a a (joined slices)))
-  nothing_folded a p = ap (λ q. bundle_of (values_of q)) (sym (within_aligned a a slices h.ordered p p ∙ ap joined (none_turned a a slices (omega arith))))
+  pub nothing_folded : (a : ℕ) → IsAligned slices a → empty ≡ of_values (values_of (within a a (joined slices)))
+  nothing_folded a e = sym (of_values-none p) ∙ ap (λ q. of_values (values_of q)) (sym (within_aligned a a slices h.ordered e e ∙ ap joined (none_turned a a slices (omega arith))))
 
--- ---- folds at their places
--- one more stands in front of those that stand
-pub one_in_front : (folds : List Bundled) (at count : ℕ) (x : Bundled) (F : ℕ → Bundled) → at < length folds → x ≡ F at → ((j : ℕ) → at + 1 ≤ j → j < count → get_or folds j empty_bundle ≡ F j) → (j : ℕ) → at ≤ j → j < count → get_or (slice_set folds at x) j empty_bundle ≡ F j
-one_in_front folds at count x F w e h j l m = by (cases_lt at j)
-  where
-    by : (at < j) ⊎ (j ≤ at) → get_or (slice_set folds at x) j empty_bundle ≡ F j
-    by (inl b) = get_or-set_other folds at j x empty_bundle (λ s. absurd (omega arith)) ∙ h j (omega arith) m
-    by (inr b) = let s : j ≡ at = omega arith in get_or-set_at folds at j x empty_bundle s w ∙ e ∙ ap F (sym s)
-
+-- ---- what stands at its place
 -- one more stands behind those that stand
-pub one_behind : (folds : List Bundled) (at : ℕ) (x : Bundled) (F : ℕ → Bundled) → at < length folds → x ≡ F at → ((j : ℕ) → j < at → get_or folds j empty_bundle ≡ F j) → (j : ℕ) → j < at + 1 → get_or (slice_set folds at x) j empty_bundle ≡ F j
-one_behind folds at x F w e h j l = by (cases_lt j at)
+pub one_behind : {X : Type 0} (shown : List X) (at : ℕ) (x : X) (F : ℕ → X) → at < length shown → x ≡ F at → ((k : ℕ) → k < at → (d : X) → get_or shown k d ≡ F k) → (k : ℕ) → k < at + 1 → (d : X) → get_or (slice_set shown at x) k d ≡ F k
+one_behind shown at x F w e h k l d = by (cases_lt k at)
   where
-    by : (j < at) ⊎ (at ≤ j) → get_or (slice_set folds at x) j empty_bundle ≡ F j
-    by (inl b) = get_or-set_other folds at j x empty_bundle (λ s. absurd (omega arith)) ∙ h j b
-    by (inr b) = let s : j ≡ at = omega arith in get_or-set_at folds at j x empty_bundle s w ∙ e ∙ ap F (sym s)
-
--- and those behind it stay
-pub rest_stays : (folds : List Bundled) (at count : ℕ) (x : Bundled) (F : ℕ → Bundled) → ((j : ℕ) → at ≤ j → j < count → get_or folds j empty_bundle ≡ F j) → (j : ℕ) → at + 1 ≤ j → j < count → get_or (slice_set folds at x) j empty_bundle ≡ F j
-rest_stays folds at count x F h j l m = get_or-set_other folds at j x empty_bundle (λ s. absurd (omega arith)) ∙ h j (omega arith) m
-
--- what stands at a place is read there, whatever is read at none
-pub read_at : (folds : List Bundled) (at : ℕ) (d : Bundled) → at < length folds → get_or folds at d ≡ get_or folds at empty_bundle
-read_at folds at d w = get_or_default folds at d empty_bundle w
+    by : (k < at) ⊎ (at ≤ k) → get_or (slice_set shown at x) k d ≡ F k
+    by (inl b) = get_or-set_other shown at k x d (λ s. absurd (omega arith)) ∙ h k b d
+    by (inr b) = let s : k ≡ at = omega arith in get_or-set_at shown at k x d s w ∙ e ∙ ap F (sym s)
 
 -- ---- numbers
 -- of one interval alone the slices are its own
@@ -77,6 +62,17 @@ one_alone slices first count k slide len one below =
     let e : first + k ≡ first = omega arith in
     let f : first + k ≡ first + (count - 1) = omega arith in
     λ i. runs_within (e i * slide) (f i * slide + len) slices
+
+-- behind the end of the first interval, an interval goes on from the end of the one before it
+pub goes_on_from : (first at slide len : ℕ) → slide ≤ len → max (first * slide + len) ((first + at) * slide + len - slide) ≡ (first + (at - 1)) * slide + len
+goes_on_from first zero slide len l =
+    let e : (first + 0) * slide ≡ first * slide = ap (λ n. n * slide) (omega arith) in
+    let f : (first + (0 - 1)) * slide ≡ first * slide = ap (λ n. n * slide) (omega arith) in
+    omega (arith, e, f)
+goes_on_from first (suc at) slide len l =
+    let e : (first + suc at) * slide ≡ (first + at) * slide + slide = ap (λ n. n * slide) (omega arith) ∙ one_time_more (first + at) slide in
+    let f : (first + (suc at - 1)) * slide ≡ (first + at) * slide = ap (λ n. n * slide) (omega arith) in
+    omega (arith, e, f, times_mono first (first + at) slide (omega arith))
 
 -- a few steps for each interval are no more than a fold for each
 pub within_folds : (n count reach : ℕ) → n ≤ 32 * count → n + 4 * count ≤ 64 * (reach + 2) * count

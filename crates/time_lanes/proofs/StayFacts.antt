@@ -1,5 +1,5 @@
 -- What a lane knows of its store's slices after a call on the store.
-use Rattle.std.proofs.Common.{◌≡◌, ◌∙◌, ℕ, zero, suc, ◌+◌, ◌-◌, ◌*◌, ◌/◌, ◌<◌, ◌≤◌, Bool, true, false, cond, not, List, [], ◌∷◌, ◌++◌, length, ap, sym, refl, subst, arith, inl, inr}
+use Rattle.std.proofs.Common.{◌≡◌, ◌∙◌, ℕ, ℤ, zero, suc, ◌+◌, ◌-◌, ◌*◌, ◌/◌, ◌<◌, ◌≤◌, Bool, true, false, cond, not, List, [], ◌∷◌, ◌++◌, length, ap, sym, refl, subst, arith, inl, inr}
 use Rattle.std.specs.Prelude.{◌⊎◌, ◌&&◌, ◌||◌, nat_le, nat_lt}
 use Rattle.std.specs.List.{All, Contains, filter, flat_map}
 use Rattle.std.proofs.lemmas.Bool.{and_right, cases_Bool, cases_lt, false≢true, le-leb, le-ltb, leb-true, lt-leb, ltb-false, lt-ltb, ltb-true, and_parts}
@@ -155,11 +155,11 @@ module _ (windows : List Def) (window : ℕ) (def : Def) (old : Stored) (kinds :
           ∙ sym (filter-append (begins_in low edge) (run ∷ []) runs)
 
 -- ---- what a lane knows
-pub knows_stays : (kind : Kind) (water time : ℕ) (old new : Stored) (lane : Laned) → IsSameUpTo kind time old new → lane.to ≤ time → Knows kind water old lane → Knows kind water new lane
-knows_stays kind water time old new lane same l k = record {
+pub knows_stays : {M : Type 0} {of_values : List ℤ → M} (kind : Kind) (water time : ℕ) (old new : Stored) (lane : Laned M) → IsSameUpTo kind time old new → lane.to ≤ time → Knows of_values kind water old lane → Knows of_values kind water new lane
+knows_stays {M} {of_values} kind water time old new lane same l k = record {
   reached = k.reached;
   edge = k.edge;
-  held = λ f. k.held f ∙ ap partials_of (sym (same (next_start_of kind water) lane.to k.edge l));
+  held = λ f. k.held f ∙ ap (partials_of of_values) (sym (same (next_start_of kind water) lane.to k.edge l));
 }
 
 last_edge : (len slide time : ℕ) → IsEdge len slide (last_end len slide time)
@@ -169,7 +169,7 @@ last_edge len slide time = by (cases_lt time len)
     by (inl l) = inl (ap (λ b. cond b 0 ((time - len) / slide * slide + len)) (lt-ltb time len l))
     by (inr l) = inr ((time - len) / slide, ap (λ b. cond b 0 ((time - len) / slide * slide + len)) (le-ltb time len l))
 
-pub knows_all_stays : (kind : Kind) (water time : ℕ) (old new : Stored) (lane : Laned) → IsSameUpTo kind time old new → last_end_of kind water ≤ time → KnowsAll kind water old lane → KnowsAll kind water new lane
+pub knows_all_stays : {M : Type 0} (kind : Kind) (water time : ℕ) (old new : Stored) (lane : Laned M) → IsSameUpTo kind time old new → last_end_of kind water ≤ time → KnowsAll kind water old lane → KnowsAll kind water new lane
 knows_all_stays kind water time old new lane same l k = record {
   fresh = k.fresh;
   none_missed = same lane.to (last_end_of kind water) (last_edge (length_of kind) (slide_of kind) water) l ∙ k.none_missed;
@@ -187,16 +187,16 @@ neither : (a b : Bool) → (a || b) ≡ false → (a ≡ false) × (b ≡ false)
 neither true b e = absurd (false≢true (sym e))
 neither false b e = (refl, e)
 
-pub knows_touched : (kind : Kind) (water time : ℕ) (old new : Stored) (lane after : Laned) → IsSameUpTo kind time old new → after.stale ≡ (lane.stale || nat_lt time lane.to) → after.partials ≡ lane.partials → after.to ≡ lane.to → Knows kind water old lane → Knows kind water new after
-knows_touched kind water time old new lane after same s p t k = record {
+pub knows_touched : {M : Type 0} {of_values : List ℤ → M} (kind : Kind) (water time : ℕ) (old new : Stored) (lane after : Laned M) → IsSameUpTo kind time old new → after.stale ≡ (lane.stale || nat_lt time lane.to) → after.partials ≡ lane.partials → after.to ≡ lane.to → Knows of_values kind water old lane → Knows of_values kind water new after
+knows_touched {M} {of_values} kind water time old new lane after same s p t k = record {
   reached = subst (λ n. n ≤ last_end_of kind water) (sym t) k.reached;
   edge = subst (IsEdge (length_of kind) (slide_of kind)) (sym t) k.edge;
   held = λ f.
       let n = neither lane.stale (nat_lt time lane.to) (sym s ∙ f) in
-      p ∙ k.held n.0 ∙ ap partials_of (sym (same (next_start_of kind water) lane.to k.edge (ltb-false time lane.to n.1)) ∙ ap (λ n. runs_within (next_start_of kind water) n new.slices) (sym t));
+      p ∙ k.held n.0 ∙ ap (partials_of of_values) (sym (same (next_start_of kind water) lane.to k.edge (ltb-false time lane.to n.1)) ∙ ap (λ n. runs_within (next_start_of kind water) n new.slices) (sym t));
 }
 
-pub knows_all_touched : (kind : Kind) (water time : ℕ) (old new : Stored) (lane after : Laned) → IsSameUpTo kind time old new → last_end_of kind water ≤ time → after.stale ≡ (lane.stale || nat_lt time lane.to) → after.to ≡ lane.to → Knows kind water old lane → KnowsAll kind water old lane → KnowsAll kind water new after
+pub knows_all_touched : {M : Type 0} {of_values : List ℤ → M} (kind : Kind) (water time : ℕ) (old new : Stored) (lane after : Laned M) → IsSameUpTo kind time old new → last_end_of kind water ≤ time → after.stale ≡ (lane.stale || nat_lt time lane.to) → after.to ≡ lane.to → Knows of_values kind water old lane → KnowsAll kind water old lane → KnowsAll kind water new after
 knows_all_touched kind water time old new lane after same l s t k a =
     let n = knows_all_stays kind water time old new lane same l a in
     let r = k.reached in
@@ -223,28 +223,28 @@ none_left low high time (run ∷ runs) e = by (none_left low high time runs) (ca
     by h (inr f) (inr g) = ap (λ b. runs_within low high (cond b (run ∷ slices_from time runs) (slices_from time runs))) g ∙ h (sym (skipped low high run runs f) ∙ e)
     by h (inr f) (inl g) = ap (λ b. runs_within low high (cond b (run ∷ slices_from time runs) (slices_from time runs))) g ∙ skipped low high run (slices_from time runs) f ∙ h (sym (skipped low high run runs f) ∙ e)
 
-pub knows_purged : (kind : Kind) (water time : ℕ) (old new : Stored) (lane : Laned) → new.slices ≡ slices_from time old.slices → time ≤ next_start_of kind water → Knows kind water old lane → Knows kind water new lane
-knows_purged kind water time old new lane is l k = record {
+pub knows_purged : {M : Type 0} {of_values : List ℤ → M} (kind : Kind) (water time : ℕ) (old new : Stored) (lane : Laned M) → new.slices ≡ slices_from time old.slices → time ≤ next_start_of kind water → Knows of_values kind water old lane → Knows of_values kind water new lane
+knows_purged {M} {of_values} kind water time old new lane is l k = record {
   reached = k.reached;
   edge = k.edge;
-  held = λ f. k.held f ∙ ap partials_of (sym (ap (runs_within (next_start_of kind water) lane.to) is ∙ purge_stays (next_start_of kind water) lane.to time old.slices l));
+  held = λ f. k.held f ∙ ap (partials_of of_values) (sym (ap (runs_within (next_start_of kind water) lane.to) is ∙ purge_stays (next_start_of kind water) lane.to time old.slices l));
 }
 
-pub knows_all_purged : (kind : Kind) (water time : ℕ) (old new : Stored) (lane : Laned) → new.slices ≡ slices_from time old.slices → KnowsAll kind water old lane → KnowsAll kind water new lane
+pub knows_all_purged : {M : Type 0} (kind : Kind) (water time : ℕ) (old new : Stored) (lane : Laned M) → new.slices ≡ slices_from time old.slices → KnowsAll kind water old lane → KnowsAll kind water new lane
 knows_all_purged kind water time old new lane is k = record {
   fresh = k.fresh;
   none_missed = ap (runs_within lane.to (last_end_of kind water)) is ∙ none_left lane.to (last_end_of kind water) time old.slices k.none_missed;
 }
 
 -- ---- room
-pub knows_with_room : (kind : Kind) (water : ℕ) (s : Stored) (old new : Laned) → IsAsBefore old new → Knows kind water s old → Knows kind water s new
-knows_with_room kind water s old new b k = record {
+pub knows_with_room : {M : Type 0} {of_values : List ℤ → M} (kind : Kind) (water : ℕ) (s : Stored) (old new : Laned M) → IsAsBefore old new → Knows of_values kind water s old → Knows of_values kind water s new
+knows_with_room {M} {of_values} kind water s old new b k = record {
   reached = subst (λ n. n ≤ last_end_of kind water) (sym b.to) k.reached;
   edge = subst (IsEdge (length_of kind) (slide_of kind)) (sym b.to) k.edge;
-  held = λ f. b.partials ∙ k.held (sym b.stale ∙ f) ∙ ap (λ n. partials_of (runs_within (next_start_of kind water) n s.slices)) (sym b.to);
+  held = λ f. b.partials ∙ k.held (sym b.stale ∙ f) ∙ ap (λ n. partials_of of_values (runs_within (next_start_of kind water) n s.slices)) (sym b.to);
 }
 
-pub knows_all_with_room : (kind : Kind) (water : ℕ) (s : Stored) (old new : Laned) → IsAsBefore old new → KnowsAll kind water s old → KnowsAll kind water s new
+pub knows_all_with_room : {M : Type 0} (kind : Kind) (water : ℕ) (s : Stored) (old new : Laned M) → IsAsBefore old new → KnowsAll kind water s old → KnowsAll kind water s new
 knows_all_with_room kind water s old new b k = record {
   fresh = b.stale ∙ k.fresh;
   none_missed = ap (λ n. runs_within n (last_end_of kind water) s.slices) b.to ∙ k.none_missed;

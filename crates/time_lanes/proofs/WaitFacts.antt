@@ -1,5 +1,5 @@
 -- A lane where the watermark moves and nothing becomes complete.
-use Rattle.std.proofs.Common.{◌≡◌, ◌∙◌, ℕ, ◌+◌, ◌-◌, ◌*◌, ◌/◌, ◌<◌, ◌≤◌, true, false, List, [], ◌∷◌, length, drop, map, Option, Some, None, ap, sym, refl, subst, arith, inl, inr}
+use Rattle.std.proofs.Common.{◌≡◌, ◌∙◌, ℕ, ℤ, ◌+◌, ◌-◌, ◌*◌, ◌/◌, ◌<◌, ◌≤◌, true, false, List, [], ◌∷◌, length, drop, map, Option, Some, None, ap, sym, refl, subst, arith, inl, inr}
 use Rattle.std.specs.Prelude.{slice_get, ◌⊎◌, ◌&&◌, nat_le, nat_lt}
 use Rattle.std.specs.List.{All, Contains, slice_index_or}
 use Rattle.std.specs.Option.{option_map_or}
@@ -45,7 +45,7 @@ firsts P ((x ∷ xs) ∷ runs) o h =
 none_mapped : {X Y : Type 0} (f : X → Y) (xs : List X) → map f xs ≡ [] → xs ≡ []
 none_mapped f xs e = nil_from_length xs (sym (length-map xs f) ∙ ap length e)
 
-module _ (window : ℕ) (def : Def) (key : List ℕ) (m : Moment) (new : ℕ) (s : Stored) (lane : Laned) (timed : is_timed def.kind ≡ true) (within : IsKindWithin def.kind) (o : IsStore s) (some : All (Contains m.kept) (tuples_of s)) (rises : m.water ≤ new) (none : completions key m new (window, def) ≡ []) (knows : Knows def.kind m.water s lane) where
+module _ {M : Type 0} {of_values : List ℤ → M} (window : ℕ) (def : Def) (key : List ℕ) (m : Moment) (new : ℕ) (s : Stored) (lane : Laned M) (timed : is_timed def.kind ≡ true) (within : IsKindWithin def.kind) (o : IsStore s) (some : All (Contains m.kept) (tuples_of s)) (rises : m.water ≤ new) (none : completions key m new (window, def) ≡ []) (knows : Knows of_values def.kind m.water s lane) where
   span : IsSpan (length_of def.kind) (slide_of def.kind)
   span = span_of_kind def.kind timed within
 
@@ -91,11 +91,11 @@ module _ (window : ℕ) (def : Def) (key : List ℕ) (m : Moment) (new : ℕ) (s
           ap (λ n. runs_within n lane.to s.slices) (omega (arith, same, rises_too))
       by (inr l) = none_from l (next_start_of def.kind m.water) (omega arith) ∙ sym (none_from l (next_start_of def.kind new) rises_too)
 
-  pub knows_on : Knows def.kind new s lane
+  pub knows_on : Knows of_values def.kind new s lane
   knows_on = record {
     reached = omega (arith, knows.reached, last_rises (length_of def.kind) (slide_of def.kind) span m.water new rises);
     edge = knows.edge;
-    held = λ fresh. knows.held fresh ∙ ap partials_of rest;
+    held = λ fresh. knows.held fresh ∙ ap (partials_of of_values) rest;
   }
 
 -- ---- the window at a place
@@ -107,8 +107,8 @@ at_place windows window other t = by (slice_get windows window) refl t
     by (Some def) e t = e ∙ ap Some (sym (get_or_from_slice_get windows window def other e))
 
 -- the same of a store that lacks some first tuples of a key
-pub serves_on : (windows : List Def) (window : ℕ) (other : Def) (key : List ℕ) (m : Moment) (n new : ℕ) (s : Stored) (lane : Laned) → is_served windows window ≡ true → All (λ w. IsKindWithin w.kind) windows → IsStore s → tuples_of s ≡ drop n m.kept → m.water ≤ new
-    → completions key m new (window, slice_index_or windows window other) ≡ [] → Knows (slice_index_or windows window other).kind m.water s lane → Knows (slice_index_or windows window other).kind new s lane
+pub serves_on : {M : Type 0} {of_values : List ℤ → M} (windows : List Def) (window : ℕ) (other : Def) (key : List ℕ) (m : Moment) (n new : ℕ) (s : Stored) (lane : Laned M) → is_served windows window ≡ true → All (λ w. IsKindWithin w.kind) windows → IsStore s → tuples_of s ≡ drop n m.kept → m.water ≤ new
+    → completions key m new (window, slice_index_or windows window other) ≡ [] → Knows of_values (slice_index_or windows window other).kind m.water s lane → Knows of_values (slice_index_or windows window other).kind new s lane
 serves_on windows window other key m n new s lane served kinds o held rises none knows =
     let def = slice_index_or windows window other in
     let is = at_place windows window other served in

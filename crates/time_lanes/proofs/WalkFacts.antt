@@ -1,11 +1,11 @@
 -- The walk of a lane.
-use Rattle.std.proofs.Common.{◌≡◌, ◌∙◌, ℕ, ◌+◌, ◌-◌, ◌*◌, ◌/◌, ◌<◌, ◌≤◌, max, cond, List, [], ◌∷◌, ◌++◌, length, map, ap, sym, refl, subst, arith, inl, inr, append_assoc}
+use Rattle.std.proofs.Common.{◌≡◌, ◌∙◌, ℕ, ℤ, ◌+◌, ◌-◌, ◌*◌, ◌/◌, ◌<◌, ◌≤◌, max, cond, List, [], ◌∷◌, ◌++◌, length, map, ap, sym, refl, subst, arith, inl, inr, append_assoc}
 use Rattle.std.specs.Prelude.{◌⊎◌}
 use Rattle.std.proofs.lemmas.Bool.{cases_lt, le-ltb}
 use Rattle.std.proofs.lemmas.Nat.{le-div}
 use Rattle.stream_base.specs.declared.kept.Kept.{Kept}
 use Rattle.stream_base.specs.Model.Windows.{within}
-use Rattle.aggregates.specs.Bundled.{Bundled, bundle_of, bundles_combined, empty_bundle}
+use Rattle.aggregates.specs.Partial.{IsPartial}
 use Rattle.agg_laws.specs.Laws.{total}
 use Rattle.slice_lists.specs.Runs.{AreInOrder, IsAligned, runs_within}
 use Rattle.window_laws.specs.Walk.{next_start}
@@ -65,8 +65,8 @@ none_of_none [] ys e = refl
 none_of_none (x ∷ xs) ys e = absurd (let n : length (x ∷ xs ++ ys) ≡ 0 = ap length e in omega arith)
 
 -- what is held from a start on is held from a later one, where no slice begins between
-pub held_onward : (start low to : ℕ) (slices : List (List Kept)) (partials : List Bundled) → AreInOrder slices → start ≤ low → runs_within start low slices ≡ [] → partials ≡ partials_of (runs_within start to slices) → partials ≡ partials_of (runs_within low to slices)
-held_onward start low to slices partials o l none h = h ∙ ap partials_of (by (cases_lt to low))
+pub held_onward : {M : Type 0} (of_values : List ℤ → M) (start low to : ℕ) (slices : List (List Kept)) (partials : List M) → AreInOrder slices → start ≤ low → runs_within start low slices ≡ [] → partials ≡ partials_of of_values (runs_within start to slices) → partials ≡ partials_of of_values (runs_within low to slices)
+held_onward of_values start low to slices partials o l none h = h ∙ ap (partials_of of_values) (by (cases_lt to low))
   where
     by : (to < low) ⊎ (low ≤ to) → runs_within start to slices ≡ runs_within low to slices
     by (inr m) = in_two start low to slices l m o ∙ ap (λ q. q ++ runs_within low to slices) none
@@ -77,11 +77,11 @@ held_onward start low to slices partials o l none h = h ∙ ap partials_of (by (
         by_start (inr k) = none_of_none (runs_within start to slices) (runs_within to low slices) (sym (in_two start to low slices k (omega arith) o) ∙ none) ∙ sym (none_turned low to slices (omega arith))
 
 -- what an interval shows whose slices are held
-pub shown_of_held : (span slide low k to : ℕ) (slices : List (List Kept)) (partials : List Bundled) (bundle : Bundled) → AreSlices slices → ArePartedAt span slide slices → low ≡ k * slide → to ≡ low + span → partials ≡ partials_of (runs_within low to slices) → bundle ≡ total empty_bundle bundles_combined partials → bundle ≡ bundle_of (values_of (within low (low + span) (joined slices)))
-shown_of_held span slide low k to slices partials bundle o parted e t h b =
+pub shown_of_held : {M : Type 0} {IsValue : M → Type 0} {empty : M} {op : M → M → M} {of_number : ℤ → M} {of_values : List ℤ → M} → IsPartial IsValue empty op of_number of_values → (span slide low k to : ℕ) (slices : List (List Kept)) (partials : List M) (partial : M) → AreSlices slices → ArePartedAt span slide slices → low ≡ k * slide → to ≡ low + span → partials ≡ partials_of of_values (runs_within low to slices) → partial ≡ total empty op partials → partial ≡ of_values (values_of (within low (low + span) (joined slices)))
+shown_of_held {M} {IsValue} {empty} {op} {of_number} {of_values} p span slide low k to slices partials partial o parted e t h b =
     b
-    ∙ ap (total empty_bundle bundles_combined) (h ∙ ap (λ n. partials_of (runs_within low n slices)) t)
-    ∙ fold_of_held low (low + span) slices o (subst (IsAligned slices) (sym e) (parted.starts (times_of_order slices o.ordered) k)) (subst (λ n. IsAligned slices (n + span)) (sym e) (parted.ends (times_of_order slices o.ordered) k))
+    ∙ ap (total empty op) (h ∙ ap (λ n. partials_of of_values (runs_within low n slices)) t)
+    ∙ fold_of_held p low (low + span) slices o (subst (IsAligned slices) (sym e) (parted.starts (times_of_order slices o.ordered) k)) (subst (λ n. IsAligned slices (n + span)) (sym e) (parted.ends (times_of_order slices o.ordered) k))
 
 -- told one after another
 pub told_on : {X : Type 0} (f : ℕ → X) (before after : List X) (low : ℕ) (left rest all : List ℕ) (old : List X) → before ++ map f left ≡ old ++ map f all → left ≡ low ∷ rest → after ≡ before ++ f low ∷ [] → after ++ map f rest ≡ old ++ map f all

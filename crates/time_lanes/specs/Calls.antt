@@ -1,9 +1,14 @@
 -- When a lane may be called, and what it costs to append.
 use Rattle.std.specs.Prelude.{◌≡◌, ◌≤◌, ◌+◌, ◌-◌, ◌*◌, ℕ, true, List, Vec, vec_capacity, vec_len}
 use Rattle.stream_base.specs.declared.def.Def.{Def}
+use Rattle.stream_base.specs.declared.func.Func.{Func}
 use Rattle.stream_base.specs.declared.limits.TheConstants.{TIME_MAX}
 use Rattle.agg_store.specs.Stored.{Stored}
-use Rattle.time_lanes.specs.Spans.{IsServedOver, IsWater, is_served}
+use Rattle.time_lanes.specs.Spans.{IsServedOver, IsWater, IsWindowAt, is_served}
+
+-- partials that show such functions show that of the window at a place
+abbrev pub ShowsWindow : (Func → Type 0) → List Def → ℕ → Type 0
+ShowsWindow serves windows window = (def : Def) → IsWindowAt windows window def → serves def.func
 
 -- the window at a place is tumbling or sliding, and its intervals may hold a time
 pub record MayHold (windows : List Def) (window time : ℕ) : Type 0 where

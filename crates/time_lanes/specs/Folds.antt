@@ -1,9 +1,12 @@
 -- The folds of overlapping intervals.
-use Rattle.std.specs.Prelude.{◌≡◌, ◌≤◌, ◌<◌, ◌+◌, ◌-◌, ◌*◌, ℕ, List, length, slice_index_or}
+use Rattle.std.specs.Prelude.{◌≡◌, ◌≤◌, ◌<◌, ◌+◌, ◌-◌, ◌*◌, ℕ, ℤ, List, length, slice_index_or}
+use Rattle.stream_base.specs.declared.former.Former.{Former}
+use Rattle.stream_base.specs.declared.func.Func.{Func}
 use Rattle.stream_base.specs.declared.kept.Kept.{Kept}
-use Rattle.stream_base.specs.Model.Windows.{within}
-use Rattle.aggregates.specs.Bundled.{Bundled, bundle_of, empty_bundle}
-use Rattle.slice_lists.specs.Runs.{runs_within}
+use Rattle.stream_base.specs.Laws.{TimesDoNotFall}
+use Rattle.stream_base.specs.Model.Changes.{former_of}
+use Rattle.stream_base.specs.Model.Windows.{interval, within}
+use Rattle.slice_lists.specs.Runs.{IsAligned, runs_within}
 use Rattle.slice_lists.specs.Slices.{values_of}
 use Rattle.agg_store.specs.Stored.{Stored, tuples_of}
 use Rattle.time_lanes.specs.declared.late.Complete.{Complete}
@@ -34,17 +37,21 @@ IsShared span slices complete steps later =
     → later ≤ steps + length (slices_under span slices complete) + 4 * complete.count
 
 -- the fold of the tuples from one time up to another
-abbrev pub fold_between : Stored → ℕ → ℕ → Bundled
-fold_between s low high = bundle_of (values_of (within low high (tuples_of s)))
+abbrev pub fold_between : {M : Type 0} → (List ℤ → M) → Stored → ℕ → ℕ → M
+fold_between of_values s low high = of_values (values_of (within low high (tuples_of s)))
 
--- the fold of each interval stands at its place
-abbrev pub AreFolds : Span → Stored → Complete → List Bundled → Type 0
-AreFolds span s complete folds =
-    (k : ℕ) → k < complete.count → slice_index_or folds k empty_bundle
-    ≡ fold_between s ((complete.first + k) * span.slide) ((complete.first + k) * span.slide + span.length)
+-- what is folded from a time up to the end of the first interval, where so many of them start by that time
+pub record IsHead {M : Type 0} (of_values : List ℤ → M) (span : Span) (s : Stored) (complete : Complete) (count low : ℕ) (head : M) : Type 0 where
+  pub within : count ≤ complete.count
+  pub aligned : TimesDoNotFall (tuples_of s) → IsAligned s.slices low
+  pub starts : (k : ℕ) → k < count → (complete.first + k) * span.slide ≤ low
+  pub least : complete.first * span.slide ≤ low
+  pub most : low ≤ complete.first * span.slide + span.length
+  pub folded : head ≡ fold_between of_values s low (complete.first * span.slide + span.length)
 
--- the same of what each has before the end of the first one
-abbrev pub AreHeads : Span → Stored → Complete → List Bundled → Type 0
-AreHeads span s complete folds =
-    (k : ℕ) → k < complete.count → slice_index_or folds k empty_bundle
-    ≡ fold_between s ((complete.first + k) * span.slide) (complete.first * span.slide + span.length)
+-- what each of the first intervals shows stands at its place
+abbrev pub AreShown : Func → Span → Stored → Complete → ℕ → List Former → Type 0
+AreShown func span s complete count shown =
+    (k : ℕ) → k < count → (d : Former) → slice_index_or shown k d
+    ≡ former_of func
+    (interval ((complete.first + k) * span.slide) ((complete.first + k) * span.slide + span.length) (tuples_of s))

@@ -1,9 +1,8 @@
 -- The slices that a lane holds, and the next ones of a store.
-use Rattle.std.specs.Prelude.{◌≡◌, ◌≤◌, ◌<◌, ◌+◌, ◌*◌, ◌⊎◌, ℕ, List, [], ◌∷◌, map, max, All}
+use Rattle.std.specs.Prelude.{◌≡◌, ◌≤◌, ◌<◌, ◌+◌, ◌*◌, ◌⊎◌, ℕ, ℤ, List, [], ◌∷◌, map, max, All}
 use Rattle.stream_base.specs.declared.kept.Kept.{Kept}
 use Rattle.stream_base.specs.declared.limits.TheConstants.{FINAL, TIME_MAX}
 use Rattle.stream_base.specs.Model.Windows.{within}
-use Rattle.aggregates.specs.Bundled.{Bundled, bundle_of}
 use Rattle.slice_lists.specs.Runs.{IsAligned, runs_within}
 use Rattle.window_laws.specs.Walk.{IsFirstFrom, due_from, next_start}
 use Rattle.slice_lists.specs.declared.slice.Slice.{Slice}
@@ -11,32 +10,32 @@ use Rattle.slice_lists.specs.Slices.{joined, slice_of, values_of}
 use Rattle.agg_store.specs.Stored.{Stored, tuples_of}
 
 -- the partials of slices
-abbrev pub partials_of : List (List Kept) → List Bundled
-partials_of runs = map (λ run. bundle_of (values_of run)) runs
+abbrev pub partials_of : {M : Type 0} → (List ℤ → M) → List (List Kept) → List M
+partials_of of_values runs = map (λ run. of_values (values_of run)) runs
 
 -- the partials of slices in a row, up to where, for how many more there is room, and what is left of the steps that were paid for
-pub record Holding : Type 0 where
-  pub partials : List Bundled
+pub record Holding (M : Type 0) : Type 0 where
+  pub partials : List M
   pub to : ℕ
   pub spare : ℕ
   pub credit : ℕ
 
 -- it holds the same slices, with the same credit and no less room
-pub record HasMoreRoom (old new : Holding) : Type 0 where
+pub record HasMoreRoom {M : Type 0} (old new : Holding M) : Type 0 where
   pub partials : new.partials ≡ old.partials
   pub to : new.to ≡ old.to
   pub spare : old.spare ≤ new.spare
   pub credit : new.credit ≡ old.credit
 
 -- slices were let go, and these are left: there is no less room, and the credit has paid for the steps
-pub record LetsGo (left : List Bundled) (old new : Holding) (steps later : ℕ) : Type 0 where
+pub record LetsGo {M : Type 0} (left : List M) (old new : Holding M) (steps later : ℕ) : Type 0 where
   pub partials : new.partials ≡ left
   pub spare : old.spare ≤ new.spare
   pub cost : later + new.credit ≤ steps + old.credit
 
 -- it holds exactly the slices from a time on, up to where it goes
-abbrev pub HoldsFrom : ℕ → Stored → Holding → Type 0
-HoldsFrom from s h = h.partials ≡ partials_of (runs_within from h.to s.slices)
+abbrev pub HoldsFrom : {M : Type 0} → (List ℤ → M) → ℕ → Stored → Holding M → Type 0
+HoldsFrom of_values from s h = h.partials ≡ partials_of of_values (runs_within from h.to s.slices)
 
 -- the slice is the first that begins in an interval, and the others begin behind its last time
 pub record IsNextIn (slices : List (List Kept)) (from to : ℕ) (slice : Slice) : Type 0 where

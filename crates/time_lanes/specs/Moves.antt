@@ -1,5 +1,5 @@
 -- What a move of the watermark completes, and what a lane takes up for it.
-use Rattle.std.specs.Prelude.{◌≡◌, ◌<◌, ◌+◌, ◌-◌, ◌*◌, ℕ, List, [], max}
+use Rattle.std.specs.Prelude.{◌≡◌, ◌<◌, ◌+◌, ◌-◌, ◌*◌, ℕ, ℤ, List, [], max}
 use Rattle.stream_base.specs.declared.kept.Kept.{Kept}
 use Rattle.stream_base.specs.declared.kind.Kind.{Kind}
 use Rattle.stream_base.specs.Model.Changes.{Moment}
@@ -21,11 +21,11 @@ completed_starts kind kept old new =
     due_from (length_of kind) (slide_of kind) kept (next_start_of kind old) new
 
 -- from where a lane has yet to take up slices
-abbrev pub taken_from : Kind → Laned → ℕ → ℕ
+abbrev pub taken_from : {M : Type 0} → Kind → Laned M → ℕ → ℕ
 taken_from kind lane old = max (next_start_of kind old) (fresh_to lane)
 
 -- the slices that a lane takes up in a move
-abbrev pub slices_due : Kind → Laned → Stored → ℕ → ℕ → List (List Kept)
+abbrev pub slices_due : {M : Type 0} → Kind → Laned M → Stored → ℕ → ℕ → List (List Kept)
 slices_due kind lane s old new = runs_within (taken_from kind lane old) (last_end_of kind new) s.slices
 
 -- the slices in the intervals that end behind a watermark, up to another
@@ -48,6 +48,6 @@ AreApartAbove kind time gone =
     → within (k * slide_of kind) (k * slide_of kind + length_of kind) gone ≡ []
 
 -- a lane may move on from a watermark: it knows the slices, and those of its key's tuples that the store dropped lie in no interval that ends above
-pub record MayMove (kind : Kind) (old : ℕ) (gone : List Kept) (s : Stored) (lane : Laned) : Type 0 where
-  pub knows : Knows kind old s lane
+pub record MayMove {M : Type 0} (of_values : List ℤ → M) (kind : Kind) (old : ℕ) (gone : List Kept) (s : Stored) (lane : Laned M) : Type 0 where
+  pub knows : Knows of_values kind old s lane
   pub apart : AreApartAbove kind old gone

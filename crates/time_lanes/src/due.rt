@@ -12,17 +12,17 @@ ghost use Rattle.time_lanes.specs.Walks.{MayWalk, StartsAt};
 
 use crate::held::Held;
 use crate::next::next_due;
-use crate::owner::Owner;
+use crate::owner::{Owner, show};
 use crate::span::Span;
 use agg_laws::{AggQueue, Steps};
 use agg_store::AggStore;
-use aggregates::Bundle;
+use aggregates::Partial;
 use stream_base::Change;
 
 /// Tells the intervals that are due from a start on, one after another. Answers from where on the
 /// slices are held then.
-pub fn tell_due<Q: AggQueue<Bundle>, S: AggStore, L>(
-    held: &mut Held<Q>,
+pub fn tell_due<M: Partial, Q: AggQueue<M>, S: AggStore<M>, L>(
+    held: &mut Held<M, Q>,
     owner: Owner,
     span: &Span,
     store: &S,
@@ -32,20 +32,21 @@ pub fn tell_due<Q: AggQueue<Bundle>, S: AggStore, L>(
     steps: &mut Steps<L>,
 ) -> u64
     requires walk { MayWalk span.now (S.stored store.now).slices from new }
+    requires serves { M.serves owner.func }
     requires room { length (runs_within (max from (held.old).to)
         (last_end span.now.length span.now.slide new) (S.stored store.now).slices)
         ≤ (held.old).spare }
     requires spare { length
         (due_from span.now.length span.now.slide (tuples_of (S.stored store.now)) from new)
         ≤ room out.old }
-    ensures told { HoldsFrom from (S.stored store.now) held.old
+    ensures told { HoldsFrom M.of_values from (S.stored store.now) held.old
         → (held.old).to ≤ from + span.now.length
         → out.new.items ≡ out.old.items
         ++ map (new_at owner.entry.window owner.entry.key.now owner.entry.func span.now.length
         (tuples_of (S.stored store.now)))
         (due_from span.now.length span.now.slide (tuples_of (S.stored store.now)) from new) }
-    ensures held { HoldsFrom from (S.stored store.now) held.old
-        → HoldsFrom result (S.stored store.now) held.new }
+    ensures held { HoldsFrom M.of_values from (S.stored store.now) held.old
+        → HoldsFrom M.of_values result (S.stored store.now) held.new }
     ensures onward { from ≤ result }
     ensures within { result ≤ max from (next_start span.now.length span.now.slide new) }
     ensures to { (held.new).to
@@ -73,8 +74,8 @@ pub fn tell_due<Q: AggQueue<Bundle>, S: AggStore, L>(
 }
 
 // Tells the interval that starts so, and lets the slices go that the next one doesn't need.
-fn tell_one<Q: AggQueue<Bundle>, S: AggStore, L>(
-    held: &mut Held<Q>,
+fn tell_one<M: Partial, Q: AggQueue<M>, S: AggStore<M>, L>(
+    held: &mut Held<M, Q>,
     owner: Owner,
     span: &Span,
     store: &S,
@@ -83,17 +84,18 @@ fn tell_one<Q: AggQueue<Bundle>, S: AggStore, L>(
     steps: &mut Steps<L>,
 )
     requires start { StartsAt span.now (S.stored store.now).slices low }
+    requires serves { M.serves owner.func }
     requires end { low + span.now.length ≤ FINAL }
     requires room { length (runs_within (max low (held.old).to) (low + span.now.length)
         (S.stored store.now).slices) ≤ (held.old).spare }
     requires spare { 1 ≤ room out.old }
-    ensures told { HoldsFrom low (S.stored store.now) held.old
+    ensures told { HoldsFrom M.of_values low (S.stored store.now) held.old
         → (held.old).to ≤ low + span.now.length
         → out.new.items ≡ out.old.items
         ++ new_at owner.entry.window owner.entry.key.now owner.entry.func span.now.length
         (tuples_of (S.stored store.now)) low ∷ [] }
-    ensures held { HoldsFrom low (S.stored store.now) held.old
-        → HoldsFrom (low + span.now.slide) (S.stored store.now) held.new }
+    ensures held { HoldsFrom M.of_values low (S.stored store.now) held.old
+        → HoldsFrom M.of_values (low + span.now.slide) (S.stored store.now) held.new }
     ensures to { (held.new).to ≡ max (held.old).to (low + span.now.length) }
     ensures adds { Adds 1 out.old out.new }
     ensures room { (held.old).spare ≤ (held.new).spare + length
@@ -104,13 +106,14 @@ fn tell_one<Q: AggQueue<Bundle>, S: AggStore, L>(
 {
     let end = low + span.length;
     held.pull(store, low, end, steps);
-    let bundle = held.fold(steps);
-    out.push_reserved(Change::New(owner.row(low, end, &bundle)));
+    let partial = held.fold(steps);
+    let shown = show(owner.func, &partial);
+    out.push_reserved(Change::New(owner.row(low, end, shown)));
     held.shed(store, low, low + span.slide, steps);
 }
 
 /// How many intervals are due from a start on.
-pub fn count_due<S: AggStore>(store: &S, span: &Span, from: u64, new: u64) -> u64
+pub fn count_due<M: Partial, S: AggStore<M>>(store: &S, span: &Span, from: u64, new: u64) -> u64
     requires { MayWalk span.now (S.stored store.now).slices from new }
     ensures { result
         ≡ length (due_from span.now.length span.now.slide (tuples_of (S.stored store.now))

@@ -1,18 +1,19 @@
 //! The folds of overlapping intervals, from parts that they share.
 ghost use Rattle.std.specs.Prelude.{◌≡◌, ◌≤◌, ◌<◌, ◌+◌, ◌-◌, ◌*◌, ◌↔◌, ℕ, true, length};
 ghost use Rattle.stream_base.specs.Model.Windows.{within};
-ghost use Rattle.aggregates.specs.Bundled.{bundle_of};
 ghost use Rattle.slice_lists.specs.Runs.{runs_within};
 ghost use Rattle.slice_lists.specs.Slices.{values_of};
 ghost use Rattle.agg_store.specs.Stored.{IsStore, tuples_of};
-ghost use Rattle.time_lanes.specs.Folds.{AreFolds, AreHeads, MayShare, slices_under};
+ghost use Rattle.time_lanes.specs.Folds.{AreShown, IsHead, MayShare, fold_between, slices_under};
 ghost use Rattle.time_lanes.specs.Walks.{MayFold};
 
 use crate::late::Complete;
+use crate::owner::show;
 use crate::span::Span;
-use agg_laws::{Monoid, Steps};
+use agg_laws::Steps;
 use agg_store::AggStore;
-use aggregates::Bundle;
+use aggregates::Partial;
+use stream_base::{Former, Func};
 
 /// How many intervals are folded together at most.
 pub const MOST: usize = 64;
@@ -25,7 +26,7 @@ const SLICES_EACH: u64 = 32;
 
 /// Whether intervals are folded from parts that they share: there are several, each two overlap or
 /// touch, and few slices begin in them.
-pub fn may_share<S: AggStore>(span: &Span, store: &S, complete: Complete) -> bool
+pub fn may_share<M: Partial, S: AggStore<M>>(span: &Span, store: &S, complete: Complete) -> bool
     requires { MayFold span.now (S.stored store.now).slices complete }
     ensures share { result ≡ true ↔ MayShare span.now (S.stored store.now).slices complete }
     ensures holds { result ≡ true → IsStore (S.stored store.now) }
@@ -42,83 +43,74 @@ pub fn may_share<S: AggStore>(span: &Span, store: &S, complete: Complete) -> boo
     store.slices_within(first, last + span.length) <= most
 }
 
-/// Folds each of the intervals: what begins before the first one's end, from the newest start down,
-/// and then what is behind that end, upwards. So each slice is combined once, and three combines are
-/// made for an interval.
-pub fn fold_together<S: AggStore, L>(
+/// Shows each of the intervals at its place. What begins before the first one's end is folded from
+/// the newest start down, and then, on the way back, what is behind that end, upwards. So each slice
+/// is combined once, and three combines are made for an interval.
+pub fn show_together<M: Partial, S: AggStore<M>, L>(
+    func: Func,
     span: &Span,
     store: &S,
     complete: Complete,
-    folds: &mut [Bundle],
+    shown: &mut [Former],
     steps: &mut Steps<L>,
 )
     requires intervals { MayFold span.now (S.stored store.now).slices complete }
     requires share { MayShare span.now (S.stored store.now).slices complete }
     requires holds { IsStore (S.stored store.now) }
-    requires places { complete.count ≤ length folds.old }
-    ensures folds { AreFolds span.now (S.stored store.now) complete folds.new }
+    requires serves { M.serves func }
+    requires places { complete.count ≤ length shown.old }
+    ensures shown { AreShown func span.now (S.stored store.now) complete complete.count shown.new }
     ensures cost { steps.new ≤ steps.old
         + length (slices_under span.now (S.stored store.now).slices complete)
         + 4 * complete.count }
 {
-    fold_heads(span, store, complete, folds, steps);
-    fold_tails(span, store, complete, folds, steps);
+    let low = complete.first * span.slide + span.length;
+    let none = M::unit();
+    let count = complete.count;
+    show_first(func, span, store, complete, count, low, &none, shown, steps);
 }
 
-// Folds what each has before the end of the first one.
-fn fold_heads<S: AggStore, L>(
+// Shows the first so many of them, given what is folded from a time up to the end of the first one.
+// Gives what is folded from there on to the end of the last of these. Each call keeps what its
+// interval has before that end, since an array of partials would ask for a bound on their size.
+fn show_first<M: Partial, S: AggStore<M>, L>(
+    func: Func,
     span: &Span,
     store: &S,
     complete: Complete,
-    folds: &mut [Bundle],
+    count: u64,
+    low: u64,
+    head: &M,
+    shown: &mut [Former],
     steps: &mut Steps<L>,
-)
+) -> M
     requires intervals { MayFold span.now (S.stored store.now).slices complete }
-    requires share { MayShare span.now (S.stored store.now).slices complete }
     requires holds { IsStore (S.stored store.now) }
-    requires places { complete.count ≤ length folds.old }
-    ensures folds { AreHeads span.now (S.stored store.now) complete folds.new }
+    requires serves { M.serves func }
+    requires head { IsHead M.of_values span.now (S.stored store.now) complete count low head.now }
+    requires places { count ≤ length shown.old }
+    ensures shown { AreShown func span.now (S.stored store.now) complete count shown.new }
+    ensures tail { result ≡ fold_between M.of_values (S.stored store.now)
+        (complete.first * span.now.slide + span.now.length)
+        ((complete.first + (count - 1)) * span.now.slide + span.now.length) }
     ensures cost { steps.new ≤ steps.old
-        + length (runs_within (complete.first * span.now.slide)
-        (complete.first * span.now.slide + span.now.length) (S.stored store.now).slices)
-        + complete.count }
-{
-    let mut low = complete.first * span.slide + span.length;
-    let mut head = Bundle::unit();
-    for k in (0..complete.count).rev() {
-        let start = (complete.first + k) * span.slide;
-        head = store.fold(start, low, steps).combine(&head, steps);
-        folds[k as usize] = head;
-        low = start;
-    }
-}
-
-// Folds what each has from there on, and puts it behind.
-fn fold_tails<S: AggStore, L>(
-    span: &Span,
-    store: &S,
-    complete: Complete,
-    folds: &mut [Bundle],
-    steps: &mut Steps<L>,
-)
-    requires intervals { MayFold span.now (S.stored store.now).slices complete }
-    requires share { MayShare span.now (S.stored store.now).slices complete }
-    requires holds { IsStore (S.stored store.now) }
-    requires heads { AreHeads span.now (S.stored store.now) complete folds.old }
-    requires places { complete.count ≤ length folds.old }
-    ensures folds { AreFolds span.now (S.stored store.now) complete folds.new }
-    ensures cost { steps.new ≤ steps.old
+        + length (runs_within (complete.first * span.now.slide) low (S.stored store.now).slices)
         + length (runs_within (complete.first * span.now.slide + span.now.length)
-        ((complete.first + (complete.count - 1)) * span.now.slide + span.now.length)
+        ((complete.first + (count - 1)) * span.now.slide + span.now.length)
         (S.stored store.now).slices)
-        + 2 * complete.count }
+        + 3 * count }
 {
-    let mut high = complete.first * span.slide + span.length;
-    let mut tail = Bundle::unit();
-    for k in 0..complete.count {
-        let end = (complete.first + k) * span.slide + span.length;
-        tail = tail.combine(&store.fold(high, end, steps), steps);
-        folds[k as usize] = folds[k as usize].combine(&tail, steps);
-        high = end;
+    if count == 0 {
+        return M::unit();
     }
+    let at = count - 1;
+    let start = (complete.first + at) * span.slide;
+    let head = store.fold(start, low, steps).combine(head, steps);
+    let tail = show_first(func, span, store, complete, at, start, &head, shown, steps);
+    let end = start + span.length;
+    let split = complete.first * span.slide + span.length;
+    let high = split.max(end - span.slide);
+    let tail = tail.combine(&store.fold(high, end, steps), steps);
+    shown[at as usize] = show(func, &head.combine(&tail, steps));
+    tail
 }

@@ -1,6 +1,5 @@
 //! The slices that a lane holds.
 ghost use Rattle.std.specs.Prelude.{◌≡◌, ◌≤◌, ◌+◌, ◌*◌, ◌++◌, [], ◌∷◌, OnOk, drop, length, max, min};
-ghost use Rattle.aggregates.specs.Bundled.{bundles_combined, empty_bundle};
 ghost use Rattle.agg_laws.specs.Laws.{total};
 ghost use Rattle.slice_lists.specs.Runs.{AreInOrder, runs_within};
 ghost use Rattle.agg_store.specs.Stored.{IsStore};
@@ -9,24 +8,25 @@ ghost use Rattle.time_lanes.specs.Held.{HasMoreRoom, HoldsFrom, LetsGo, partials
 use crate::next::next_slice;
 use agg_laws::{AggQueue, Steps};
 use agg_store::AggStore;
-use aggregates::Bundle;
+use aggregates::Partial;
 use std::alloc::Global;
-use std::marker::Model;
+use std::marker::{Model, PhantomData};
 use stream_base::NoMemory;
 
 /// The partials of slices in a row, and up to where they go. Each slice that is taken up pays for
 /// being let go: so a lane's credit is that of its queue, and 4 for each slice that it holds.
 #[derive(Drop)]
-pub struct Held<Q: AggQueue<Bundle>> {
+pub struct Held<M: Partial, Q: AggQueue<M>> {
     queue: Q,
     to: u64,
+    of: PhantomData<M>,
 }
 
-impl<Q: AggQueue<Bundle>> Model for Held<Q> {
+impl<M: Partial, Q: AggQueue<M>> Model for Held<M, Q> {
     ghost use Rattle.std.specs.Prelude.{◌+◌, ◌*◌, length};
     ghost use Rattle.time_lanes.specs.Held.{Holding};
 
-    ghost Value = { Holding };
+    ghost Value = { Holding M };
 
     ghost view = { λ h. record {
       partials = Q.items h.queue;
@@ -36,9 +36,9 @@ impl<Q: AggQueue<Bundle>> Model for Held<Q> {
     } };
 }
 
-impl<Q: AggQueue<Bundle>> Held<Q> {
+impl<M: Partial, Q: AggQueue<M>> Held<M, Q> {
     /// Nothing.
-    pub fn new(alloc: Global) -> Held<Q>
+    pub fn new(alloc: Global) -> Held<M, Q>
         ensures partials { (result).partials ≡ [] }
         ensures to { (result).to ≡ 0 }
         ensures credit { (result).credit ≡ 0 }
@@ -46,6 +46,7 @@ impl<Q: AggQueue<Bundle>> Held<Q> {
         Held {
             queue: Q::fresh(alloc),
             to: 0,
+            of: PhantomData,
         }
     }
 
@@ -82,21 +83,22 @@ impl<Q: AggQueue<Bundle>> Held<Q> {
     }
 
     /// The partials combined, oldest first.
-    pub fn fold<L>(&self, steps: &mut Steps<L>) -> Bundle
-        ensures value { result ≡ total empty_bundle bundles_combined (self.now).partials }
+    pub fn fold<L>(&self, steps: &mut Steps<L>) -> M
+        ensures value { result ≡ total M.empty M.op (self.now).partials }
         ensures cost { steps.new ≤ steps.old + 1 }
     {
         self.queue.fold(steps)
     }
 
     /// Takes up the slices from a time on, of those that aren't yet held, up to another.
-    pub fn pull<S: AggStore, L>(&mut self, store: &S, from: u64, to: u64, steps: &mut Steps<L>)
+    pub fn pull<S: AggStore<M>, L>(&mut self, store: &S, from: u64, to: u64, steps: &mut Steps<L>)
         requires { length (runs_within (max from (self.old).to) to (S.stored store.now).slices)
             ≤ (self.old).spare }
         ensures partials { (self.new).partials ≡ (self.old).partials
-            ++ partials_of (runs_within (max from (self.old).to) to (S.stored store.now).slices) }
-        ensures held { HoldsFrom from (S.stored store.now) self.old
-            → HoldsFrom from (S.stored store.now) self.new }
+            ++ partials_of M.of_values
+            (runs_within (max from (self.old).to) to (S.stored store.now).slices) }
+        ensures held { HoldsFrom M.of_values from (S.stored store.now) self.old
+            → HoldsFrom M.of_values from (S.stored store.now) self.new }
         ensures to { (self.new).to ≡ max (self.old).to to }
         ensures spare { (self.new).spare
             + length (runs_within (max from (self.old).to) to (S.stored store.now).slices)
@@ -115,12 +117,12 @@ impl<Q: AggQueue<Bundle>> Held<Q> {
     }
 
     /// Lets the slices go that begin from a time on, up to another.
-    pub fn shed<S: AggStore, L>(&mut self, store: &S, from: u64, to: u64, steps: &mut Steps<L>)
+    pub fn shed<S: AggStore<M>, L>(&mut self, store: &S, from: u64, to: u64, steps: &mut Steps<L>)
         ensures lets_go { LetsGo
             (drop (length (runs_within from (min to (self.old).to) (S.stored store.now).slices))
             (self.old).partials) self.old self.new steps.old steps.new }
-        ensures held { from ≤ to → HoldsFrom from (S.stored store.now) self.old
-            → HoldsFrom to (S.stored store.now) self.new }
+        ensures held { from ≤ to → HoldsFrom M.of_values from (S.stored store.now) self.old
+            → HoldsFrom M.of_values to (S.stored store.now) self.new }
         ensures to { (self.new).to ≡ (self.old).to }
         ensures ordered { AreInOrder (S.stored store.now).slices }
     {
@@ -132,7 +134,7 @@ impl<Q: AggQueue<Bundle>> Held<Q> {
         }
     }
 
-    fn take<L>(&mut self, partial: Bundle, steps: &mut Steps<L>)
+    fn take<L>(&mut self, partial: M, steps: &mut Steps<L>)
         requires { 1 ≤ (self.old).spare }
         ensures partials { (self.new).partials ≡ (self.old).partials ++ partial ∷ [] }
         ensures to { (self.new).to ≡ (self.old).to }

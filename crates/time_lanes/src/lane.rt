@@ -13,7 +13,7 @@ ghost use Rattle.window_laws.specs.Due.{first_open};
 ghost use Rattle.window_laws.specs.Settled.{last_end_of as last_end_holding_of};
 ghost use Rattle.window_laws.specs.Walk.{next_start_of};
 ghost use Rattle.agg_store.specs.Stored.{IsSliced, Stored, tuples_of};
-ghost use Rattle.time_lanes.specs.Calls.{AppendsWithin, IsServedUnder, MayComeTo, MayFollow, MayHold};
+ghost use Rattle.time_lanes.specs.Calls.{AppendsWithin, IsServedUnder, MayComeTo, MayFollow, MayHold, ShowsWindow};
 ghost use Rattle.time_lanes.specs.Lane.{HasMoreRoom, HoldsTheSame, IsRefreshed, IsSameUpTo, Knows, KnowsAll};
 ghost use Rattle.time_lanes.specs.Late.{AreApartAt, IsLate, complete_holding, formers_of};
 ghost use Rattle.time_lanes.specs.Shared.{IsSharedAt};
@@ -31,7 +31,7 @@ use crate::served::{Served, serve, window_at};
 use crate::span::Span;
 use agg_laws::{AggQueue, Steps};
 use agg_store::AggStore;
-use aggregates::Bundle;
+use aggregates::Partial;
 use std::alloc::Global;
 use std::marker::Model;
 use stream_base::{Change, Defs, Former, KeyText, NoMemory};
@@ -44,15 +44,15 @@ use stream_base::{Change, Defs, Former, KeyText, NoMemory};
 /// says that a lane knows the slices of its store at a watermark. A new lane knows an empty store at
 /// every watermark; `laws` and `touched` say that it knows the store after each call on it.
 #[derive(Drop)]
-pub struct Lane<Q: AggQueue<Bundle>> {
-    held: Held<Q>,
+pub struct Lane<M: Partial, Q: AggQueue<M>> {
+    held: Held<M, Q>,
     stale: bool,
 }
 
-impl<Q: AggQueue<Bundle>> Model for Lane<Q> {
+impl<M: Partial, Q: AggQueue<M>> Model for Lane<M, Q> {
     ghost use Rattle.time_lanes.specs.Lane.{Laned};
 
-    ghost Value = { Laned };
+    ghost Value = { Laned M };
 
     ghost view = { λ l. record {
       partials = l.held.partials;
@@ -63,12 +63,12 @@ impl<Q: AggQueue<Bundle>> Model for Lane<Q> {
     } };
 }
 
-impl<Q: AggQueue<Bundle>> Lane<Q> {
+impl<M: Partial, Q: AggQueue<M>> Lane<M, Q> {
     /// A lane that holds nothing: it knows an empty store at every watermark.
-    pub fn new(alloc: Global) -> Lane<Q>
+    pub fn new(alloc: Global) -> Lane<M, Q>
         ensures credit { (result).credit ≡ 0 }
         ensures knows { (kind : Kind) (water : ℕ) (s : Stored) → s.slices ≡ []
-            → Knows kind water s result }
+            → Knows M.of_values kind water s result }
         ensures knows_all { (kind : Kind) (water : ℕ) (s : Stored) → s.slices ≡ []
             → KnowsAll kind water s result }
     {
@@ -79,7 +79,7 @@ impl<Q: AggQueue<Bundle>> Lane<Q> {
     }
 
     /// Makes room for a move of the watermark, and answers how many rows its `advance` will append.
-    pub fn reserve<S: AggStore>(
+    pub fn reserve<S: AggStore<M>>(
         &mut self,
         defs: &Defs,
         window: u32,
@@ -115,7 +115,7 @@ impl<Q: AggQueue<Bundle>> Lane<Q> {
     /// touched, by 10 more for each slice of the last one of these. With no credit it is bounded by
     /// 10 steps for each slice from the first interval that is open up to the end of the last one
     /// that is complete in the end, and 1 for each row.
-    pub fn advance<S: AggStore, L>(
+    pub fn advance<S: AggStore<M>, L>(
         &mut self,
         defs: &Defs,
         window: u32,
@@ -128,6 +128,7 @@ impl<Q: AggQueue<Bundle>> Lane<Q> {
     )
         requires follows { MayFollow defs.now.windows window (S.stored store.now) old new }
         requires order { old ≤ new }
+        requires serves { ShowsWindow M.serves defs.now.windows window }
         requires room { (def : Def) → IsWindowAt defs.now.windows window def
             → length (slices_due def.kind self.old (S.stored store.now) old new) ≤ self.old.spare }
         requires spare { (def : Def) → IsWindowAt defs.now.windows window def
@@ -135,12 +136,12 @@ impl<Q: AggQueue<Bundle>> Lane<Q> {
             ≤ room out.old }
         ensures changes { (def : Def) (gone : List Kept) (marks : List ℕ)
             → IsWindowAt defs.now.windows window def
-            → MayMove def.kind old gone (S.stored store.now) self.old
+            → MayMove M.of_values def.kind old gone (S.stored store.now) self.old
             → out.new.items ≡ out.old.items ++ completions key.now
             (moment (gone ++ tuples_of (S.stored store.now)) marks old) new (window, def) }
         ensures knows { (def : Def) → IsWindowAt defs.now.windows window def
-            → Knows def.kind old (S.stored store.now) self.old
-            → Knows def.kind new (S.stored store.now) self.new }
+            → Knows M.of_values def.kind old (S.stored store.now) self.old
+            → Knows M.of_values def.kind new (S.stored store.now) self.new }
         ensures knows_all { (def : Def) → IsWindowAt defs.now.windows window def
             → KnowsAll def.kind new (S.stored store.now) self.new }
         ensures number { (def : Def) → IsWindowAt defs.now.windows window def → vec_len out.new
@@ -148,19 +149,19 @@ impl<Q: AggQueue<Bundle>> Lane<Q> {
             + length (completed_starts def.kind (tuples_of (S.stored store.now)) old new) }
         ensures capacity { vec_capacity out.new ≡ vec_capacity out.old }
         ensures cost { (def : Def) → IsWindowAt defs.now.windows window def
-            → Knows def.kind old (S.stored store.now) self.old
+            → Knows M.of_values def.kind old (S.stored store.now) self.old
             → KnowsAll def.kind old (S.stored store.now) self.old
             → steps.new + self.new.credit ≤ steps.old + self.old.credit
             + 10 * length (slices_between def.kind (S.stored store.now) old new)
             + length (completed_starts def.kind (tuples_of (S.stored store.now)) old new) }
         ensures cost_touched { (def : Def) → IsWindowAt defs.now.windows window def
-            → Knows def.kind old (S.stored store.now) self.old
+            → Knows M.of_values def.kind old (S.stored store.now) self.old
             → steps.new + self.new.credit ≤ steps.old + self.old.credit
             + 10 * (length (slices_between def.kind (S.stored store.now) old new)
             + length (slices_in_last def.kind (S.stored store.now) old))
             + length (completed_starts def.kind (tuples_of (S.stored store.now)) old new) }
         ensures work { (def : Def) → IsWindowAt defs.now.windows window def
-            → Knows def.kind old (S.stored store.now) self.old → steps.new ≤ steps.old
+            → Knows M.of_values def.kind old (S.stored store.now) self.old → steps.new ≤ steps.old
             + 10 * length (slices_until def.kind (S.stored store.now) old new)
             + length (completed_starts def.kind (tuples_of (S.stored store.now)) old new) }
     {
@@ -207,7 +208,7 @@ impl<Q: AggQueue<Bundle>> Lane<Q> {
     /// Appends what stands of each complete interval that holds a time, by their starts: `None`
     /// where it selects no tuple. Called before the store takes in a tuple of that time;
     /// `late_count` says how many there are.
-    pub fn formers<S: AggStore, L>(
+    pub fn formers<S: AggStore<M>, L>(
         &self,
         defs: &Defs,
         window: u32,
@@ -219,6 +220,7 @@ impl<Q: AggQueue<Bundle>> Lane<Q> {
     )
         requires comes { MayComeTo defs.now.windows window time water }
         requires sliced { IsSliced defs.now.windows (S.stored store.now) }
+        requires serves { ShowsWindow M.serves defs.now.windows window }
         requires spare { (def : Def) → IsWindowAt defs.now.windows window def
             → length (complete_holding def.kind time water)
             ≤ room into.old }
@@ -242,7 +244,7 @@ impl<Q: AggQueue<Bundle>> Lane<Q> {
     /// tuple alone, and else an update with what stood, which `formers` told before. A tuple
     /// retracts no interval. Where the order of values makes no difference, what stood and the
     /// tuple's value tell all, and no slice is folded.
-    pub fn late<S: AggStore, L>(
+    pub fn late<S: AggStore<M>, L>(
         &self,
         defs: &Defs,
         window: u32,
@@ -257,6 +259,7 @@ impl<Q: AggQueue<Bundle>> Lane<Q> {
     )
         requires comes { MayComeTo defs.now.windows window time water }
         requires sliced { IsSliced defs.now.windows (S.stored store.now) }
+        requires serves { ShowsWindow M.serves defs.now.windows window }
         requires formers { (def : Def) → IsWindowAt defs.now.windows window def
             → length (complete_holding def.kind time water) ≤ length formers.now }
         requires spare { (def : Def) → IsWindowAt defs.now.windows window def
@@ -294,7 +297,7 @@ impl<Q: AggQueue<Bundle>> Lane<Q> {
 
     /// When the first interval ends that holds a tuple and ends after a watermark, and the final time
     /// where there is none: a move of the watermark to before it completes nothing.
-    pub fn next_end<S: AggStore>(&self, defs: &Defs, window: u32, store: &S, water: u64) -> u64
+    pub fn next_end<S: AggStore<M>>(&self, defs: &Defs, window: u32, store: &S, water: u64) -> u64
         requires { IsServedUnder defs.now.windows window (S.stored store.now) water }
         ensures { (def : Def) (marks : List ℕ) → IsWindowAt defs.now.windows window def
             → result ≡ first_open (moment (tuples_of (S.stored store.now)) marks water) def }
@@ -331,11 +334,11 @@ impl<Q: AggQueue<Bundle>> Lane<Q> {
         ensures stale { self.new.stale ≡ (self.old.stale || nat_lt time self.old.to) }
         ensures same { HoldsTheSame self.old self.new }
         ensures knows { (kind : Kind) (water : ℕ) (old new : Stored)
-            → IsSameUpTo kind time old new → Knows kind water old self.old
-            → Knows kind water new self.new }
+            → IsSameUpTo kind time old new → Knows M.of_values kind water old self.old
+            → Knows M.of_values kind water new self.new }
         ensures knows_all { (kind : Kind) (water : ℕ) (old new : Stored)
             → IsSameUpTo kind time old new → last_end_of kind water ≤ time
-            → Knows kind water old self.old → KnowsAll kind water old self.old
+            → Knows M.of_values kind water old self.old → KnowsAll kind water old self.old
             → KnowsAll kind water new self.new }
     {
         self.stale = self.stale || time < self.held.to();

@@ -3,7 +3,6 @@ ghost use Rattle.std.specs.Prelude.{◌≡◌, ◌≤◌, ◌<◌, ◌+◌, ◌*
 ghost use Rattle.stream_base.specs.declared.limits.TheConstants.{FINAL, TIME_MAX};
 ghost use Rattle.stream_base.specs.Model.Windows.{within};
 ghost use Rattle.stream_base.specs.Vectors.{Adds, room};
-ghost use Rattle.aggregates.specs.Bundled.{bundle_of};
 ghost use Rattle.slice_lists.specs.Slices.{values_of};
 ghost use Rattle.slice_lists.specs.Runs.{runs_within};
 ghost use Rattle.agg_store.specs.Stored.{IsStore, tuples_of};
@@ -11,13 +10,19 @@ ghost use Rattle.time_lanes.specs.Folds.{IsShared, MayShare, slices_under};
 ghost use Rattle.time_lanes.specs.Told.{again_or_new, complete_starts, ended, former_at, starts_from, told_at, told_late};
 ghost use Rattle.time_lanes.specs.Walks.{MayFold, StartsAt};
 
-use crate::folds::{FEW, MOST, fold_together, may_share};
-use crate::owner::{Owner, former};
+use crate::folds::{FEW, MOST, may_share, show_together};
+use crate::owner::{Owner, former, show};
 use crate::span::Span;
-use agg_laws::{Monoid, Steps};
+use agg_laws::Steps;
 use agg_store::AggStore;
-use aggregates::Bundle;
-use stream_base::{Change, Former, Func, Row};
+use aggregates::Partial;
+use stream_base::{Change, Former, Func, Row, Shown};
+
+// What an interval shows that isn't folded yet.
+const NOTHING: Former = Former {
+    number: 0,
+    shown: Shown::Whole(0),
+};
 
 /// The complete intervals that hold a time: the number of the first, and how many there are.
 #[derive(Clone, Copy)]
@@ -64,7 +69,7 @@ fn ended(span: &Span, water: u64) -> u64
 }
 
 /// Appends what stood of each. Those that are close are folded together, 64 at once.
-pub fn append_formers<S: AggStore, L>(
+pub fn append_formers<M: Partial, S: AggStore<M>, L>(
     func: Func,
     span: &Span,
     store: &S,
@@ -73,6 +78,7 @@ pub fn append_formers<S: AggStore, L>(
     steps: &mut Steps<L>,
 )
     requires intervals { MayFold span.now (S.stored store.now).slices complete }
+    requires serves { M.serves func }
     requires spare { complete.count ≤ room into.old }
     ensures told { into.new.items ≡ into.old.items
         ++ map (former_at func span.now.length (tuples_of (S.stored store.now)))
@@ -93,7 +99,7 @@ pub fn append_formers<S: AggStore, L>(
 }
 
 // The same of at most so many.
-fn append_some_formers<S: AggStore, L>(
+fn append_some_formers<M: Partial, S: AggStore<M>, L>(
     func: Func,
     span: &Span,
     store: &S,
@@ -102,6 +108,7 @@ fn append_some_formers<S: AggStore, L>(
     steps: &mut Steps<L>,
 )
     requires intervals { MayFold span.now (S.stored store.now).slices complete }
+    requires serves { M.serves func }
     requires spare { complete.count ≤ room into.old }
     ensures told { into.new.items ≡ into.old.items
         ++ map (former_at func span.now.length (tuples_of (S.stored store.now)))
@@ -118,7 +125,7 @@ fn append_some_formers<S: AggStore, L>(
 }
 
 // Appends what stood of each, folded on its own.
-fn append_each_former<S: AggStore, L>(
+fn append_each_former<M: Partial, S: AggStore<M>, L>(
     func: Func,
     span: &Span,
     store: &S,
@@ -127,6 +134,7 @@ fn append_each_former<S: AggStore, L>(
     steps: &mut Steps<L>,
 )
     requires intervals { MayFold span.now (S.stored store.now).slices complete }
+    requires serves { M.serves func }
     requires spare { complete.count ≤ room into.old }
     ensures told { into.new.items ≡ into.old.items
         ++ map (former_at func span.now.length (tuples_of (S.stored store.now)))
@@ -139,12 +147,12 @@ fn append_each_former<S: AggStore, L>(
     for k in 0..complete.count {
         let low = (complete.first + k) * span.slide;
         let folded = fold_interval(span, store, low, steps);
-        into.push_reserved(former(func, &folded));
+        into.push_reserved(former(show(func, &folded)));
     }
 }
 
 // Appends what stood of each, folded together.
-fn append_shared_formers<S: AggStore, L>(
+fn append_shared_formers<M: Partial, S: AggStore<M>, L>(
     func: Func,
     span: &Span,
     store: &S,
@@ -153,6 +161,7 @@ fn append_shared_formers<S: AggStore, L>(
     steps: &mut Steps<L>,
 )
     requires intervals { MayFold span.now (S.stored store.now).slices complete }
+    requires serves { M.serves func }
     requires share { MayShare span.now (S.stored store.now).slices complete }
     requires holds { IsStore (S.stored store.now) }
     requires spare { complete.count ≤ room into.old }
@@ -165,28 +174,29 @@ fn append_shared_formers<S: AggStore, L>(
         + 4 * complete.count }
 {
     if complete.count <= FEW as u64 {
-        let mut folds = [Bundle::unit(); FEW];
-        append_folded_formers(func, span, store, complete, &mut folds, into, steps);
+        let mut shown = [NOTHING; FEW];
+        append_shown_formers(func, span, store, complete, &mut shown, into, steps);
     } else {
-        let mut folds = [Bundle::unit(); MOST];
-        append_folded_formers(func, span, store, complete, &mut folds, into, steps);
+        let mut shown = [NOTHING; MOST];
+        append_shown_formers(func, span, store, complete, &mut shown, into, steps);
     }
 }
 
-// The same, with places for so many folds at least.
-fn append_folded_formers<S: AggStore, L>(
+// The same, with places for what so many show at least.
+fn append_shown_formers<M: Partial, S: AggStore<M>, L>(
     func: Func,
     span: &Span,
     store: &S,
     complete: Complete,
-    folds: &mut [Bundle],
+    shown: &mut [Former],
     into: &mut Vec<Option<Former>>,
     steps: &mut Steps<L>,
 )
     requires intervals { MayFold span.now (S.stored store.now).slices complete }
+    requires serves { M.serves func }
     requires share { MayShare span.now (S.stored store.now).slices complete }
     requires holds { IsStore (S.stored store.now) }
-    requires places { complete.count ≤ length folds.old }
+    requires places { complete.count ≤ length shown.old }
     requires spare { complete.count ≤ room into.old }
     ensures told { into.new.items ≡ into.old.items
         ++ map (former_at func span.now.length (tuples_of (S.stored store.now)))
@@ -196,16 +206,16 @@ fn append_folded_formers<S: AggStore, L>(
         + length (slices_under span.now (S.stored store.now).slices complete)
         + 4 * complete.count }
 {
-    fold_together(span, store, complete, folds, steps);
-    let folded = &folds[..];
+    show_together(func, span, store, complete, shown, steps);
+    let shown = &shown[..];
     for k in 0..complete.count {
-        into.push_reserved(former(func, &folded[k as usize]));
+        into.push_reserved(former(shown[k as usize]));
     }
 }
 
 /// Appends each as it shows now, with what stood of it before. Those that are close are folded
 /// together, 64 at once.
-pub fn append_late<S: AggStore, L>(
+pub fn append_late<M: Partial, S: AggStore<M>, L>(
     owner: Owner,
     span: &Span,
     store: &S,
@@ -215,6 +225,7 @@ pub fn append_late<S: AggStore, L>(
     steps: &mut Steps<L>,
 )
     requires intervals { MayFold span.now (S.stored store.now).slices complete }
+    requires serves { M.serves owner.func }
     requires formers { complete.count ≤ length formers.now }
     requires spare { complete.count ≤ room out.old }
     ensures told { out.new.items ≡ out.old.items
@@ -238,7 +249,7 @@ pub fn append_late<S: AggStore, L>(
 }
 
 // The same of at most so many.
-fn append_some_late<S: AggStore, L>(
+fn append_some_late<M: Partial, S: AggStore<M>, L>(
     owner: Owner,
     span: &Span,
     store: &S,
@@ -248,6 +259,7 @@ fn append_some_late<S: AggStore, L>(
     steps: &mut Steps<L>,
 )
     requires intervals { MayFold span.now (S.stored store.now).slices complete }
+    requires serves { M.serves owner.func }
     requires formers { complete.count ≤ length formers.now }
     requires spare { complete.count ≤ room out.old }
     ensures told { out.new.items ≡ out.old.items
@@ -266,7 +278,7 @@ fn append_some_late<S: AggStore, L>(
 }
 
 // Appends each as it shows now, folded on its own.
-fn append_each_late<S: AggStore, L>(
+fn append_each_late<M: Partial, S: AggStore<M>, L>(
     owner: Owner,
     span: &Span,
     store: &S,
@@ -276,6 +288,7 @@ fn append_each_late<S: AggStore, L>(
     steps: &mut Steps<L>,
 )
     requires intervals { MayFold span.now (S.stored store.now).slices complete }
+    requires serves { M.serves owner.func }
     requires formers { complete.count ≤ length formers.now }
     requires spare { complete.count ≤ room out.old }
     ensures told { out.new.items ≡ out.old.items
@@ -290,13 +303,14 @@ fn append_each_late<S: AggStore, L>(
     for k in 0..complete.count {
         let low = (complete.first + k) * span.slide;
         let folded = fold_interval(span, store, low, steps);
-        let row = owner.row(low, low + span.length, &folded);
+        let shown = show(owner.func, &folded);
+        let row = owner.row(low, low + span.length, shown);
         out.push_reserved(told(row, formers[k as usize]));
     }
 }
 
 // Appends each as it shows now, folded together.
-fn append_shared_late<S: AggStore, L>(
+fn append_shared_late<M: Partial, S: AggStore<M>, L>(
     owner: Owner,
     span: &Span,
     store: &S,
@@ -306,6 +320,7 @@ fn append_shared_late<S: AggStore, L>(
     steps: &mut Steps<L>,
 )
     requires intervals { MayFold span.now (S.stored store.now).slices complete }
+    requires serves { M.serves owner.func }
     requires formers { complete.count ≤ length formers.now }
     requires share { MayShare span.now (S.stored store.now).slices complete }
     requires holds { IsStore (S.stored store.now) }
@@ -320,34 +335,35 @@ fn append_shared_late<S: AggStore, L>(
         + 4 * complete.count }
 {
     if complete.count <= FEW as u64 {
-        let mut folds = [Bundle::unit(); FEW];
-        append_folded_late(
-            owner, span, store, complete, formers, &mut folds, out, steps,
+        let mut shown = [NOTHING; FEW];
+        append_shown_late(
+            owner, span, store, complete, formers, &mut shown, out, steps,
         );
     } else {
-        let mut folds = [Bundle::unit(); MOST];
-        append_folded_late(
-            owner, span, store, complete, formers, &mut folds, out, steps,
+        let mut shown = [NOTHING; MOST];
+        append_shown_late(
+            owner, span, store, complete, formers, &mut shown, out, steps,
         );
     }
 }
 
-// The same, with places for so many folds at least.
-fn append_folded_late<S: AggStore, L>(
+// The same, with places for what so many show at least.
+fn append_shown_late<M: Partial, S: AggStore<M>, L>(
     owner: Owner,
     span: &Span,
     store: &S,
     complete: Complete,
     formers: &[Option<Former>],
-    folds: &mut [Bundle],
+    shown: &mut [Former],
     out: &mut Vec<Change>,
     steps: &mut Steps<L>,
 )
     requires intervals { MayFold span.now (S.stored store.now).slices complete }
+    requires serves { M.serves owner.func }
     requires formers { complete.count ≤ length formers.now }
     requires share { MayShare span.now (S.stored store.now).slices complete }
     requires holds { IsStore (S.stored store.now) }
-    requires places { complete.count ≤ length folds.old }
+    requires places { complete.count ≤ length shown.old }
     requires spare { complete.count ≤ room out.old }
     ensures told { out.new.items ≡ out.old.items
         ++ told_late (told_at owner.entry.window owner.entry.key.now owner.entry.func
@@ -358,20 +374,25 @@ fn append_folded_late<S: AggStore, L>(
         + length (slices_under span.now (S.stored store.now).slices complete)
         + 4 * complete.count }
 {
-    fold_together(span, store, complete, folds, steps);
-    let folded = &folds[..];
+    show_together(owner.func, span, store, complete, shown, steps);
+    let shown = &shown[..];
     for k in 0..complete.count {
         let low = (complete.first + k) * span.slide;
-        let row = owner.row(low, low + span.length, &folded[k as usize]);
+        let row = owner.row(low, low + span.length, shown[k as usize]);
         let stood = formers[k as usize];
         out.push_reserved(told(row, stood));
     }
 }
 
 // The fold of the interval that starts so.
-fn fold_interval<S: AggStore, L>(span: &Span, store: &S, low: u64, steps: &mut Steps<L>) -> Bundle
+fn fold_interval<M: Partial, S: AggStore<M>, L>(
+    span: &Span,
+    store: &S,
+    low: u64,
+    steps: &mut Steps<L>,
+) -> M
     requires { StartsAt span.now (S.stored store.now).slices low }
-    ensures value { result ≡ bundle_of
+    ensures value { result ≡ M.of_values
         (values_of (within low (low + span.now.length) (tuples_of (S.stored store.now)))) }
     ensures one_each { steps.new ≤ steps.old
         + length (runs_within low (low + span.now.length) (S.stored store.now).slices) }

@@ -16,6 +16,8 @@ ghost use Rattle.agg_store.specs.Stored.{IsSliced, IsStore, Stored, tuples_of};
 ghost use Rattle.time_lanes.specs.Lane.{IsAsBefore, IsSameUpTo, Knows, KnowsAll, Laned};
 ghost use Rattle.time_lanes.specs.Spans.{IsWindowAt};
 
+use aggregates::Partial;
+
 /// A tuple or a mark leaves the slices up to each end of an interval that lies at or before it.
 pub fn what_comes_leaves_earlier_slices()
     ensures tuple { (windows : List Def) (window : ℕ) (def : Def) (old new : Stored) (x : Kept)
@@ -30,39 +32,40 @@ pub fn what_comes_leaves_earlier_slices()
 
 /// Where slices change from the watermark on alone, a lane goes on to know them, and to miss none
 /// of the complete intervals.
-pub fn lane_knows_what_comes_at_the_watermark()
-    ensures knows { (kind : Kind) (water time : ℕ) (old new : Stored) (lane : Laned)
-        → IsSameUpTo kind time old new → water ≤ time → Knows kind water old lane
-        → Knows kind water new lane }
-    ensures knows_all { (kind : Kind) (water time : ℕ) (old new : Stored) (lane : Laned)
+pub fn lane_knows_what_comes_at_the_watermark<M: Partial>()
+    ensures knows { (kind : Kind) (water time : ℕ) (old new : Stored) (lane : Laned M)
+        → IsSameUpTo kind time old new → water ≤ time → Knows M.of_values kind water old lane
+        → Knows M.of_values kind water new lane }
+    ensures knows_all { (kind : Kind) (water time : ℕ) (old new : Stored) (lane : Laned M)
         → IsSameUpTo kind time old new → water ≤ time → KnowsAll kind water old lane
         → KnowsAll kind water new lane }
 {}
 
 /// Where slices are dropped that lie before the next start, a lane goes on to know the others.
-pub fn lane_knows_what_a_purge_leaves()
-    ensures knows { (kind : Kind) (water time : ℕ) (old new : Stored) (lane : Laned)
+pub fn lane_knows_what_a_purge_leaves<M: Partial>()
+    ensures knows { (kind : Kind) (water time : ℕ) (old new : Stored) (lane : Laned M)
         → new.slices ≡ slices_from time old.slices → time ≤ next_start_of kind water
-        → Knows kind water old lane → Knows kind water new lane }
-    ensures knows_all { (kind : Kind) (water time : ℕ) (old new : Stored) (lane : Laned)
+        → Knows M.of_values kind water old lane → Knows M.of_values kind water new lane }
+    ensures knows_all { (kind : Kind) (water time : ℕ) (old new : Stored) (lane : Laned M)
         → new.slices ≡ slices_from time old.slices → KnowsAll kind water old lane
         → KnowsAll kind water new lane }
 {}
 
 /// Room makes no difference to what a lane knows.
-pub fn lane_with_more_room_knows_the_same()
-    ensures knows { (kind : Kind) (water : ℕ) (s : Stored) (old new : Laned)
-        → IsAsBefore old new → Knows kind water s old → Knows kind water s new }
-    ensures knows_all { (kind : Kind) (water : ℕ) (s : Stored) (old new : Laned)
+pub fn lane_with_more_room_knows_the_same<M: Partial>()
+    ensures knows { (kind : Kind) (water : ℕ) (s : Stored) (old new : Laned M)
+        → IsAsBefore old new → Knows M.of_values kind water s old
+        → Knows M.of_values kind water s new }
+    ensures knows_all { (kind : Kind) (water : ℕ) (s : Stored) (old new : Laned M)
         → IsAsBefore old new → KnowsAll kind water s old → KnowsAll kind water s new }
 {}
 
 /// Where a move of the watermark completes no interval, a lane that isn't told of it knows the slices
 /// at the new watermark too.
-pub fn lane_knows_where_nothing_completes()
+pub fn lane_knows_where_nothing_completes<M: Partial>()
     ensures { (window : ℕ) (def : Def) (key : List ℕ) (m : Moment) (new : ℕ) (s : Stored)
-        (lane : Laned) → is_timed def.kind ≡ true → IsKindWithin def.kind → IsStore s
+        (lane : Laned M) → is_timed def.kind ≡ true → IsKindWithin def.kind → IsStore s
         → All (Contains m.kept) (tuples_of s) → m.water ≤ new
-        → completions key m new (window, def) ≡ [] → Knows def.kind m.water s lane
-        → Knows def.kind new s lane }
+        → completions key m new (window, def) ≡ [] → Knows M.of_values def.kind m.water s lane
+        → Knows M.of_values def.kind new s lane }
 {}

@@ -8,11 +8,12 @@ ghost use Rattle.time_lanes.specs.Walks.{MayWalk, StartsAt};
 
 use crate::span::Span;
 use agg_store::AggStore;
+use aggregates::Partial;
 use slice_lists::Slice;
 use stream_base::FINAL;
 
 /// The first slice that begins in an interval.
-pub fn next_slice<S: AggStore>(store: &S, from: u64, to: u64) -> Option<Slice>
+pub fn next_slice<M: Partial, S: AggStore<M>>(store: &S, from: u64, to: u64) -> Option<Slice>
     ensures some { IfSome result (λ slice. IsNextIn (S.stored store.now).slices from to slice) }
     ensures none { IfNone result (runs_within from to (S.stored store.now).slices ≡ []) }
     ensures holds { IsStore (S.stored store.now) }
@@ -22,7 +23,12 @@ pub fn next_slice<S: AggStore>(store: &S, from: u64, to: u64) -> Option<Slice>
 }
 
 /// The start of the next interval that is due.
-pub fn next_due<S: AggStore>(store: &S, span: &Span, from: u64, new: u64) -> Option<u64>
+pub fn next_due<M: Partial, S: AggStore<M>>(
+    store: &S,
+    span: &Span,
+    from: u64,
+    new: u64,
+) -> Option<u64>
     requires { MayWalk span.now (S.stored store.now).slices from new }
     ensures some { IfSome result
         (λ low. IsNextDue span.now.length span.now.slide (S.stored store.now) from new low) }
@@ -40,7 +46,7 @@ pub fn next_due<S: AggStore>(store: &S, span: &Span, from: u64, new: u64) -> Opt
 }
 
 /// The end of the first interval from a start on that holds a tuple.
-pub fn end_from<S: AggStore>(store: &S, span: &Span, from: u64) -> u64
+pub fn end_from<M: Partial, S: AggStore<M>>(store: &S, span: &Span, from: u64) -> u64
     requires { StartsAt span.now (S.stored store.now).slices from }
     ensures { IsEndFrom span.now.length span.now.slide (tuples_of (S.stored store.now)) from
         result }

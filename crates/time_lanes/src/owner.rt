@@ -1,13 +1,13 @@
 //! What an interval shows, from the fold of its tuples.
-ghost use Rattle.std.specs.Prelude.{◌≡◌, ◌<◌, ◌^◌, ℕ, ℤ, List, length};
+ghost use Rattle.std.specs.Prelude.{◌≡◌, ◌<◌, ◌^◌, ℕ, List, length, pos};
+ghost use Rattle.stream_base.specs.declared.func.Func.{Func};
 ghost use Rattle.stream_base.specs.declared.kept.Kept.{Kept};
-ghost use Rattle.stream_base.specs.Model.Changes.{row_of};
-ghost use Rattle.stream_base.specs.Model.Windows.{interval, within};
-ghost use Rattle.aggregates.specs.Bundled.{bundle_of};
+ghost use Rattle.stream_base.specs.Model.Changes.{former_of, row_of};
+ghost use Rattle.stream_base.specs.Model.Windows.{Instance, interval, within};
 ghost use Rattle.slice_lists.specs.Slices.{values_of};
 ghost use Rattle.time_lanes.specs.Told.{former_if};
 
-use aggregates::Bundle;
+use aggregates::Partial;
 use stream_base::{Former, Func, KeyText, Row, Shown};
 
 /// Whose rows are told: a window with its place among the definitions, and a key.
@@ -19,10 +19,9 @@ pub struct Owner<'a> {
 }
 
 impl Owner<'_> {
-    /// The row of an interval whose tuples come to this.
-    pub fn row(&self, low: u64, high: u64, bundle: &Bundle) -> Row
-        ensures { (kept : List Kept) → bundle.now ≡ bundle_of (values_of (within low high kept))
-            → length kept < 2 ^ 64
+    /// The row of an interval that shows this.
+    pub fn row(&self, low: u64, high: u64, shown: Former) -> Row
+        ensures { (kept : List Kept) → shown ≡ former_of self.now.func (interval low high kept)
             → result ≡ row_of self.now.window self.now.key.now self.now.func
             (interval low high kept) }
     {
@@ -31,36 +30,42 @@ impl Owner<'_> {
             key: *self.key,
             low,
             high,
-            number: count_of(bundle),
-            shown: bundle.show(self.func),
+            number: shown.number,
+            shown: shown.shown,
         }
     }
 }
 
-/// What stood of an interval whose tuples come to this, if it held one.
-pub fn former(func: Func, bundle: &Bundle) -> Option<Former>
+/// What an interval shows whose tuples come to this.
+pub fn show<M: Partial>(func: Func, partial: &M) -> Former
+    requires { M.serves func }
     ensures { (kept : List Kept) (low high : ℕ)
-        → bundle.now ≡ bundle_of (values_of (within low high kept)) → length kept < 2 ^ 64
-        → result ≡ former_if func (interval low high kept) }
+        → partial.now ≡ M.of_values (values_of (within low high kept)) → length kept < 2 ^ 64
+        → result ≡ former_of func (interval low high kept) }
 {
-    let number = count_of(bundle);
-    if number == 0 {
-        return None;
+    Former {
+        number: count_of(partial.show(Func::Count)),
+        shown: partial.show(func),
     }
-    Some(Former {
-        number,
-        shown: bundle.show(func),
-    })
 }
 
-// How many values were lifted into a bundle.
-fn count_of(bundle: &Bundle) -> u64
-    ensures { (values : List ℤ) → bundle.now ≡ bundle_of values → length values < 2 ^ 64
-        → result ≡ length values }
+// The number that a count shows.
+fn count_of(shown: Shown) -> u64
+    ensures { (n : ℕ) → shown ≡ Shown.Whole (pos n) → n < 2 ^ 64 → result ≡ n }
 {
-    // A mean is shown with its count, as a number of 64 bits.
-    match bundle.show(Func::Mean) {
-        Shown::Ratio { count, .. } => count,
-        Shown::Whole(_) => 0,
+    match shown {
+        Shown::Whole(count) => u64::try_from(count).unwrap_or(0),
+        Shown::Ratio { .. } => 0,
     }
+}
+
+/// What stood of an interval that shows this, if it held a tuple.
+pub fn former(shown: Former) -> Option<Former>
+    ensures { (func : Func) (i : Instance) → shown ≡ former_of func i
+        → result ≡ former_if func i }
+{
+    if shown.number == 0 {
+        return None;
+    }
+    Some(shown)
 }

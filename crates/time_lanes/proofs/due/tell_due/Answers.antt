@@ -37,8 +37,8 @@ loop-low-preserved g c =
     record {
       told = λ f le.
           told_on (new_at c.args.owner.window c.args.owner.key.now c.args.owner.func span.length (tuples_of s)) c.loop-low.out.items c.tell_one.new.out.items low (due_from span.length span.slide (tuples_of s) c.loop-low.start c.args.new) (due_from span.length span.slide (tuples_of s) (low + span.slide) c.args.new) (due_from span.length span.slide (tuples_of s) c.args.from c.args.new) c.args.out.now.items (h.told f le) d.due
-          (t.told (held_onward c.loop-low.start low c.loop-low.held.to s.slices c.loop-low.held.partials o d.onward d.none_between (h.held f)) (omega (arith, h.short le, d.onward)));
-      held = λ f. t.held (held_onward c.loop-low.start low c.loop-low.held.to s.slices c.loop-low.held.partials o d.onward d.none_between (h.held f));
+          (t.told (held_onward g.M.Partial.of_values c.loop-low.start low c.loop-low.held.to s.slices c.loop-low.held.partials o d.onward d.none_between (h.held f)) (omega (arith, h.short le, d.onward)));
+      held = λ f. t.held (held_onward g.M.Partial.of_values c.loop-low.start low c.loop-low.held.to s.slices c.loop-low.held.partials o d.onward d.none_between (h.held f));
       short = λ le. omega (arith, h.short le, t.to, d.onward);
       onward = omega (arith, h.onward, d.onward);
       within = omega (arith, (d.multiple).1, start_behind span.length span.slide k c.args.new span.within.moves (omega (arith, (d.multiple).1, d.ends)));

@@ -12,10 +12,10 @@ use Rattle.time_lanes.proofs.due.tell_due.Given as goal
 
 abbrev pub invariant-loop-low : goal.invariant-loop-low
 invariant-loop-low g l = record {
-  told : HoldsFrom l.from (g.S.AggStore.stored l.store) l.initial.held → l.initial.held.to ≤ l.from + l.span.length
+  told : HoldsFrom g.M.Partial.of_values l.from (g.S.AggStore.stored l.store) l.initial.held → l.initial.held.to ≤ l.from + l.span.length
       → l.out.items ++ map (new_at l.owner.window l.owner.key.now l.owner.func l.span.length (tuples_of (g.S.AggStore.stored l.store))) (due_from l.span.length l.span.slide (tuples_of (g.S.AggStore.stored l.store)) l.start l.new)
       ≡ l.initial.out.items ++ map (new_at l.owner.window l.owner.key.now l.owner.func l.span.length (tuples_of (g.S.AggStore.stored l.store))) (due_from l.span.length l.span.slide (tuples_of (g.S.AggStore.stored l.store)) l.from l.new);
-  held : HoldsFrom l.from (g.S.AggStore.stored l.store) l.initial.held → HoldsFrom l.start (g.S.AggStore.stored l.store) l.held;
+  held : HoldsFrom g.M.Partial.of_values l.from (g.S.AggStore.stored l.store) l.initial.held → HoldsFrom g.M.Partial.of_values l.start (g.S.AggStore.stored l.store) l.held;
   short : l.initial.held.to ≤ l.from + l.span.length → l.held.to ≤ l.start + l.span.length;
   onward : l.from ≤ l.start;
   within : l.start ≤ max l.from (next_start l.span.length l.span.slide l.new);

@@ -10,5 +10,5 @@ returns-clause-told g c = λ h le.
     let s = (g.S.AggStore.stored c.args.store.now) in
     let span = c.args.span.now in
     let to : c.pull.new.self.to ≡ c.args.low + span.length = omega (arith, c.pull.ensures.to, le) in
-    let shown = shown_of_held span.length span.slide c.args.low c.requires.start.multiple.0 c.pull.new.self.to s.slices c.pull.new.self.partials c.fold-bundle.result c.pull.ensures.holds.slices c.requires.start.parted c.requires.start.multiple.1 to (c.pull.ensures.held h) c.fold-bundle.ensures.value in
-    c.push_reserved.ensures.items ∙ ap (λ row. c.args.out.now.items ++ New row ∷ []) (c.row.ensures (tuples_of s) shown c.pull.ensures.holds.slices.counted)
+    let shown = shown_of_held g.met.M.Partial.partial span.length span.slide c.args.low c.requires.start.multiple.0 c.pull.new.self.to s.slices c.pull.new.self.partials c.fold-partial.result c.pull.ensures.holds.slices c.requires.start.parted c.requires.start.multiple.1 to (c.pull.ensures.held h) c.fold-partial.ensures.value in
+    c.push_reserved.ensures.items ∙ ap (λ row. c.args.out.now.items ++ New row ∷ []) (c.row.ensures (tuples_of s) (c.show-shown.ensures (tuples_of s) c.args.low (c.args.low + span.length) shown c.pull.ensures.holds.slices.counted))

@@ -1,5 +1,6 @@
 -- One interval more is told.
 use Rattle.std.proofs.Common.{◌∙◌, ◌+◌, ◌*◌, ap, arith, length, refl}
+use Rattle.stream_base.specs.Model.Windows.{interval}
 use Rattle.agg_store.specs.Stored.{tuples_of}
 use Rattle.time_lanes.specs.Folds.{slices_under}
 use Rattle.time_lanes.specs.Told.{former_at}
@@ -19,7 +20,7 @@ loop-k-preserved g c =
     let h = c.loop-k.invariant in
     record {
       told =
-          former_more (former_at c.args.func c.args.span.now.length tuples) c.args.into.now.items c.loop-k.into.items c.push_reserved.new.self.items slide c.args.complete.first c.loop-k.k low c.former.result refl h.told (c.former.ensures tuples low (low + c.args.span.now.length) c.fold_interval-folded.ensures.value c.fold_interval-folded.ensures.holds.slices.counted) c.push_reserved.ensures.items;
+          former_more (former_at c.args.func c.args.span.now.length tuples) c.args.into.now.items c.loop-k.into.items c.push_reserved.new.self.items slide c.args.complete.first c.loop-k.k low c.former.result refl h.told (c.former.ensures c.args.func (interval low (low + c.args.span.now.length) tuples) (c.show.ensures tuples low (low + c.args.span.now.length) c.fold_interval-folded.ensures.value c.fold_interval-folded.ensures.holds.slices.counted)) c.push_reserved.ensures.items;
       number = omega (arith, c.push_reserved.ensures.len, h.number);
       capacity = c.push_reserved.ensures.capacity ∙ h.capacity;
       alone = λ one.

@@ -17,7 +17,7 @@ loop-k-preserved g c =
       told =
           let former = get_or c.args.formers.now c.loop-k.k None in
           late_more (told_at c.args.owner.window c.args.owner.key.now c.args.owner.func c.args.span.now.length tuples) c.args.out.now.items c.loop-k.out.items c.push_reserved.new.self.items slide c.args.complete.first c.loop-k.k low c.args.formers.now former None c.told.result refl (omega (arith, c.requires.formers, c.loop-k-test.true)) h.told refl
-          (c.told.ensures ∙ ap (again_or_new former) (c.row-row.ensures tuples c.fold_interval-folded.ensures.value c.fold_interval-folded.ensures.holds.slices.counted)) c.push_reserved.ensures.items;
+          (c.told.ensures ∙ ap (again_or_new former) (c.row-row.ensures tuples (c.show-shown.ensures tuples low (low + c.args.span.now.length) c.fold_interval-folded.ensures.value c.fold_interval-folded.ensures.holds.slices.counted))) c.push_reserved.ensures.items;
       number = omega (arith, c.push_reserved.ensures.len, h.number);
       capacity = c.push_reserved.ensures.capacity ∙ h.capacity;
       alone = λ one.

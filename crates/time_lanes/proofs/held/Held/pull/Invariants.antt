@@ -6,8 +6,8 @@ use Rattle.time_lanes.proofs.held.Held.pull.Given as goal
 
 abbrev pub invariant-loop-slice : goal.invariant-loop-slice
 invariant-loop-slice g l = record {
-  partials : l.self.partials ++ partials_of (runs_within l.at l.to (g.S.AggStore.stored l.store).slices)
-      ≡ l.initial.self.partials ++ partials_of (runs_within l.initial.at l.to (g.S.AggStore.stored l.store).slices);
+  partials : l.self.partials ++ partials_of g.M.Partial.of_values (runs_within l.at l.to (g.S.AggStore.stored l.store).slices)
+      ≡ l.initial.self.partials ++ partials_of g.M.Partial.of_values (runs_within l.initial.at l.to (g.S.AggStore.stored l.store).slices);
   to : l.self.to ≡ l.initial.self.to;
   spare : l.self.spare + length (runs_within l.initial.at l.to (g.S.AggStore.stored l.store).slices)
       ≡ l.initial.self.spare + length (runs_within l.at l.to (g.S.AggStore.stored l.store).slices);

@@ -21,8 +21,8 @@ pull-requires g c =
     let d = c.serve.result.def in
     let s = (g.S.AggStore.stored c.args.store.now) in
     let o = c.shed.ensures.ordered in
-    let to = ap (λ (l : Laned). l.to) c.self.view_is ∙ c.refresh.ensures.to in
-    let spare = ap (λ (l : Laned). l.spare) c.self.view_is in
+    let to = ap (λ (l : Laned _). l.to) c.self.view_is ∙ c.refresh.ensures.to in
+    let spare = ap (λ (l : Laned _). l.spare) c.self.view_is in
     let room = taken_is d.kind span.length span.slide c.serve.ensures.length c.serve.ensures.slide c.next_start-start.result c.self.inside.held.to c.args.old c.args.new c.args.self.now s.slices c.next_start-start.ensures.start to in
     let rises = next_rises span.length span.slide span.within c.args.old c.args.new c.requires.order in
     let left = left_at_most s.slices o c.tell_due-told.result c.next_start-next.result c.tell_due-told.new.held.to c.shed.new.self.to _ c.last_end.result (omega (arith, rises, c.tell_due-told.ensures.within, c.next_start-start.ensures.start, c.next_start-next.ensures.start)) c.shed.ensures.to c.last_end.ensures.end in
@@ -34,16 +34,16 @@ returns-clause-changes g c = λ def gone marks stands may.
     let d = c.serve.result.def in
     let s = (g.S.AggStore.stored c.args.store.now) in
     let same : def ≡ d = same_window c.args.defs.now.windows c.args.window def d stands c.serve.ensures.stands in
-    let here = subst (λ (e : Def). MayMove e.kind c.args.old gone s c.args.self.now) same may in
+    let here = subst (λ (e : Def). MayMove g.M.Partial.of_values e.kind c.args.old gone s c.args.self.now) same may in
     let k = knows_at d.kind span.length span.slide c.serve.ensures.length c.serve.ensures.slide c.args.old s c.args.self.now here.knows in
-    let to = ap (λ (l : Laned). l.to) c.self.view_is ∙ c.refresh.ensures.to in
-    let partials = ap (λ (l : Laned). l.partials) c.self.view_is ∙ c.refresh.ensures.partials in
-    let held = begins span.length span.slide span.within c.args.old s c.args.self.now c.self.inside.held partials to k.held in
+    let to = ap (λ (l : Laned _). l.to) c.self.view_is ∙ c.refresh.ensures.to in
+    let partials = ap (λ (l : Laned _). l.partials) c.self.view_is ∙ c.refresh.ensures.partials in
+    let held = begins span.length span.slide span.within c.args.old s c.args.self.now c.self.inside.held partials to g.M.Partial.of_values k.held in
     let reached = goes_to span.length span.slide span.within c.args.old s c.args.self.now c.self.inside.held partials to k.reached in
     let out = c.tell_due-told.new.out.items in
     subst (λ (e : Def). out ≡ c.args.out.now.items ++ completions c.args.key.now (moment (gone ++ tuples_of s) marks c.args.old) c.args.new (c.args.window, e)) (sym same)
     (move_changes c.args.window c.args.key.now d c.args.old c.args.new gone (tuples_of s) marks span.length span.slide c.next_start-start.result c.args.out.now.items out c.serve.ensures.timed (span_of_kind d.kind c.serve.ensures.timed c.serve.ensures.within) here.apart c.serve.ensures.length c.serve.ensures.slide c.next_start-start.ensures.start
-    (c.tell_due-told.ensures.told (subst (λ n. HoldsFrom n s c.self.inside.held) (sym c.next_start-start.ensures.start) held) (omega (arith, reached, last_at_most span.length span.slide span.within c.args.old, ends_above span.length span.slide span.within c.args.old, c.next_start-start.ensures.start))))
+    (c.tell_due-told.ensures.told (subst (λ n. HoldsFrom g.M.Partial.of_values n s c.self.inside.held) (sym c.next_start-start.ensures.start) held) (omega (arith, reached, last_at_most span.length span.slide span.within c.args.old, ends_above span.length span.slide span.within c.args.old, c.next_start-start.ensures.start))))
 
 -- how far the slices go that are held in the end
 ends_at : (g : given.Over) (c : goal.After-pull g) → c.self.inside.held.to ≤ last_end c.serve.result.span.length c.serve.result.span.slide c.args.old → c.pull.new.self.to ≡ last_end c.serve.result.span.length c.serve.result.span.slide c.args.new
@@ -58,22 +58,22 @@ returns-clause-knows g c = λ def stands knows.
     let d = c.serve.result.def in
     let s = (g.S.AggStore.stored c.args.store.now) in
     let same : def ≡ d = same_window c.args.defs.now.windows c.args.window def d stands c.serve.ensures.stands in
-    let k = knows_at d.kind span.length span.slide c.serve.ensures.length c.serve.ensures.slide c.args.old s c.args.self.now (subst (λ (e : Def). Knows e.kind c.args.old s c.args.self.now) same knows) in
-    let to = ap (λ (l : Laned). l.to) c.self.view_is ∙ c.refresh.ensures.to in
-    let partials = ap (λ (l : Laned). l.partials) c.self.view_is ∙ c.refresh.ensures.partials in
-    let held = begins span.length span.slide span.within c.args.old s c.args.self.now c.self.inside.held partials to k.held in
+    let k = knows_at d.kind span.length span.slide c.serve.ensures.length c.serve.ensures.slide c.args.old s c.args.self.now (subst (λ (e : Def). Knows g.M.Partial.of_values e.kind c.args.old s c.args.self.now) same knows) in
+    let to = ap (λ (l : Laned _). l.to) c.self.view_is ∙ c.refresh.ensures.to in
+    let partials = ap (λ (l : Laned _). l.partials) c.self.view_is ∙ c.refresh.ensures.partials in
+    let held = begins span.length span.slide span.within c.args.old s c.args.self.now c.self.inside.held partials to g.M.Partial.of_values k.held in
     let reached = goes_to span.length span.slide span.within c.args.old s c.args.self.now c.self.inside.held partials to k.reached in
     let last : c.pull.new.self.to ≡ last_end span.length span.slide c.args.new = ends_at g c reached in
     let rises = next_rises span.length span.slide span.within c.args.old c.args.new c.requires.order in
-    let walked = c.tell_due-told.ensures.held (subst (λ n. HoldsFrom n s c.self.inside.held) (sym c.next_start-start.ensures.start) held) in
+    let walked = c.tell_due-told.ensures.held (subst (λ n. HoldsFrom g.M.Partial.of_values n s c.self.inside.held) (sym c.next_start-start.ensures.start) held) in
     let shed = c.shed.ensures.held (omega (arith, rises, c.tell_due-told.ensures.within, c.next_start-start.ensures.start, c.next_start-next.ensures.start)) walked in
-    let now : Laned = record { partials = c.pull.new.self.partials; to = c.pull.new.self.to; stale = c.self.inside.stale; spare = c.pull.new.self.spare; credit = c.pull.new.self.credit } in
-    subst (λ (e : Def). Knows e.kind c.args.new s now) (sym same)
+    let now : Laned _ = record { partials = c.pull.new.self.partials; to = c.pull.new.self.to; stale = c.self.inside.stale; spare = c.pull.new.self.spare; credit = c.pull.new.self.credit } in
+    subst (λ (e : Def). Knows g.M.Partial.of_values e.kind c.args.new s now) (sym same)
     (knows_of d.kind span.length span.slide c.serve.ensures.length c.serve.ensures.slide c.args.new s now
     record {
       reached = omega (arith, last);
       edge = subst (IsEdge span.length span.slide) (sym last) (last_is_edge span.length span.slide span.within c.args.new);
-      held = λ f. subst (λ n. HoldsFrom n s c.pull.new.self) c.next_start-next.ensures.start (c.pull.ensures.held shed);
+      held = λ f. subst (λ n. HoldsFrom g.M.Partial.of_values n s c.pull.new.self) c.next_start-next.ensures.start (c.pull.ensures.held shed);
     })
 
 pub returns-clause-knows_all : goal.returns-clause-knows_all
@@ -82,10 +82,10 @@ returns-clause-knows_all g c = λ def stands.
     let d = c.serve.result.def in
     let s = (g.S.AggStore.stored c.args.store.now) in
     let same : def ≡ d = same_window c.args.defs.now.windows c.args.window def d stands c.serve.ensures.stands in
-    let now : Laned = record { partials = c.pull.new.self.partials; to = c.pull.new.self.to; stale = c.self.inside.stale; spare = c.pull.new.self.spare; credit = c.pull.new.self.credit } in
+    let now : Laned _ = record { partials = c.pull.new.self.partials; to = c.pull.new.self.to; stale = c.self.inside.stale; spare = c.pull.new.self.spare; credit = c.pull.new.self.credit } in
     subst (λ (e : Def). KnowsAll e.kind c.args.new s now) (sym same)
     record {
-      fresh = ap (λ (l : Laned). l.stale) c.self.view_is ∙ c.refresh.ensures.stale;
+      fresh = ap (λ (l : Laned _). l.stale) c.self.view_is ∙ c.refresh.ensures.stale;
       none_missed = none_missed_at d.kind span.length span.slide c.serve.ensures.length c.serve.ensures.slide c.args.new s.slices c.pull.new.self.to (omega (arith, c.pull.ensures.to, c.last_end.ensures.end));
     }
 
@@ -109,8 +109,8 @@ all_steps : (g : given.Over) (c : goal.After-pull g)
 all_steps g c =
     let span = c.serve.result.span in
     let s = (g.S.AggStore.stored c.args.store.now) in
-    let to = ap (λ (l : Laned). l.to) c.self.view_is ∙ c.refresh.ensures.to in
-    let credit = ap (λ (l : Laned). l.credit) c.self.view_is in
+    let to = ap (λ (l : Laned _). l.to) c.self.view_is ∙ c.refresh.ensures.to in
+    let credit = ap (λ (l : Laned _). l.credit) c.self.view_is in
     let same : length (runs_within (max (next_start span.length span.slide c.args.old) c.self.inside.held.to) (last_end span.length span.slide c.args.new) s.slices) ≡ length (runs_within (max (next_start span.length span.slide c.args.old) (fresh_to c.args.self.now)) (last_end span.length span.slide c.args.new) s.slices) = λ i. length (runs_within (max (next_start span.length span.slide c.args.old) (to i)) (last_end span.length span.slide c.args.new) s.slices) in
     omega (arith, same, credit, c.refresh.ensures.credit, steps_of_walk g c)
 
@@ -121,17 +121,17 @@ returns-clause-work g c = λ def stands knows.
     let d = c.serve.result.def in
     let s = (g.S.AggStore.stored c.args.store.now) in
     let same : def ≡ d = same_window c.args.defs.now.windows c.args.window def d stands c.serve.ensures.stands in
-    let k = knows_at d.kind span.length span.slide c.serve.ensures.length c.serve.ensures.slide c.args.old s c.args.self.now (subst (λ (e : Def). Knows e.kind c.args.old s c.args.self.now) same knows) in
-    let to = ap (λ (l : Laned). l.to) c.self.view_is ∙ c.refresh.ensures.to in
-    let partials = ap (λ (l : Laned). l.partials) c.self.view_is ∙ c.refresh.ensures.partials in
-    let credit = ap (λ (l : Laned). l.credit) c.self.view_is in
-    let held : HoldsFrom (next_start span.length span.slide c.args.old) s c.self.inside.held = begins span.length span.slide span.within c.args.old s c.args.self.now c.self.inside.held partials to k.held in
-    let number = ap length held ∙ partials_length (runs_within (next_start span.length span.slide c.args.old) c.self.inside.held.to s.slices) in
+    let k = knows_at d.kind span.length span.slide c.serve.ensures.length c.serve.ensures.slide c.args.old s c.args.self.now (subst (λ (e : Def). Knows g.M.Partial.of_values e.kind c.args.old s c.args.self.now) same knows) in
+    let to = ap (λ (l : Laned _). l.to) c.self.view_is ∙ c.refresh.ensures.to in
+    let partials = ap (λ (l : Laned _). l.partials) c.self.view_is ∙ c.refresh.ensures.partials in
+    let credit = ap (λ (l : Laned _). l.credit) c.self.view_is in
+    let held : HoldsFrom g.M.Partial.of_values (next_start span.length span.slide c.args.old) s c.self.inside.held = begins span.length span.slide span.within c.args.old s c.args.self.now c.self.inside.held partials to g.M.Partial.of_values k.held in
+    let number = ap length held ∙ partials_length g.M.Partial.of_values (runs_within (next_start span.length span.slide c.args.old) c.self.inside.held.to s.slices) in
     let reached = goes_to span.length span.slide span.within c.args.old s c.args.self.now c.self.inside.held partials to k.reached in
     let taken = held_and_taken span.length span.slide span.within c.args.old c.args.new c.requires.order s.slices c.pull.ensures.holds.slices.ordered c.self.inside.held.to reached in
     let until = until_is d.kind span.length span.slide c.serve.ensures.length c.serve.ensures.slide c.args.old c.args.new s.slices in
     let due = due_is d.kind span.length span.slide c.serve.ensures.length c.serve.ensures.slide c.next_start-start.result c.args.old c.args.new (tuples_of s) c.next_start-start.ensures.start in
-    let left = ap (λ (l : Laned). length l.partials) c.self.view_is in
+    let left = ap (λ (l : Laned _). length l.partials) c.self.view_is in
     subst (λ (e : Def). c.pull.new.steps ≤ c.args.steps.now + 10 * length (slices_until e.kind s c.args.old c.args.new) + length (completed_starts e.kind (tuples_of s) c.args.old c.args.new)) (sym same)
     (omega (arith, steps_of_walk g c, c.refresh.ensures.little, credit, left, number, taken, until, due))
 
@@ -141,7 +141,7 @@ returns-clause-cost_touched g c = λ def stands knows.
     let d = c.serve.result.def in
     let s = (g.S.AggStore.stored c.args.store.now) in
     let same : def ≡ d = same_window c.args.defs.now.windows c.args.window def d stands c.serve.ensures.stands in
-    let k = knows_at d.kind span.length span.slide c.serve.ensures.length c.serve.ensures.slide c.args.old s c.args.self.now (subst (λ (e : Def). Knows e.kind c.args.old s c.args.self.now) same knows) in
+    let k = knows_at d.kind span.length span.slide c.serve.ensures.length c.serve.ensures.slide c.args.old s c.args.self.now (subst (λ (e : Def). Knows g.M.Partial.of_values e.kind c.args.old s c.args.self.now) same knows) in
     let taken = taken_at_most span.length span.slide span.within c.args.old c.args.new c.requires.order s.slices c.pull.ensures.holds.slices.ordered (fresh_to c.args.self.now) (fresh_at_most c.args.self.now (last_end span.length span.slide c.args.old) k.reached) in
     let between = between_is d.kind span.length span.slide c.serve.ensures.length c.serve.ensures.slide c.args.old c.args.new s.slices in
     let last = in_last_is d.kind span.length span.slide c.serve.ensures.length c.serve.ensures.slide c.args.old s.slices in
@@ -155,7 +155,7 @@ returns-clause-cost g c = λ def stands knows all.
     let d = c.serve.result.def in
     let s = (g.S.AggStore.stored c.args.store.now) in
     let same : def ≡ d = same_window c.args.defs.now.windows c.args.window def d stands c.serve.ensures.stands in
-    let k = knows_at d.kind span.length span.slide c.serve.ensures.length c.serve.ensures.slide c.args.old s c.args.self.now (subst (λ (e : Def). Knows e.kind c.args.old s c.args.self.now) same knows) in
+    let k = knows_at d.kind span.length span.slide c.serve.ensures.length c.serve.ensures.slide c.args.old s c.args.self.now (subst (λ (e : Def). Knows g.M.Partial.of_values e.kind c.args.old s c.args.self.now) same knows) in
     let none = missed_at d.kind span.length span.slide c.serve.ensures.length c.serve.ensures.slide c.args.old s c.args.self.now (subst (λ (e : Def). KnowsAll e.kind c.args.old s c.args.self.now) same all) in
     let taken = taken_where_none_missed span.length span.slide span.within c.args.old c.args.new c.requires.order s.slices c.pull.ensures.holds.slices.ordered (fresh_to c.args.self.now) (fresh_at_most c.args.self.now (last_end span.length span.slide c.args.old) k.reached) none in
     let between = between_is d.kind span.length span.slide c.serve.ensures.length c.serve.ensures.slide c.args.old c.args.new s.slices in

@@ -2,22 +2,21 @@
 use Rattle.std.proofs.Common.{◌∙◌, ◌+◌, ◌*◌, None, ap, arith, get_or, refl}
 use Rattle.agg_store.specs.Stored.{tuples_of}
 use Rattle.time_lanes.specs.Told.{again_or_new, told_at}
-use Rattle.time_lanes.proofs.ShareFacts.{read_at}
 use Rattle.time_lanes.proofs.ToldFacts.{late_more}
-use Rattle.time_lanes.proofs.late.append_folded_late.Goals as goal
+use Rattle.time_lanes.proofs.late.append_shown_late.Goals as goal
 
 pub loop-k-preserved : goal.loop-k-preserved
 loop-k-preserved g c =
     let slide = c.args.span.now.slide in
     let tuples = tuples_of (g.S.AggStore.stored c.args.store.now) in
     let low = (c.args.complete.first + c.loop-k.k) * slide in
-    let value = read_at c.fold_together.new.folds c.loop-k.k c.index-folded-k.result (omega arith) ∙ c.fold_together.ensures.folds c.loop-k.k c.loop-k-test.true in
+    let value = c.show_together.ensures.shown c.loop-k.k c.loop-k-test.true in
     let h = c.loop-k.invariant in
     record {
       told =
           let former = get_or c.args.formers.now c.loop-k.k None in
           late_more (told_at c.args.owner.window c.args.owner.key.now c.args.owner.func c.args.span.now.length tuples) c.args.out.now.items c.loop-k.out.items c.push_reserved.new.self.items slide c.args.complete.first c.loop-k.k low c.args.formers.now former None c.told.result refl (omega (arith, c.requires.formers, c.loop-k-test.true)) h.told refl
-          (c.told.ensures ∙ ap (again_or_new former) (c.row-row.ensures tuples (c.index-folded-k.is ∙ value) c.requires.holds.slices.counted)) c.push_reserved.ensures.items;
+          (c.told.ensures ∙ ap (again_or_new former) (c.row-row.ensures tuples (value _))) c.push_reserved.ensures.items;
       number = omega (arith, c.push_reserved.ensures.len, h.number);
       capacity = c.push_reserved.ensures.capacity ∙ h.capacity;
     }
