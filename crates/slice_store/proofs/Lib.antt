@@ -1,3 +1,4 @@
+pub mod AnyOrder
 pub mod PartialFacts
 pub mod EnterFacts
 pub mod CountFacts

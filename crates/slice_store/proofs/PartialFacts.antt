@@ -17,7 +17,7 @@ use Rattle.slice_lists.specs.Slices.{AreSlices, entered_at, values_of}
 use Rattle.agg_store.specs.Stored.{partial_of}
 use Rattle.slice_lists.proofs.SliceOrder.{IsApart, IsNear, behind_at, first_below_last, first_of_both, part_at, reach}
 use Rattle.slice_lists.proofs.SliceParts.{in_parts}
-use Rattle.slice_lists.proofs.SliceFacts.{values_at, run_of, put_at_end, put_at_front, put_between, first_behind, entered_none, entered_one, entered_two}
+use Rattle.slice_lists.proofs.SliceFacts.{values_at, run_of, put_at_front, put_between, first_behind, entered_none, entered_one, entered_two}
 
 module _ {M : Type 0} (of_values : List ℤ → M) where
   -- ---- slices and their keys
@@ -133,14 +133,6 @@ module _ {M : Type 0} (of_values : List ℤ → M) where
       refolded_there late b is =
           partial_other runs at l o (put_in_order (get_or runs at []) x) b (first_behind (get_or runs at []) x (run_of runs at l o) late) is
           ∙ ap (map (partial_of of_values)) (sym one_is)
-
-      pub extended_there : last_time (get_or runs at []) ≤ x.time → (b : M) → b ≡ of_values (values_of (get_or runs at []) ++ x.value ∷ []) → replaced (first_time (get_or runs at [])) b (map (partial_of of_values) runs) ≡ map (partial_of of_values) (entered_at at to x runs)
-      extended_there late b is =
-          let p = get_or runs at [] in
-          let r : IsRun IsNear p = run_of runs at l o in
-          let f : first_time p ≤ last_time p = first_below_last p r in
-          refolded_there (omega arith) b
-          (is ∙ ap of_values (sym (ap values_of (put_at_end p x r late) ∙ map-append (λ (y : Kept). y.value) p (x ∷ []))))
 
       module _ (early : x.time < first_time (get_or runs at [])) where
         front_is : entered_at at to x runs ≡ take at runs ++ (x ∷ get_or runs at []) ∷ drop (suc at) runs

@@ -1,5 +1,5 @@
 //! A tuple enters the slices that it is near to, and what becomes of their partials.
-ghost use Rattle.std.specs.Prelude.{◌≡◌, ◌≤◌, ◌<◌, ◌+◌, ◌-◌, ◌*◌, [], length, slice_index_or};
+ghost use Rattle.std.specs.Prelude.{◌≡◌, ◌≤◌, ◌<◌, ◌+◌, ◌-◌, ◌*◌, [], length, slice_index_or, true, false};
 ghost use Rattle.stream_base.specs.Model.Windows.{first_time, last_time};
 ghost use Rattle.partials.specs.Apart.{SpendsNear};
 ghost use Rattle.slice_lists.specs.Slices.{entered_at, joined, slices_between};
@@ -29,7 +29,8 @@ fn add<M: Partial, T: AggTree<M>, L>(
     runs.enter(at, at, x);
 }
 
-// The tuple comes behind those of a slice: its partial is combined with it once.
+// The tuple comes behind those of a slice, or anywhere in it where order makes no difference: its
+// partial is combined with it once, however many tuples it has.
 fn extend<M: Partial, T: AggTree<M>, L>(
     runs: &mut Runs<M>,
     partials: &mut Partials<M, T>,
@@ -38,7 +39,9 @@ fn extend<M: Partial, T: AggTree<M>, L>(
     steps: &mut Steps<L>,
 )
     requires may { MayEnter M.of_values at (at + 1) x runs.old partials.old }
-    requires late { last_time (slice_index_or (runs.old).slices at []) ≤ x.time }
+    requires late { first_time (slice_index_or (runs.old).slices at []) ≤ x.time }
+    requires behind { M.any_order ≡ false
+        → last_time (slice_index_or (runs.old).slices at []) ≤ x.time }
     ensures follow { Follow M.of_values (entered_at at (at + 1) x (runs.old).slices)
         runs.old partials.old runs.new partials.new }
     ensures near { SpendsNear T.near (length (runs.old).slices - (at + 1)) (partials.old).reach 2
@@ -71,7 +74,8 @@ fn front<M: Partial, T: AggTree<M>, L>(
     runs.enter(at, at + 1, x);
 }
 
-// The tuple comes between those of a slice, whose tuples are folded anew in event order.
+// The tuple comes between those of a slice, whose tuples are folded anew in event order, since that
+// makes a difference.
 fn refold<M: Partial, T: AggTree<M>, L>(
     runs: &mut Runs<M>,
     partials: &mut Partials<M, T>,
@@ -135,6 +139,10 @@ pub fn enter<M: Partial, T: AggTree<M>, L>(
     ensures in_order { last_time (joined (runs.old).slices) ≤ x.time
         → steps.new ≤ steps.old + 128 * ((partials.old).reach + 3) }
 
+    // Where order makes no difference, no slice is folded anew.
+    ensures any_order { M.any_order ≡ true
+        → steps.new ≤ steps.old + 128 * ((partials.old).reach + 3) }
+
     // A tuple behind those of its slice refolds none.
     ensures behind { from < to → last_time (slice_index_or (runs.old).slices from []) ≤ x.time
         → steps.new ≤ steps.old + 128 * ((partials.old).reach + 3) }
@@ -153,10 +161,10 @@ pub fn enter<M: Partial, T: AggTree<M>, L>(
         return merge(runs, partials, from, x, steps);
     }
     let slice = runs.slice(from);
-    if slice.high <= x.time {
-        extend(runs, partials, from, x, steps);
-    } else if x.time < slice.low {
+    if x.time < slice.low {
         front(runs, partials, from, x, steps);
+    } else if slice.high <= x.time || M::in_any_order() {
+        extend(runs, partials, from, x, steps);
     } else {
         refold(runs, partials, from, x, steps);
     }

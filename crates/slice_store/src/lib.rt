@@ -11,7 +11,7 @@
 //!
 //! - `entering`, `splitting`, `leaving`: how the partials follow where a tuple enters slices, one is
 //!   split or the first ones leave. Tuples of a slice are folded anew only where one comes between two
-//!   of them, or where it is split.
+//!   of them and their order makes a difference, or where it is split.
 //! - `store`: where a tuple enters and a mark cuts, by the definitions.
 #![tactic(auto)]
 

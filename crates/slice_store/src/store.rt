@@ -95,8 +95,9 @@ impl<M: Partial, T: AggTree<M>> SliceStore<M, T> {
     /// Puts a tuple in its place in event order, behind those of its time, and says what that did to
     /// the slices. It enters the slices that it is near to: in none it becomes a slice of its own,
     /// and two neighbours become one with it. Work is done on the tuples of a slice only where it
-    /// comes between two of them, and else grows with the logarithm of how many slices begin later,
-    /// where the tree has a finger at its end: no other slice is looked at.
+    /// comes between two of them and their order makes a difference, and else grows with the
+    /// logarithm of how many slices begin later, where the tree has a finger at its end: no other
+    /// slice is looked at.
     pub fn put<L>(
         &mut self,
         defs: &Defs,
@@ -121,6 +122,10 @@ impl<M: Partial, T: AggTree<M>> SliceStore<M, T> {
 
         // A tuple in order refolds no slice.
         ensures in_order { is_last time self.old ≡ true
+            → steps.new ≤ steps.old + 128 * (self.old.reach + 3) }
+
+        // Where order makes no difference, no tuple refolds a slice, however long that is.
+        ensures any_order { M.any_order ≡ true
             → steps.new ≤ steps.old + 128 * (self.old.reach + 3) }
 
         // A late tuple goes by how many slices begin after it.

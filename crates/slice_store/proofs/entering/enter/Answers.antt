@@ -13,12 +13,14 @@ add-requires g c = record {
   stand = c.requires.stand;
 }
 
-pub returns-else-x-slice-clause-in_order : goal.returns-else-x-slice-clause-in_order
-returns-else-x-slice-clause-in_order g c = λ h.
+pub returns-else-in_any_order-clause-in_order : goal.returns-else-in_any_order-clause-in_order
+returns-else-in_any_order-clause-in_order g c = λ h.
     let runs = c.args.runs.now.slices in
     let l : c.args.from < length runs = omega (arith, c.requires.can.within) in
-    absurd (omega (arith, h, slice_ends runs c.args.from l c.slice-slice.ensures.holds.ordered, ap (λ (s : Slice). s.high) c.slice-slice.ensures.shown, c.if-slice-x.false))
+    let early : c.args.x.time < c.slice-slice.result.high = omega arith in
+    absurd (omega (arith, h, slice_ends runs c.args.from l c.slice-slice.ensures.holds.ordered, ap (λ (s : Slice). s.high) c.slice-slice.ensures.shown, early))
 
-pub returns-else-x-slice-clause-behind : goal.returns-else-x-slice-clause-behind
-returns-else-x-slice-clause-behind g c = λ l h.
-    absurd (omega (arith, h, ap (λ (s : Slice). s.high) c.slice-slice.ensures.shown, c.if-slice-x.false))
+pub returns-else-in_any_order-clause-behind : goal.returns-else-in_any_order-clause-behind
+returns-else-in_any_order-clause-behind g c = λ l h.
+    let early : c.args.x.time < c.slice-slice.result.high = omega arith in
+    absurd (omega (arith, h, ap (λ (s : Slice). s.high) c.slice-slice.ensures.shown, early))

@@ -1,16 +1,14 @@
--- The partial of the slice is combined with the tuple behind it.
-use Rattle.std.proofs.Common.{◌≡◌, ◌∙◌, ◌<◌, ◌+◌, ◌-◌, [], ◌∷◌, ◌++◌, Some, ap, sym, map, refl, arith, length, get_or}
-use Rattle.std.specs.Prelude.{FitsSigned}
-use Rattle.std.specs.Int.{w64}
-use Rattle.std.proofs.lemmas.List.Elements.{All-cons, All-nil}
+-- The partial of the slice is combined with the tuple, which comes behind the others or may come anywhere.
+use Rattle.std.proofs.Common.{◌≡◌, ◌∙◌, ◌<◌, ◌+◌, ◌-◌, [], Some, ap, sym, map, refl, arith, length, get_or}
+use Rattle.stream_base.specs.Model.Journal.{put_in_order}
 use Rattle.stream_base.specs.Model.Windows.{first_time}
 use Rattle.agg_laws.specs.Pairs.{distance, has_key, replaced, value_at}
-use Rattle.aggregates.proofs.Partials.{of_values-append}
 use Rattle.slice_lists.specs.declared.slice.Slice.{Slice}
 use Rattle.slice_lists.specs.Slices.{values_of}
 use Rattle.agg_store.specs.Stored.{partial_of}
-use Rattle.slice_lists.proofs.SliceFacts.{values_at}
-use Rattle.slice_store.proofs.PartialFacts.{extended_there, partial_behind, partial_found, slice_is_value, partial_there}
+use Rattle.slice_lists.proofs.SliceFacts.{run_of, values_at}
+use Rattle.slice_store.proofs.PartialFacts.{partial_behind, partial_found, partial_there, refolded_there, slice_is_value}
+use Rattle.slice_store.proofs.AnyOrder.{combined_once}
 use Rattle.slice_store.proofs.CostFacts.{spends_more}
 use Rattle.slice_store.proofs.CountFacts.{few_slices}
 use Rattle.slice_store.proofs.entering.extend.Goals as goal
@@ -27,24 +25,27 @@ extend-requires g c =
 
 pub returns-clause-follow : goal.returns-clause-follow
 returns-clause-follow g c =
+    let of_values = g.M.Partial.of_values in
+    let op = g.M.Monoid.op in
     let runs = c.args.runs.now.slices in
     let p = get_or runs c.args.at [] in
     let x = c.args.x in
+    let holds = c.slice-low.ensures.holds in
     let l : c.args.at < length runs = omega (arith, c.requires.may.can.within) in
-    let found : value_at c.slice-low.result.low c.args.partials.now.pairs ≡ Some (g.M.Partial.of_values (values_of p)) =
+    let found : value_at c.slice-low.result.low c.args.partials.now.pairs ≡ Some (of_values (values_of p)) =
     ap (λ (s : Slice). value_at s.low c.args.partials.now.pairs) c.slice-low.ensures.shown
     ∙ ap (value_at (first_time p)) c.requires.may.stand
-    ∙ partial_found g.M.Partial.of_values runs c.args.at l c.slice-low.ensures.holds.ordered in
-    let both : g.M.Monoid.op (g.M.Partial.of_values (values_of p)) c.lifted.result ≡ g.M.Partial.of_values (values_of p ++ x.value ∷ []) =
-    ap (g.M.Monoid.op (g.M.Partial.of_values (values_of p))) c.lifted.ensures
-    ∙ of_values-append g.met.M.Partial.partial (values_of p) (x.value ∷ []) (values_at runs c.args.at l c.slice-low.ensures.holds) (All-cons (FitsSigned w64) x.value [] c.requires.may.can.value (All-nil (FitsSigned w64))) in
+    ∙ partial_found of_values runs c.args.at l holds.ordered in
+    let both : op (of_values (values_of p)) c.lifted.result ≡ of_values (values_of (put_in_order p x)) =
+    ap (op (of_values (values_of p))) c.lifted.ensures
+    ∙ combined_once g.met.M.Partial.partial g.M.Partial.any_order g.met.M.Partial.commutes p x (run_of runs c.args.at l holds.ordered) (values_at runs c.args.at l holds) c.requires.may.can.value c.requires.behind in
     record {
       slices = c.enter.ensures.slices;
       holds = c.enter.ensures.holds;
-      stand = c.extend.ensures.extended (g.M.Partial.of_values (values_of p)) (slice_is_value g.met.M.Partial.partial runs c.args.at l c.slice-low.ensures.holds) found
-          ∙ (λ i. replaced (ap (λ (s : Slice). s.low) c.slice-low.ensures.shown i) (g.M.Monoid.op (g.M.Partial.of_values (values_of p)) c.lifted.result) (c.requires.may.stand i))
-          ∙ extended_there g.M.Partial.of_values runs c.args.at (c.args.at + 1) x c.slice-low.ensures.holds.ordered c.requires.may.can.ordered refl l c.requires.late (g.M.Monoid.op (g.M.Partial.of_values (values_of p)) c.lifted.result) both
-          ∙ ap (map (partial_of g.M.Partial.of_values)) (sym c.enter.ensures.slices);
+      stand = c.extend.ensures.extended (of_values (values_of p)) (slice_is_value g.met.M.Partial.partial runs c.args.at l holds) found
+          ∙ (λ i. replaced (ap (λ (s : Slice). s.low) c.slice-low.ensures.shown i) (op (of_values (values_of p)) c.lifted.result) (c.requires.may.stand i))
+          ∙ refolded_there of_values runs c.args.at (c.args.at + 1) x holds.ordered c.requires.may.can.ordered refl l c.requires.late (op (of_values (values_of p)) c.lifted.result) both
+          ∙ ap (map (partial_of of_values)) (sym c.enter.ensures.slices);
       room = c.enter.ensures.spare;
       spare = omega (arith, c.extend.ensures.keeps.spare);
       reach = omega (arith, c.extend.ensures.keeps.reach);
