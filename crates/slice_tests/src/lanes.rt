@@ -31,8 +31,8 @@ enum Step {
 #[derive(Drop)]
 struct Window<Q: AggQueue<Bundle>, T: AggTree<Bundle>> {
     defs: Defs,
-    store: SliceStore<T>,
-    lane: Lane<Q>,
+    store: SliceStore<Bundle, T>,
+    lane: Lane<Bundle, Q>,
     key: KeyText,
     stood: Vec<Option<Former>>,
     changes: Vec<Change>,

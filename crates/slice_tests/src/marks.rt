@@ -31,7 +31,7 @@ enum Step {
 #[derive(Drop)]
 struct MarksWindow<T: AggTree<Bundle>> {
     defs: Defs,
-    store: SliceStore<T>,
+    store: SliceStore<Bundle, T>,
     between: MarkWindows,
     forgotten: u64,
     key: KeyText,

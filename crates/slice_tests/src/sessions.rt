@@ -30,7 +30,7 @@ enum Step {
 #[derive(Drop)]
 struct SessionWindow<T: AggTree<Bundle>> {
     defs: Defs,
-    store: SliceStore<T>,
+    store: SliceStore<Bundle, T>,
     sessions: Sessions,
     forgotten: u64,
     key: KeyText,

@@ -2,7 +2,7 @@ ghost use Rattle.agg_store.specs.Stored.{IsSliced};
 
 use agg_laws::{AggTree, Steps};
 use agg_store::AggStore;
-use aggregates::Bundle;
+use aggregates::{Bundle, Partial, Summary};
 use fiba_arena::ArenaTree;
 use fiba_finger::FingerTree;
 use pair_row::FlatTree;
@@ -29,16 +29,16 @@ enum Step {
 
 // The slices of a key, parted at the cuts of its windows.
 #[derive(Drop)]
-struct Slices<T: AggTree<Bundle>> {
+struct Slices<M: Partial, T: AggTree<M>> {
     defs: Defs,
-    store: SliceStore<T>,
+    store: SliceStore<M, T>,
     steps: Steps<Work>,
     ghost sliced: { IsSliced defs.windows store },
 }
 
-impl<T: AggTree<Bundle>> Slices<T> {
+impl<M: Partial, T: AggTree<M>> Slices<M, T> {
     // The slices of no tuple yet.
-    fn new(alloc: Global, windows: Vec<Def>, steps: Steps<Work>) -> Result<Slices<T>, Fail> {
+    fn new(alloc: Global, windows: Vec<Def>, steps: Steps<Work>) -> Result<Slices<M, T>, Fail> {
         Ok(Slices {
             defs: Defs::new(windows, 0, 0, 0)?,
             store: SliceStore::new(alloc),
@@ -75,6 +75,8 @@ impl<T: AggTree<Bundle>> Slices<T> {
             Step::Fold(func, value) => {
                 let _count = self.store.slice_count();
                 let folded = self.store.fold(0, FINAL, &mut self.steps);
+                let shows = M::can_show(func);
+                assert!(rt; shows, "at step {pos}");
                 assert_eq!(rt; folded.show(func), Shown::Whole(value), "at step {pos}");
             }
         }
@@ -113,7 +115,7 @@ fn window(kind: Kind) -> Def {
 }
 
 // Tuples that come late, in and behind slices of ten.
-fn enters_slices_of_ten<T: AggTree<Bundle> + Drop>(
+fn enters_slices_of_ten<M: Partial, T: AggTree<M> + Drop>(
     rt: &impl Abort,
     alloc: Global,
     steps: Steps<Work>,
@@ -126,7 +128,7 @@ fn enters_slices_of_ten<T: AggTree<Bundle> + Drop>(
         (Step::Fold(Func::Sum, 28), 2),
     ];
     let tumbling = window(Kind::Tumbling { length: 10 });
-    let mut slices: Slices<T> = Slices::new(alloc, vec![in alloc; tumbling]?, steps)?;
+    let mut slices: Slices<M, T> = Slices::new(alloc, vec![in alloc; tumbling]?, steps)?;
     slices.follow(rt, &script)?;
     let second = Slice {
         low: 12,
@@ -142,12 +144,12 @@ fn enters_slices_of_ten<T: AggTree<Bundle> + Drop>(
 
 #[test]
 fn late_tuples_enter_slices_over_a_flat_tree(rt: HostRuntime) -> Result<(), Fail> {
-    enters_slices_of_ten::<FlatTree<Bundle>>(&rt, rt.alloc(), Steps::start(&rt))
+    enters_slices_of_ten::<Bundle, FlatTree<Bundle>>(&rt, rt.alloc(), Steps::start(&rt))
 }
 
 #[test]
 fn late_tuples_enter_slices_over_an_arena_tree(rt: HostRuntime) -> Result<(), Fail> {
-    enters_slices_of_ten::<ArenaTree<Bundle>>(&rt, rt.alloc(), Steps::start(&rt))
+    enters_slices_of_ten::<Bundle, ArenaTree<Bundle>>(&rt, rt.alloc(), Steps::start(&rt))
 }
 
 // With a gap of 4 the tuples at 1 and 2 are a session, and the one at 8 is another. One at 5 is less
@@ -167,7 +169,11 @@ fn a_tuple_between_two_sessions_merges_their_slices(rt: HostRuntime) -> Result<(
     let tumbling = window(Kind::Tumbling { length: 10 });
     let session = window(Kind::Session { gap: 4 });
     let windows = vec![in rt.alloc(); tumbling, session]?;
-    let mut slices: Slices<FlatTree<Bundle>> = Slices::new(rt.alloc(), windows, Steps::start(&rt))?;
+    let mut slices: Slices<Bundle, FlatTree<Bundle>> = Slices::new(
+        rt.alloc(),
+        windows,
+        Steps::start(&rt),
+    )?;
     slices.follow(&rt, &script)
 }
 
@@ -182,7 +188,11 @@ fn a_late_tuple_folds_in_event_order(rt: HostRuntime) -> Result<(), Fail> {
         (Step::Fold(Func::Rises, 1), 1),
     ];
     let windows = vec![in rt.alloc(); window(Kind::Tumbling { length: 10 })]?;
-    let mut slices: Slices<FlatTree<Bundle>> = Slices::new(rt.alloc(), windows, Steps::start(&rt))?;
+    let mut slices: Slices<Bundle, FlatTree<Bundle>> = Slices::new(
+        rt.alloc(),
+        windows,
+        Steps::start(&rt),
+    )?;
     slices.follow(&rt, &script)
 }
 
@@ -199,7 +209,11 @@ fn a_mark_splits_the_slice_that_is_across_it(rt: HostRuntime) -> Result<(), Fail
         (Step::Fold(Func::First, 8), 3),
     ];
     let windows = vec![in rt.alloc(); window(Kind::Marks)]?;
-    let mut slices: Slices<FlatTree<Bundle>> = Slices::new(rt.alloc(), windows, Steps::start(&rt))?;
+    let mut slices: Slices<Bundle, FlatTree<Bundle>> = Slices::new(
+        rt.alloc(),
+        windows,
+        Steps::start(&rt),
+    )?;
     slices.follow(&rt, &script)?;
     let behind = Slice {
         low: 7,
@@ -227,7 +241,7 @@ const LATE: [(u64, u64); 4] = [
 fn a_late_tuple_costs_what_the_slices_behind_it_ask(rt: HostRuntime) -> Result<(), Fail> {
     let windows = vec![in rt.alloc(); window(Kind::Tumbling { length: 10 })]?;
     let steps = Steps::start(&rt);
-    let mut slices: Slices<FingerTree<Bundle>> = Slices::new(rt.alloc(), windows, steps)?;
+    let mut slices: Slices<Bundle, FingerTree<Bundle>> = Slices::new(rt.alloc(), windows, steps)?;
     slices.fill(&rt)?;
     for k in 0..LATE.len() {
         let (time, most) = LATE[k];
@@ -236,4 +250,42 @@ fn a_late_tuple_costs_what_the_slices_behind_it_ask(rt: HostRuntime) -> Result<(
     }
     assert_eq!(rt; slices.store.slice_count(), 1000);
     slices.take(&rt, 2004, Step::Fold(Func::Sum, 2004))
+}
+
+// One long slice, into which a tuple comes late. Where order makes no difference it is combined once;
+// where it does, no more tuples are folded than the slice has.
+fn cost_in_a_long_slice<M: Partial, T: AggTree<M> + Drop>(
+    rt: &impl Abort,
+    alloc: Global,
+    steps: Steps<Work>,
+) -> Result<u64, Fail> {
+    let windows = vec![in alloc; window(Kind::Tumbling { length: 1000 })]?;
+    let mut slices: Slices<M, T> = Slices::new(alloc, windows, steps)?;
+    slices.take(rt, 0, Step::Put(1, 1, Placed::Added))?;
+    for i in 1..300 {
+        slices.take(rt, i, Step::Put(2 * i + 1, 1, Placed::Appended))?;
+    }
+    let cost = slices.cost_of(rt, 300, 100)?;
+    slices.take(rt, 301, Step::Fold(Func::Sum, 301))?;
+    slices.take(rt, 302, Step::Fold(Func::Max, 1))?;
+    Ok(cost)
+}
+
+#[test]
+fn a_late_tuple_is_one_combine_where_order_makes_no_difference(
+    rt: HostRuntime,
+) -> Result<(), Fail> {
+    let lean = cost_in_a_long_slice::<Summary, FlatTree<Summary>>(
+        &rt,
+        rt.alloc(),
+        Steps::start(&rt),
+    )?;
+    assert_eq!(rt; lean, 1);
+    let full = cost_in_a_long_slice::<Bundle, FlatTree<Bundle>>(
+        &rt,
+        rt.alloc(),
+        Steps::start(&rt),
+    )?;
+    assert!(rt; 1 < full && full <= 300, "{full}");
+    Ok(())
 }

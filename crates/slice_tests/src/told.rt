@@ -46,7 +46,7 @@ pub fn again(key: &KeyText, low: u64, high: u64, number: u64, sum: i128, was: i1
 }
 
 // What the laws about slices ask of a store, from what the store and the definitions tell.
-pub fn is_cut<T: AggTree<Bundle>>(defs: &Defs, store: &SliceStore<T>)
+pub fn is_cut<T: AggTree<Bundle>>(defs: &Defs, store: &SliceStore<Bundle, T>)
     requires { IsSliced defs.now.windows store.now }
     ensures { IsOfWindows defs.now.windows store.now }
 {
