@@ -9,6 +9,7 @@ ghost use Rattle.time_parts.specs.Counted.{CountsAt};
 use crate::ends::end_or_never;
 use agg_laws::Steps;
 use agg_store::AggStore;
+use aggregates::Partial;
 use count_shift::CountLane;
 use key_parts::KeyPart;
 use std::alloc::Global;
@@ -51,7 +52,7 @@ fn count_of(kind: &Kind) -> u64
     }
 }
 
-impl KeyPart for CountPart {
+impl<M: Partial> KeyPart<M> for CountPart {
     ghost use Rattle.std.proofs.Common.{◌≤◌, zero-le};
     ghost use Rattle.stream_base.specs.declared.limits.TheConstants.{FINAL};
     ghost use Rattle.time_parts.specs.Counted.{Counts, CountsAt, KeepsFew, counts_on, fill_room, shift_room};
@@ -114,7 +115,7 @@ impl KeyPart for CountPart {
         self.lane.reserve(count, time, water)
     }
 
-    fn before<S: AggStore, L>(
+    fn before<S: AggStore<M>, L>(
         &mut self,
         defs: &Defs,
         window: u32,
@@ -124,7 +125,7 @@ impl KeyPart for CountPart {
         steps: &mut Steps<L>,
     ) {}
 
-    fn put<S: AggStore, L>(
+    fn put<S: AggStore<M>, L>(
         &mut self,
         defs: &Defs,
         window: u32,
@@ -151,11 +152,11 @@ impl KeyPart for CountPart {
         time: u64,
         water: u64,
     ) -> Result<u64, NoMemory> {
-        self.reserve_put(defs, window, time, water)?;
+        <CountPart as KeyPart<M>>::reserve_put(self, defs, window, time, water)?;
         Ok(0)
     }
 
-    fn mark<S: AggStore, L>(
+    fn mark<S: AggStore<M>, L>(
         &mut self,
         defs: &Defs,
         window: u32,
@@ -167,7 +168,7 @@ impl KeyPart for CountPart {
         steps: &mut Steps<L>,
     ) {}
 
-    fn reserve_water<S: AggStore>(
+    fn reserve_water<S: AggStore<M>>(
         &mut self,
         defs: &Defs,
         window: u32,
@@ -179,7 +180,7 @@ impl KeyPart for CountPart {
         Ok(self.lane.due(count, old, new))
     }
 
-    fn water<S: AggStore, L>(
+    fn water<S: AggStore<M>, L>(
         &mut self,
         defs: &Defs,
         window: u32,
@@ -194,7 +195,7 @@ impl KeyPart for CountPart {
         self.lane.rows(window, &def, key, old, new, out, steps);
     }
 
-    fn next_due<S: AggStore>(&self, defs: &Defs, window: u32, store: &S, water: u64) -> u64 {
+    fn next_due<S: AggStore<M>>(&self, defs: &Defs, window: u32, store: &S, water: u64) -> u64 {
         let count = count_of(&window_at(defs, window).kind);
         end_or_never(self.lane.next_filled(count, water))
     }

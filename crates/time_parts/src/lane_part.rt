@@ -4,7 +4,7 @@ ghost use Rattle.std.specs.Prelude.{◌≤◌};
 use crate::ends::end_or_never;
 use agg_laws::{AggQueue, Steps};
 use agg_store::AggStore;
-use aggregates::Bundle;
+use aggregates::Partial;
 use key_parts::KeyPart;
 use std::alloc::Global;
 use std::marker::Model;
@@ -14,16 +14,16 @@ use time_lanes::Lane;
 /// The part of a tumbling or sliding window: its lane, and what stood of the complete intervals
 /// that hold a late tuple.
 #[derive(Drop)]
-pub struct LanePart<Q: AggQueue<Bundle>> {
-    lane: Lane<Q>,
+pub struct LanePart<M: Partial, Q: AggQueue<M>> {
+    lane: Lane<M, Q>,
     formers: Vec<Option<Former>>,
 }
 
-impl<Q: AggQueue<Bundle>> Model for LanePart<Q> {
+impl<M: Partial, Q: AggQueue<M>> Model for LanePart<M, Q> {
     ghost use Rattle.std.specs.Prelude.{vec_capacity};
     ghost use Rattle.time_parts.specs.Lanes.{Timed};
 
-    ghost Value = { Timed };
+    ghost Value = { Timed M };
 
     ghost view = { λ p. record {
       lane = p.lane;
@@ -32,13 +32,13 @@ impl<Q: AggQueue<Bundle>> Model for LanePart<Q> {
     } };
 }
 
-impl<Q: AggQueue<Bundle> + Drop> KeyPart for LanePart<Q> {
+impl<M: Partial, Q: AggQueue<M> + Drop> KeyPart<M> for LanePart<M, Q> {
     ghost use Rattle.std.specs.Prelude.{length};
-    ghost use Rattle.time_parts.specs.Lanes.{CanMove, HasTold, IsTimedAt, MissesNone, Serves, complete_in_time, complete_up_to, late_room, misses_with_room, open_from, rows_due, serves_on, serves_with_room, slices_completed, slices_of_last};
+    ghost use Rattle.time_parts.specs.Lanes.{CanMove, HasTold, IsTimedShown, MissesNone, Serves, complete_in_time, complete_up_to, late_room, misses_with_room, open_from, rows_due, serves_on, serves_with_room, slices_completed, slices_of_last};
 
-    ghost is_for = { IsTimedAt };
+    ghost is_for = { IsTimedShown M.serves };
 
-    ghost stands = { λ d window m n s p. Serves d window m s p.lane };
+    ghost stands = { λ d window m n s p. Serves M.serves M.of_values d window m s p.lane };
 
     ghost is_asked = { HasTold };
 
@@ -100,7 +100,7 @@ impl<Q: AggQueue<Bundle> + Drop> KeyPart for LanePart<Q> {
         Ok(count)
     }
 
-    fn before<S: AggStore, L>(
+    fn before<S: AggStore<M>, L>(
         &mut self,
         defs: &Defs,
         window: u32,
@@ -114,7 +114,7 @@ impl<Q: AggQueue<Bundle> + Drop> KeyPart for LanePart<Q> {
             .formers(defs, window, store, time, water, &mut self.formers, steps);
     }
 
-    fn put<S: AggStore, L>(
+    fn put<S: AggStore<M>, L>(
         &mut self,
         defs: &Defs,
         window: u32,
@@ -146,7 +146,7 @@ impl<Q: AggQueue<Bundle> + Drop> KeyPart for LanePart<Q> {
         Ok(0)
     }
 
-    fn mark<S: AggStore, L>(
+    fn mark<S: AggStore<M>, L>(
         &mut self,
         defs: &Defs,
         window: u32,
@@ -160,7 +160,7 @@ impl<Q: AggQueue<Bundle> + Drop> KeyPart for LanePart<Q> {
         self.lane.touched(time);
     }
 
-    fn reserve_water<S: AggStore>(
+    fn reserve_water<S: AggStore<M>>(
         &mut self,
         defs: &Defs,
         window: u32,
@@ -171,7 +171,7 @@ impl<Q: AggQueue<Bundle> + Drop> KeyPart for LanePart<Q> {
         self.lane.reserve(defs, window, store, old, new)
     }
 
-    fn water<S: AggStore, L>(
+    fn water<S: AggStore<M>, L>(
         &mut self,
         defs: &Defs,
         window: u32,
@@ -186,7 +186,7 @@ impl<Q: AggQueue<Bundle> + Drop> KeyPart for LanePart<Q> {
             .advance(defs, window, store, key, old, new, out, steps);
     }
 
-    fn next_due<S: AggStore>(&self, defs: &Defs, window: u32, store: &S, water: u64) -> u64 {
+    fn next_due<S: AggStore<M>>(&self, defs: &Defs, window: u32, store: &S, water: u64) -> u64 {
         end_or_never(self.lane.next_end(defs, window, store, water))
     }
 

@@ -14,6 +14,7 @@ returns-clause-stands g c = λ m n time before more after leaves by.
     let rises = next_rises (length_of kind) (slide_of kind) (span_at d c.args.window leaves.stood.timed leaves.purge.held.may_leave.kinds) (c.args.water - d.lateness) m.water (omega (arith, leaves.water_is)) in
     record {
       timed = leaves.stood.timed;
+      shown = leaves.stood.shown;
       knows = knows_purged kind m.water time before after c.args.self.now.lane leaves.purge.slices (omega (arith, by, rises)) leaves.stood.knows;
     }
 

@@ -4,7 +4,8 @@ use Rattle.time_parts.proofs.lane_part.LanePartKeyPart.fresh.Goals as goal
 
 pub returns-clause-stands : goal.returns-clause-stands
 returns-clause-stands g c = λ water s empty. record {
-  timed = c.requires.kind;
+  timed = c.requires.kind.timed;
+  shown = c.requires.kind.shown;
   knows = c.new.ensures.knows (kind_at c.args.defs.now c.args.window) water s empty;
 }
 

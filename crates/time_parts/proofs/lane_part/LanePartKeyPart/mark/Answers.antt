@@ -17,7 +17,8 @@ returns-clause-stands g c = λ m n before takes.
     let same = mark_stays d.windows c.args.window (window_at d c.args.window) before kinds (stands_at d c.args.window t) (timed_at d c.args.window t) takes.step.store takes.step.held.sliced (g.S.AggStore.stored c.args.store.now) c.args.time takes.step.slices in
     record {
       timed = t;
-      knows = c.touched.ensures.knows kind m.water before (g.S.AggStore.stored c.args.store.now) same (subst (λ (l : Laned). Knows kind m.water before l) (sym (ap (λ (p : Timed). p.lane) c.self.view_is)) takes.stood.knows);
+      shown = takes.stood.shown;
+      knows = c.touched.ensures.knows kind m.water before (g.S.AggStore.stored c.args.store.now) same (subst (λ (l : Laned _). Knows g.M.Partial.of_values kind m.water before l) (sym (ap (λ (p : Timed _). p.lane) c.self.view_is)) takes.stood.knows);
     }
 
 pub returns-clause-changes : goal.returns-clause-changes
@@ -35,7 +36,7 @@ returns-clause-ahead g c = λ m n before takes behind ahead.
     let kind = kind_at d c.args.window in
     let kinds = takes.step.held.may_leave.kinds in
     let same = mark_stays d.windows c.args.window (window_at d c.args.window) before kinds (stands_at d c.args.window t) (timed_at d c.args.window t) takes.step.store takes.step.held.sliced (g.S.AggStore.stored c.args.store.now) c.args.time takes.step.slices in
-    let lane : c.args.self.now.lane ≡ c.self.inside.lane = sym (ap (λ (p : Timed). p.lane) c.self.view_is) in
+    let lane : c.args.self.now.lane ≡ c.self.inside.lane = sym (ap (λ (p : Timed _). p.lane) c.self.view_is) in
     c.touched.ensures.knows_all kind c.args.water before (g.S.AggStore.stored c.args.store.now) same behind
-    (subst (λ (l : Laned). Knows kind c.args.water before l) lane (subst (λ k. Knows kind k before c.args.self.now.lane) takes.water_is takes.stood.knows))
-    (subst (λ (l : Laned). KnowsAll kind c.args.water before l) lane ahead)
+    (subst (λ (l : Laned _). Knows g.M.Partial.of_values kind c.args.water before l) lane (subst (λ k. Knows g.M.Partial.of_values kind k before c.args.self.now.lane) takes.water_is takes.stood.knows))
+    (subst (λ (l : Laned _). KnowsAll kind c.args.water before l) lane ahead)

@@ -25,7 +25,7 @@ late-requires-clause-formers g c = λ def stands.
     let d = c.args.defs.now in
     let w = window_at d c.args.window in
     let same : def ≡ w = same_window d.windows c.args.window def w stands (stands_at d c.args.window q.4.stood.timed) in
-    let told : c.deref.result.now ≡ c.args.self.now.formers = c.deref.ensures.value ∙ ap (λ (p : Timed). p.formers) c.self.view_is in
+    let told : c.deref.result.now ≡ c.args.self.now.formers = c.deref.ensures.value ∙ ap (λ (p : Timed _). p.formers) c.self.view_is in
     let number = told_number w c.args.time c.args.water q.0 c.deref.result.now q.4.water_is (told ∙ q.4.asked) in
     subst (λ (e : Def). length (complete_holding e.kind c.args.time c.args.water) ≤ length c.deref.result.now) (sym same) (omega (arith, number))
 
@@ -49,7 +49,8 @@ returns-clause-stands g c = λ m n before more takes.
     let same = tuple_stays d.windows c.args.window (window_at d c.args.window) before kinds (stands_at d c.args.window t) (timed_at d c.args.window t) takes.step.store takes.step.held.sliced (g.S.AggStore.stored c.args.store.now) x stored.put in
     record {
       timed = t;
-      knows = c.touched.ensures.knows kind m.water before (g.S.AggStore.stored c.args.store.now) same (subst (λ (l : Laned). Knows kind m.water before l) (sym (ap (λ (p : Timed). p.lane) c.self.view_is)) takes.stood.knows);
+      shown = takes.stood.shown;
+      knows = c.touched.ensures.knows kind m.water before (g.S.AggStore.stored c.args.store.now) same (subst (λ (l : Laned _). Knows g.M.Partial.of_values kind m.water before l) (sym (ap (λ (p : Timed _). p.lane) c.self.view_is)) takes.stood.knows);
     }
 
 pub returns-clause-changes : goal.returns-clause-changes
@@ -58,7 +59,7 @@ returns-clause-changes g c = λ m n before more takes.
     let t = takes.stood.timed in
     let w = window_at d c.args.window in
     let x = kept_at c.args.pos c.args.time c.args.value in
-    let told : c.deref.result.now ≡ c.args.self.now.formers = c.deref.ensures.value ∙ ap (λ (p : Timed). p.formers) c.self.view_is in
+    let told : c.deref.result.now ≡ c.args.self.now.formers = c.deref.ensures.value ∙ ap (λ (p : Timed _). p.formers) c.self.view_is in
     changed_of_all m n c.args.water (drop n m.kept) takes.water_is refl w c.args.window c.args.key.now x c.args.out.now.items c.late.new.out.items (timed_at d c.args.window t) (within_at d c.args.window t takes.step.held.may_leave.kinds)
     (c.late.ensures.changes w (take n m.kept) (drop n m.kept) m.marks x (stands_at d c.args.window t) (sym (to_z-of_z w64 c.args.value c.ranges.value))
     (is_late d c.args.window m n before x more (g.S.AggStore.stored c.args.store.now) c.deref.result.now c.args.water t takes.step takes.water_is (told ∙ takes.asked)))
@@ -97,7 +98,7 @@ returns-clause-ahead g c = λ m n before more takes behind ahead.
     let x = kept_at c.args.pos c.args.time c.args.value in
     let stored = (taken_in d c.args.window n before x more (g.S.AggStore.stored c.args.store.now) t takes.step.comes).0 in
     let same = tuple_stays d.windows c.args.window (window_at d c.args.window) before kinds (stands_at d c.args.window t) (timed_at d c.args.window t) takes.step.store takes.step.held.sliced (g.S.AggStore.stored c.args.store.now) x stored.put in
-    let lane : c.args.self.now.lane ≡ c.self.inside.lane = sym (ap (λ (p : Timed). p.lane) c.self.view_is) in
+    let lane : c.args.self.now.lane ≡ c.self.inside.lane = sym (ap (λ (p : Timed _). p.lane) c.self.view_is) in
     c.touched.ensures.knows_all kind c.args.water before (g.S.AggStore.stored c.args.store.now) same behind
-    (subst (λ (l : Laned). Knows kind c.args.water before l) lane (subst (λ k. Knows kind k before c.args.self.now.lane) takes.water_is takes.stood.knows))
-    (subst (λ (l : Laned). KnowsAll kind c.args.water before l) lane ahead)
+    (subst (λ (l : Laned _). Knows g.M.Partial.of_values kind c.args.water before l) lane (subst (λ k. Knows g.M.Partial.of_values kind k before c.args.self.now.lane) takes.water_is takes.stood.knows))
+    (subst (λ (l : Laned _). KnowsAll kind c.args.water before l) lane ahead)

@@ -20,13 +20,13 @@ returns-clause-changes g c = λ m n at.
     let t = at.stood.timed in
     let w = window_at d c.args.window in
     let gone = take n m.kept in
-    let may : MayMove w.kind m.water gone s c.args.self.now.lane = record {
+    let may : MayMove g.M.Partial.of_values w.kind m.water gone s c.args.self.now.lane = record {
       knows = at.stood.knows;
       apart = apart_above d c.args.window m n t at.held.may_leave;
     } in
     completed_of_all m n c.args.old (tuples_of s) at.water_is at.held.tuples w c.args.window c.args.key.now c.args.new c.args.out.now.items c.advance.new.out.items
     (c.advance.ensures.changes w gone m.marks (stands_at d c.args.window t)
-    (subst (λ (l : Laned). MayMove w.kind c.args.old gone s l) (sym (ap (λ (p : Timed). p.lane) c.self.view_is)) (subst (λ k. MayMove w.kind k gone s c.args.self.now.lane) at.water_is may)))
+    (subst (λ (l : Laned _). MayMove g.M.Partial.of_values w.kind c.args.old gone s l) (sym (ap (λ (p : Timed _). p.lane) c.self.view_is)) (subst (λ k. MayMove g.M.Partial.of_values w.kind k gone s c.args.self.now.lane) at.water_is may)))
 
 pub returns-clause-adds : goal.returns-clause-adds
 returns-clause-adds g c = record {
@@ -43,10 +43,10 @@ returns-clause-work_ahead g c = λ m n at ahead.
     let kind = kind_at d c.args.window in
     let w = window_at d c.args.window in
     let is = stands_at d c.args.window t in
-    let lane : c.args.self.now.lane ≡ c.self.inside.lane = sym (ap (λ (p : Timed). p.lane) c.self.view_is) in
-    let knows = subst (λ (l : Laned). Knows kind c.args.old s l) lane (subst (λ k. Knows kind k s c.args.self.now.lane) at.water_is at.stood.knows) in
-    let cost = c.advance.ensures.cost w is knows (subst (λ (l : Laned). KnowsAll kind c.args.old s l) lane ahead) in
-    let credit = ap (λ (l : Laned). l.credit) lane in
+    let lane : c.args.self.now.lane ≡ c.self.inside.lane = sym (ap (λ (p : Timed _). p.lane) c.self.view_is) in
+    let knows = subst (λ (l : Laned _). Knows g.M.Partial.of_values kind c.args.old s l) lane (subst (λ k. Knows g.M.Partial.of_values kind k s c.args.self.now.lane) at.water_is at.stood.knows) in
+    let cost = c.advance.ensures.cost w is knows (subst (λ (l : Laned _). KnowsAll kind c.args.old s l) lane ahead) in
+    let credit = ap (λ (l : Laned _). l.credit) lane in
     subst (λ k. c.advance.new.steps + c.advance.new.self.credit ≤ c.args.steps.now + c.args.self.now.lane.credit + (10 * slices_completed d c.args.window s c.args.old c.args.new + k * (vec_len c.advance.new.out - vec_len c.args.out.now)))
     (sym (timed_row kind s.reach (timed_at d c.args.window t))) (omega (arith, cost, credit, c.advance.ensures.number w is))
 
@@ -58,9 +58,9 @@ returns-clause-work g c = λ m n at.
     let kind = kind_at d c.args.window in
     let w = window_at d c.args.window in
     let is = stands_at d c.args.window t in
-    let lane : c.args.self.now.lane ≡ c.self.inside.lane = sym (ap (λ (p : Timed). p.lane) c.self.view_is) in
-    let cost = c.advance.ensures.cost_touched w is (subst (λ (l : Laned). Knows kind c.args.old s l) lane (subst (λ k. Knows kind k s c.args.self.now.lane) at.water_is at.stood.knows)) in
-    let credit = ap (λ (l : Laned). l.credit) lane in
+    let lane : c.args.self.now.lane ≡ c.self.inside.lane = sym (ap (λ (p : Timed _). p.lane) c.self.view_is) in
+    let cost = c.advance.ensures.cost_touched w is (subst (λ (l : Laned _). Knows g.M.Partial.of_values kind c.args.old s l) lane (subst (λ k. Knows g.M.Partial.of_values kind k s c.args.self.now.lane) at.water_is at.stood.knows)) in
+    let credit = ap (λ (l : Laned _). l.credit) lane in
     subst (λ k. c.advance.new.steps + c.advance.new.self.credit ≤ c.args.steps.now + c.args.self.now.lane.credit + (10 * (slices_completed d c.args.window s c.args.old c.args.new + slices_of_last d c.args.window s c.args.old) + k * (vec_len c.advance.new.out - vec_len c.args.out.now)))
     (sym (timed_row kind s.reach (timed_at d c.args.window t))) (omega (arith, cost, credit, c.advance.ensures.number w is))
 
@@ -73,8 +73,8 @@ returns-clause-bound g c = λ m n at.
     let kind = kind_at d c.args.window in
     let w = window_at d c.args.window in
     let is = stands_at d c.args.window t in
-    let lane : c.args.self.now.lane ≡ c.self.inside.lane = sym (ap (λ (p : Timed). p.lane) c.self.view_is) in
-    let cost = c.advance.ensures.work w is (subst (λ (l : Laned). Knows kind c.args.old s l) lane (subst (λ k. Knows kind k s c.args.self.now.lane) at.water_is at.stood.knows)) in
+    let lane : c.args.self.now.lane ≡ c.self.inside.lane = sym (ap (λ (p : Timed _). p.lane) c.self.view_is) in
+    let cost = c.advance.ensures.work w is (subst (λ (l : Laned _). Knows g.M.Partial.of_values kind c.args.old s l) lane (subst (λ k. Knows g.M.Partial.of_values kind k s c.args.self.now.lane) at.water_is at.stood.knows)) in
     let among = fewer_within (next_start_of kind c.args.old) (last_end_of kind c.args.new) s.slices in
     subst (λ j. c.advance.new.steps ≤ c.args.steps.now + (j * length s.slices + row_work kind s.reach * (vec_len c.advance.new.out - vec_len c.args.out.now)))
     (sym (timed_slice kind (timed_at d c.args.window t)))
