@@ -14,7 +14,7 @@ use count_shift::CountLane;
 use key_parts::KeyPart;
 use std::alloc::Global;
 use std::marker::Model;
-use stream_base::{Change, Def, Defs, FINAL, KeyText, Kind, NoMemory};
+use stream_base::{Change, Def, Defs, FINAL, Kept, KeyText, Kind, NoMemory};
 
 /// The part of a window of event counts: the tuples of its key, since the store holds those alone
 /// that other windows need, but for whole instances that no tuple shifts any more.
@@ -131,16 +131,14 @@ impl<M: Partial> KeyPart<M> for CountPart {
         window: u32,
         store: &S,
         key: &KeyText,
-        pos: u64,
-        time: u64,
-        value: i64,
+        x: Kept,
         water: u64,
         out: &mut Vec<Change>,
         steps: &mut Steps<L>,
     ) {
         let def = window_at(defs, window);
         self.lane
-            .put(window, &def, key, pos, time, value, water, out, steps);
+            .put(window, &def, key, x.position, x.time, x.value, water, out, steps);
         let settled_by = water.saturating_sub(defs.lateness());
         self.lane.drop_settled(count_of(&def.kind), settled_by);
     }

@@ -8,7 +8,7 @@ use aggregates::Partial;
 use key_parts::KeyPart;
 use std::alloc::Global;
 use std::marker::Model;
-use stream_base::{Change, Defs, Former, KeyText, NoMemory};
+use stream_base::{Change, Defs, Former, Kept, KeyText, NoMemory};
 use time_lanes::Lane;
 
 /// The part of a tumbling or sliding window: its lane, and what stood of the complete intervals
@@ -120,18 +120,16 @@ impl<M: Partial, Q: AggQueue<M> + Drop> KeyPart<M> for LanePart<M, Q> {
         window: u32,
         store: &S,
         key: &KeyText,
-        pos: u64,
-        time: u64,
-        value: i64,
+        x: Kept,
         water: u64,
         out: &mut Vec<Change>,
         steps: &mut Steps<L>,
     ) {
         let LanePart { lane, formers } = self;
         lane.late(
-            defs, window, store, key, time, value, water, formers, out, steps,
+            defs, window, store, key, x.time, x.value, water, formers, out, steps,
         );
-        lane.touched(time);
+        lane.touched(x.time);
     }
 
     fn reserve_mark(

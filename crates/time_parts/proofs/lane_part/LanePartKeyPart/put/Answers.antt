@@ -7,7 +7,6 @@ use Rattle.time_lanes.specs.Lane.{Knows, KnowsAll, Laned}
 use Rattle.time_lanes.specs.Late.{complete_holding}
 use Rattle.time_lanes.proofs.ServedFacts.{same_window}
 use Rattle.time_lanes.proofs.StayFacts.{tuple_stays}
-use Rattle.key_windows.specs.Calls.{kept_at}
 use Rattle.key_parts.specs.Calls.{window_at}
 use Rattle.time_parts.specs.Lanes.{Timed, kind_at, late_room}
 use Rattle.time_parts.proofs.LaneFacts.{changed_of_all, is_late, taken_in, timed_work, told_number}
@@ -17,7 +16,7 @@ use Rattle.time_parts.proofs.lane_part.LanePartKeyPart.put.Goals as goal
 pub late-requires-clause-sliced : goal.late-requires-clause-sliced
 late-requires-clause-sliced g c =
     let q = c.requires.takes in
-    (taken_in c.args.defs.now c.args.window q.1 q.2 (kept_at c.args.pos c.args.time c.args.value) q.3 (g.S.AggStore.stored c.args.store.now) q.4.stood.timed q.4.step.comes).0.sliced
+    (taken_in c.args.defs.now c.args.window q.1 q.2 c.args.x q.3 (g.S.AggStore.stored c.args.store.now) q.4.stood.timed q.4.step.comes).0.sliced
 
 pub late-requires-clause-formers : goal.late-requires-clause-formers
 late-requires-clause-formers g c = λ def stands.
@@ -26,8 +25,8 @@ late-requires-clause-formers g c = λ def stands.
     let w = window_at d c.args.window in
     let same : def ≡ w = same_window d.windows c.args.window def w stands (stands_at d c.args.window q.4.stood.timed) in
     let told : c.deref.result.now ≡ c.args.self.now.formers = c.deref.ensures.value ∙ ap (λ (p : Timed _). p.formers) c.self.view_is in
-    let number = told_number w c.args.time c.args.water q.0 c.deref.result.now q.4.water_is (told ∙ q.4.asked) in
-    subst (λ (e : Def). length (complete_holding e.kind c.args.time c.args.water) ≤ length c.deref.result.now) (sym same) (omega (arith, number))
+    let number = told_number w c.args.x.time c.args.water q.0 c.deref.result.now q.4.water_is (told ∙ q.4.asked) in
+    subst (λ (e : Def). length (complete_holding e.kind c.args.x.time c.args.water) ≤ length c.deref.result.now) (sym same) (omega (arith, number))
 
 pub late-requires-clause-spare : goal.late-requires-clause-spare
 late-requires-clause-spare g c = λ def stands.
@@ -35,7 +34,7 @@ late-requires-clause-spare g c = λ def stands.
     let d = c.args.defs.now in
     let w = window_at d c.args.window in
     let same : def ≡ w = same_window d.windows c.args.window def w stands (stands_at d c.args.window q.4.stood.timed) in
-    let number : length (complete_holding def.kind c.args.time c.args.water) ≡ late_room d c.args.window c.args.time c.args.water = ap (λ (e : Def). length (complete_holding e.kind c.args.time c.args.water)) same in
+    let number : length (complete_holding def.kind c.args.x.time c.args.water) ≡ late_room d c.args.window c.args.x.time c.args.water = ap (λ (e : Def). length (complete_holding e.kind c.args.x.time c.args.water)) same in
     omega (arith, number, c.requires.spare)
 
 pub returns-clause-stands : goal.returns-clause-stands
@@ -44,7 +43,7 @@ returns-clause-stands g c = λ m n before more takes.
     let t = takes.stood.timed in
     let kind = kind_at d c.args.window in
     let kinds = takes.step.held.may_leave.kinds in
-    let x = kept_at c.args.pos c.args.time c.args.value in
+    let x = c.args.x in
     let stored = (taken_in d c.args.window n before x more (g.S.AggStore.stored c.args.store.now) t takes.step.comes).0 in
     let same = tuple_stays d.windows c.args.window (window_at d c.args.window) before kinds (stands_at d c.args.window t) (timed_at d c.args.window t) takes.step.store takes.step.held.sliced (g.S.AggStore.stored c.args.store.now) x stored.put in
     record {
@@ -58,10 +57,10 @@ returns-clause-changes g c = λ m n before more takes.
     let d = c.args.defs.now in
     let t = takes.stood.timed in
     let w = window_at d c.args.window in
-    let x = kept_at c.args.pos c.args.time c.args.value in
+    let x = c.args.x in
     let told : c.deref.result.now ≡ c.args.self.now.formers = c.deref.ensures.value ∙ ap (λ (p : Timed _). p.formers) c.self.view_is in
     changed_of_all m n c.args.water (drop n m.kept) takes.water_is refl w c.args.window c.args.key.now x c.args.out.now.items c.late.new.out.items (timed_at d c.args.window t) (within_at d c.args.window t takes.step.held.may_leave.kinds)
-    (c.late.ensures.changes w (take n m.kept) (drop n m.kept) m.marks x (stands_at d c.args.window t) (sym (to_z-of_z w64 c.args.value c.ranges.value))
+    (c.late.ensures.changes w (take n m.kept) (drop n m.kept) m.marks x (stands_at d c.args.window t) (sym (to_z-of_z w64 c.args.x.value (search rules)))
     (is_late d c.args.window m n before x more (g.S.AggStore.stored c.args.store.now) c.deref.result.now c.args.water t takes.step takes.water_is (told ∙ takes.asked)))
 
 pub returns-clause-adds : goal.returns-clause-adds
@@ -76,7 +75,7 @@ pub returns-clause-owed : goal.returns-clause-owed
 returns-clause-owed g c =
     let q = c.requires.takes in
     let w = window_at c.args.defs.now c.args.window in
-    omega (arith, c.late.ensures.number w (stands_at c.args.defs.now c.args.window q.4.stood.timed), told_number w c.args.time c.args.water q.0 c.args.self.now.formers q.4.water_is q.4.asked)
+    omega (arith, c.late.ensures.number w (stands_at c.args.defs.now c.args.window q.4.stood.timed), told_number w c.args.x.time c.args.water q.0 c.args.self.now.formers q.4.water_is q.4.asked)
 
 pub returns-clause-cost : goal.returns-clause-cost
 returns-clause-cost g c =
@@ -95,7 +94,7 @@ returns-clause-ahead g c = λ m n before more takes behind ahead.
     let t = takes.stood.timed in
     let kind = kind_at d c.args.window in
     let kinds = takes.step.held.may_leave.kinds in
-    let x = kept_at c.args.pos c.args.time c.args.value in
+    let x = c.args.x in
     let stored = (taken_in d c.args.window n before x more (g.S.AggStore.stored c.args.store.now) t takes.step.comes).0 in
     let same = tuple_stays d.windows c.args.window (window_at d c.args.window) before kinds (stands_at d c.args.window t) (timed_at d c.args.window t) takes.step.store takes.step.held.sliced (g.S.AggStore.stored c.args.store.now) x stored.put in
     let lane : c.args.self.now.lane ≡ c.self.inside.lane = sym (ap (λ (p : Timed _). p.lane) c.self.view_is) in
