@@ -137,7 +137,7 @@ pub fn put_in<M: Partial, T: AggTree<M>, L>(
     ensures enters { result ≡ true → tuples_of store.new ≡ put_in_order (tuples_of store.old) x }
 {
     if !all_count_events(defs) {
-        store.put(defs, x.position, x.time, x.value, steps) == Placed::Appended
+        store.put(defs, x, steps) == Placed::Appended
     } else {
         false
     }

@@ -1,5 +1,5 @@
 //! The store of a key's slices.
-ghost use Rattle.std.specs.Prelude.{◌≡◌, ◌≤◌, ◌<◌, ◌+◌, ◌*◌, List, [], length, filter, max, nat_lt, All, FitsSigned, true, false};
+ghost use Rattle.std.specs.Prelude.{◌≡◌, ◌≤◌, ◌<◌, ◌+◌, ◌*◌, List, [], length, filter, max, nat_lt, All, true, false};
 ghost use Rattle.std.specs.Int.{w64};
 ghost use Rattle.std.specs.BTreeSet.{insert_key};
 ghost use Rattle.std.specs.List.{flat_map, list_any};
@@ -11,7 +11,7 @@ ghost use Rattle.stream_base.specs.Model.Journal.{put_in_order};
 ghost use Rattle.stream_base.specs.Model.Windows.{first_time, last_time};
 ghost use Rattle.slice_lists.specs.Runs.{IsAligned, parted_at};
 ghost use Rattle.partials.specs.Apart.{IsReachOver};
-ghost use Rattle.slice_lists.specs.Slices.{joined, kept_at};
+ghost use Rattle.slice_lists.specs.Slices.{joined};
 ghost use Rattle.slice_lists.specs.Touched.{is_across, marks_left, slices_from};
 ghost use Rattle.agg_store.specs.Entered.{IsPut, slices_near};
 ghost use Rattle.agg_store.specs.Stored.{IsSliced, IsStore, tuples_of};
@@ -98,30 +98,22 @@ impl<M: Partial, T: AggTree<M>> SliceStore<M, T> {
     /// comes between two of them and their order makes a difference, and else grows with the
     /// logarithm of how many slices begin later, where the tree has a finger at its end: no other
     /// slice is looked at.
-    pub fn put<L>(
-        &mut self,
-        defs: &Defs,
-        pos: u64,
-        time: u64,
-        value: i64,
-        steps: &mut Steps<L>,
-    ) -> Placed
-        requires { MayTake defs.now.windows time self.old }
+    pub fn put<L>(&mut self, defs: &Defs, x: Kept, steps: &mut Steps<L>) -> Placed
+        requires { MayTake defs.now.windows x.time self.old }
         ensures sliced { IsSliced defs.now.windows self.new }
-        ensures tuples { tuples_of self.new
-            ≡ put_in_order (tuples_of self.old) (kept_at pos time value) }
-        ensures put { IsPut defs.now.windows self.old (kept_at pos time value) self.new }
+        ensures tuples { tuples_of self.new ≡ put_in_order (tuples_of self.old) x }
+        ensures put { IsPut defs.now.windows self.old x self.new }
         ensures answer { result
-            ≡ placed_in (slices_near defs.now.windows time self.old) (is_last time self.old) }
+            ≡ placed_in (slices_near defs.now.windows x.time self.old) (is_last x.time self.old) }
         ensures marks { self.new.marks ≡ self.old.marks }
         ensures dropped { self.new.dropped ≡ self.old.dropped }
         ensures spare { self.old.spare ≤ self.new.spare + 1 }
         ensures reach { self.new.reach ≤ self.old.reach + 1 }
         ensures cost { steps.new ≤ steps.old + (128 * (self.old.reach + 3)
-            + length (joined (slices_near defs.now.windows time self.old))) }
+            + length (joined (slices_near defs.now.windows x.time self.old))) }
 
         // A tuple in order refolds no slice.
-        ensures in_order { is_last time self.old ≡ true
+        ensures in_order { is_last x.time self.old ≡ true
             → steps.new ≤ steps.old + 128 * (self.old.reach + 3) }
 
         // Where order makes no difference, no tuple refolds a slice, however long that is.
@@ -129,14 +121,13 @@ impl<M: Partial, T: AggTree<M>> SliceStore<M, T> {
             → steps.new ≤ steps.old + 128 * (self.old.reach + 3) }
 
         // A late tuple goes by how many slices begin after it.
-        ensures near { PutsNear T.near defs.now.windows time self.old steps.old steps.new }
+        ensures near { PutsNear T.near defs.now.windows x.time self.old steps.old steps.new }
     {
         let windows = defs.windows();
-        let at = self.runs.up_to(time);
-        let from = first_entered(&self.runs, windows, &self.marks, at, time);
-        let to = last_entered(&self.runs, windows, &self.marks, at, time);
-        let last = self.runs.are_by(time);
-        let x = kept_at(pos, time, value);
+        let at = self.runs.up_to(x.time);
+        let from = first_entered(&self.runs, windows, &self.marks, at, x.time);
+        let to = last_entered(&self.runs, windows, &self.marks, at, x.time);
+        let last = self.runs.are_by(x.time);
         enter(&mut self.runs, &mut self.partials, from, to, x, steps);
         placed_in(to - from, last)
     }
@@ -237,17 +228,6 @@ impl<M: Partial, T: AggTree<M>> AggStore<M> for SliceStore<M, T> {
         } else {
             None
         }
-    }
-}
-
-fn kept_at(position: u64, time: u64, value: i64) -> Kept
-    ensures kept { result ≡ kept_at position time value }
-    ensures fits { FitsSigned w64 result.value }
-{
-    Kept {
-        position,
-        time,
-        value,
     }
 }
 

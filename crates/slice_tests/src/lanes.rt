@@ -14,7 +14,7 @@ use slice_store::SliceStore;
 use std::alloc::Global;
 use std::process::Abort;
 use std::test::Fail;
-use stream_base::{Change, Def, Defs, FINAL, Former, Func, KeyText, Kind, TIME_MAX};
+use stream_base::{Change, Def, Defs, FINAL, Former, Func, Kept, KeyText, Kind, TIME_MAX};
 use time_lanes::Lane;
 
 // What comes to a window of a key.
@@ -104,8 +104,12 @@ impl<Q: AggQueue<Bundle>, T: AggTree<Bundle>> Window<Q, T> {
             &mut self.stood,
             &mut self.steps,
         );
-        self.store
-            .put(&self.defs, pos, time, value, &mut self.steps);
+        let x = Kept {
+            position: pos,
+            time,
+            value,
+        };
+        self.store.put(&self.defs, x, &mut self.steps);
         if time < water {
             self.lane.touched(time);
         }

@@ -13,7 +13,7 @@ use slice_store::SliceStore;
 use std::alloc::Global;
 use std::process::Abort;
 use std::test::Fail;
-use stream_base::{Change, Def, Defs, FINAL, Func, KeyText, Kind, TIME_MAX};
+use stream_base::{Change, Def, Defs, FINAL, Func, Kept, KeyText, Kind, TIME_MAX};
 
 // What comes to the sessions of a key.
 #[derive(Clone, Copy)]
@@ -104,8 +104,12 @@ impl<T: AggTree<Bundle>> SessionWindow<T> {
         is_cut(&self.defs, &self.store);
         self.sessions
             .before(&self.defs, 0, &self.store, time, water, &mut self.steps);
-        self.store
-            .put(&self.defs, pos, time, value, &mut self.steps);
+        let x = Kept {
+            position: pos,
+            time,
+            value,
+        };
+        self.store.put(&self.defs, x, &mut self.steps);
         is_cut(&self.defs, &self.store);
         self.sessions.put(
             &self.defs,

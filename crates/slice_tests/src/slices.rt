@@ -11,7 +11,7 @@ use slice_store::{Placed, SliceStore};
 use std::alloc::Global;
 use std::process::Abort;
 use std::test::Fail;
-use stream_base::{Def, Defs, FINAL, Func, Kind, Shown, TIME_MAX};
+use stream_base::{Def, Defs, FINAL, Func, Kept, Kind, Shown, TIME_MAX};
 
 // Keeps the steps of a test apart.
 struct Work;
@@ -61,9 +61,12 @@ impl<M: Partial, T: AggTree<M>> Slices<M, T> {
             Step::Put(time, value, placed) => {
                 assert!(rt; time <= TIME_MAX);
                 self.store.reserve()?;
-                let found = self
-                    .store
-                    .put(&self.defs, pos, time, value, &mut self.steps);
+                let x = Kept {
+                    position: pos,
+                    time,
+                    value,
+                };
+                let found = self.store.put(&self.defs, x, &mut self.steps);
                 assert_eq!(rt; found, placed, "at step {pos}");
             }
             Step::Mark(time, splits) => {

@@ -5,7 +5,7 @@ use crate::order::Order;
 use agg_laws::{AggTree, Steps};
 use aggregates::Partial;
 use slice_store::SliceStore;
-use stream_base::{Defs, NoMemory};
+use stream_base::{Defs, Kept, NoMemory};
 
 /// Puts so many tuples into a store.
 pub fn fill<M: Partial, T: AggTree<M>, L>(
@@ -23,7 +23,12 @@ pub fn fill<M: Partial, T: AggTree<M>, L>(
     for i in 0..count {
         seed = next_seed(seed);
         store.reserve()?;
-        store.put(defs, i, order.time(i, seed), (seed >> 40) as i64, steps);
+        let x = Kept {
+            position: i,
+            time: order.time(i, seed),
+            value: (seed >> 40) as i64,
+        };
+        store.put(defs, x, steps);
     }
     Ok(())
 }

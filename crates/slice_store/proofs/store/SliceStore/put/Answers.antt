@@ -1,16 +1,10 @@
 -- The slices that the tuple is near to become one with it.
-use Rattle.std.proofs.Common.{◌≡◌, ◌≤◌, ◌+◌, ◌-◌, ◌∙◌, [], ap, arith, get_or, length, refl, sym, subst, take, drop}
-use Rattle.std.specs.Int.{w64}
-use Rattle.std.proofs.lemmas.Int.{to_z-of_z}
+use Rattle.std.proofs.Common.{◌∙◌, ap, arith, refl, rules, take, drop}
 use Rattle.stream_base.specs.declared.kept.Kept.{Kept}
 use Rattle.stream_base.specs.Model.Cuts.{has_cut}
-use Rattle.stream_base.specs.Model.Windows.{first_time}
-use Rattle.partials.specs.Apart.{SpendsNear}
 use Rattle.slice_lists.specs.Sides.{IsLastEntered}
-use Rattle.slice_store.specs.Following.{refolded}
 use Rattle.slice_store.proofs.PutCosts.{near_put}
 use Rattle.slice_store.specs.Placing.{placed_in}
-use Rattle.slice_lists.specs.Slices.{kept_at}
 use Rattle.slice_lists.proofs.NearFacts.{IsEdit}
 use Rattle.slice_lists.proofs.PutFacts.{can_enter, edit_at, is_then, near_joined, near_length, sliced_again, tuples_with, was_before}
 use Rattle.slice_store.proofs.store.SliceStore.put.Goals as goal
@@ -20,17 +14,16 @@ enter-requires g c =
     let s = c.self.inside in
     let from = c.first_entered-from.result in
     let to = c.last_entered-to.result in
-    let x : Kept = kept_at c.args.pos c.args.time c.args.value in
-    let same : c.kept_at-x.result ≡ x = c.kept_at-x.ensures.kept ∙ ap (kept_at c.args.pos c.args.time) (to_z-of_z w64 c.args.value c.ranges.value) in
+    let x : Kept = c.args.x in
     let e : IsEdit c.args.defs.now.windows s.marks.times s.runs.slices from to x =
     edit_at c.args.defs.now s.marks.times s.marks.times s.marks.times s.runs.slices x c.up_to-at.result from to c.windows-windows.ensures.limits c.up_to-at.ensures.holds ((rw (← c.self.view_is) at c.requires).sliced) c.up_to-at.ensures.place refl refl (rw c.windows-windows.ensures.value at c.first_entered-from.ensures) (rw c.windows-windows.ensures.value at c.last_entered-to.ensures) in
     record {
       holds = c.up_to-at.ensures.holds;
-      can = can_enter c.args.defs.now.windows s.marks.times s.runs c.kept_at-x.result from to
-          (subst (λ (y : Kept). IsEdit c.args.defs.now.windows s.marks.times s.runs.slices from to y) (sym same) e)
+      can = can_enter c.args.defs.now.windows s.marks.times s.runs x from to
+          e
           (let may = rw (← c.self.view_is) at c.requires in omega (arith, may.room))
-          (omega (arith, ap (λ (y : Kept). y.time) same, c.requires.time))
-          c.kept_at-x.ensures.fits;
+          c.requires.time
+          (search rules);
       spare = (let may = rw (← c.self.view_is) at c.requires in omega (arith, may.room));
       stand = c.self.invariant.partials;
     }
@@ -40,38 +33,35 @@ returns-clause-sliced g c =
     let s = c.self.inside in
     let from = c.first_entered-from.result in
     let to = c.last_entered-to.result in
-    let x : Kept = kept_at c.args.pos c.args.time c.args.value in
-    let same : c.kept_at-x.result ≡ x = c.kept_at-x.ensures.kept ∙ ap (kept_at c.args.pos c.args.time) (to_z-of_z w64 c.args.value c.ranges.value) in
+    let x : Kept = c.args.x in
     let e : IsEdit c.args.defs.now.windows s.marks.times s.runs.slices from to x =
     edit_at c.args.defs.now s.marks.times s.marks.times s.marks.times s.runs.slices x c.up_to-at.result from to c.windows-windows.ensures.limits c.up_to-at.ensures.holds ((rw (← c.self.view_is) at c.requires).sliced) c.up_to-at.ensures.place refl refl (rw c.windows-windows.ensures.value at c.first_entered-from.ensures) (rw c.windows-windows.ensures.value at c.last_entered-to.ensures) in
-    sliced_again c.args.defs.now.windows s.marks.times s.runs.slices c.enter.new.runs.slices x c.kept_at-x.result from to e same c.enter.ensures.follow.slices
+    sliced_again c.args.defs.now.windows s.marks.times s.runs.slices c.enter.new.runs.slices x x from to e refl c.enter.ensures.follow.slices
 
 pub returns-clause-tuples : goal.returns-clause-tuples
 returns-clause-tuples g c =
     let s = c.self.inside in
     let from = c.first_entered-from.result in
     let to = c.last_entered-to.result in
-    let x : Kept = kept_at c.args.pos c.args.time c.args.value in
-    let same : c.kept_at-x.result ≡ x = c.kept_at-x.ensures.kept ∙ ap (kept_at c.args.pos c.args.time) (to_z-of_z w64 c.args.value c.ranges.value) in
+    let x : Kept = c.args.x in
     let e : IsEdit c.args.defs.now.windows s.marks.times s.runs.slices from to x =
     edit_at c.args.defs.now s.marks.times s.marks.times s.marks.times s.runs.slices x c.up_to-at.result from to c.windows-windows.ensures.limits c.up_to-at.ensures.holds ((rw (← c.self.view_is) at c.requires).sliced) c.up_to-at.ensures.place refl refl (rw c.windows-windows.ensures.value at c.first_entered-from.ensures) (rw c.windows-windows.ensures.value at c.last_entered-to.ensures) in
-    rw (← c.self.view_is) (tuples_with c.args.defs.now.windows s.marks.times s.runs.slices c.enter.new.runs.slices x c.kept_at-x.result from to e same c.enter.ensures.follow.slices)
+    rw (← c.self.view_is) (tuples_with c.args.defs.now.windows s.marks.times s.runs.slices c.enter.new.runs.slices x x from to e refl c.enter.ensures.follow.slices)
 
 pub returns-clause-put : goal.returns-clause-put
 returns-clause-put g c =
     let s = c.self.inside in
     let from = c.first_entered-from.result in
     let to = c.last_entered-to.result in
-    let x : Kept = kept_at c.args.pos c.args.time c.args.value in
-    let same : c.kept_at-x.result ≡ x = c.kept_at-x.ensures.kept ∙ ap (kept_at c.args.pos c.args.time) (to_z-of_z w64 c.args.value c.ranges.value) in
+    let x : Kept = c.args.x in
     let e : IsEdit c.args.defs.now.windows s.marks.times s.runs.slices from to x =
     edit_at c.args.defs.now s.marks.times s.marks.times s.marks.times s.runs.slices x c.up_to-at.result from to c.windows-windows.ensures.limits c.up_to-at.ensures.holds ((rw (← c.self.view_is) at c.requires).sliced) c.up_to-at.ensures.place refl refl (rw c.windows-windows.ensures.value at c.first_entered-from.ensures) (rw c.windows-windows.ensures.value at c.last_entered-to.ensures) in
     rw (← c.self.view_is)
     (record {
       before = take from s.runs.slices;
       behind = drop to s.runs.slices;
-      was = was_before c.args.defs.now.windows s.marks.times s.runs.slices c.enter.new.runs.slices x c.kept_at-x.result from to e same c.enter.ensures.follow.slices;
-      is = is_then c.args.defs.now.windows s.marks.times s.runs.slices c.enter.new.runs.slices x c.kept_at-x.result from to e same c.enter.ensures.follow.slices;
+      was = was_before c.args.defs.now.windows s.marks.times s.runs.slices c.enter.new.runs.slices x x from to e refl c.enter.ensures.follow.slices;
+      is = is_then c.args.defs.now.windows s.marks.times s.runs.slices c.enter.new.runs.slices x x from to e refl c.enter.ensures.follow.slices;
     })
 
 pub returns-clause-answer : goal.returns-clause-answer
@@ -79,8 +69,7 @@ returns-clause-answer g c =
     let s = c.self.inside in
     let from = c.first_entered-from.result in
     let to = c.last_entered-to.result in
-    let x : Kept = kept_at c.args.pos c.args.time c.args.value in
-    let same : c.kept_at-x.result ≡ x = c.kept_at-x.ensures.kept ∙ ap (kept_at c.args.pos c.args.time) (to_z-of_z w64 c.args.value c.ranges.value) in
+    let x : Kept = c.args.x in
     let e : IsEdit c.args.defs.now.windows s.marks.times s.runs.slices from to x =
     edit_at c.args.defs.now s.marks.times s.marks.times s.marks.times s.runs.slices x c.up_to-at.result from to c.windows-windows.ensures.limits c.up_to-at.ensures.holds ((rw (← c.self.view_is) at c.requires).sliced) c.up_to-at.ensures.place refl refl (rw c.windows-windows.ensures.value at c.first_entered-from.ensures) (rw c.windows-windows.ensures.value at c.last_entered-to.ensures) in
     rw (← c.self.view_is)
@@ -92,8 +81,7 @@ returns-clause-cost g c =
     let s = c.self.inside in
     let from = c.first_entered-from.result in
     let to = c.last_entered-to.result in
-    let x : Kept = kept_at c.args.pos c.args.time c.args.value in
-    let same : c.kept_at-x.result ≡ x = c.kept_at-x.ensures.kept ∙ ap (kept_at c.args.pos c.args.time) (to_z-of_z w64 c.args.value c.ranges.value) in
+    let x : Kept = c.args.x in
     let e : IsEdit c.args.defs.now.windows s.marks.times s.runs.slices from to x =
     edit_at c.args.defs.now s.marks.times s.marks.times s.marks.times s.runs.slices x c.up_to-at.result from to c.windows-windows.ensures.limits c.up_to-at.ensures.holds ((rw (← c.self.view_is) at c.requires).sliced) c.up_to-at.ensures.place refl refl (rw c.windows-windows.ensures.value at c.first_entered-from.ensures) (rw c.windows-windows.ensures.value at c.last_entered-to.ensures) in
     rw (← c.self.view_is)
@@ -104,11 +92,10 @@ returns-clause-near g c =
     let s = c.self.inside in
     let from = c.first_entered-from.result in
     let to = c.last_entered-to.result in
-    let x : Kept = kept_at c.args.pos c.args.time c.args.value in
-    let same : c.kept_at-x.result ≡ x = c.kept_at-x.ensures.kept ∙ ap (kept_at c.args.pos c.args.time) (to_z-of_z w64 c.args.value c.ranges.value) in
-    let last : IsLastEntered (has_cut c.args.defs.now.windows s.marks.times) s.runs.slices c.up_to-at.result c.args.time to = rw c.windows-windows.ensures.value at c.last_entered-to.ensures in
+    let x : Kept = c.args.x in
+    let last : IsLastEntered (has_cut c.args.defs.now.windows s.marks.times) s.runs.slices c.up_to-at.result c.args.x.time to = rw c.windows-windows.ensures.value at c.last_entered-to.ensures in
     let e : IsEdit c.args.defs.now.windows s.marks.times s.runs.slices from to x =
     edit_at c.args.defs.now s.marks.times s.marks.times s.marks.times s.runs.slices x c.up_to-at.result from to c.windows-windows.ensures.limits c.up_to-at.ensures.holds ((rw (← c.self.view_is) at c.requires).sliced) c.up_to-at.ensures.place refl refl (rw c.windows-windows.ensures.value at c.first_entered-from.ensures) last in
     rw (← c.self.view_is)
     (near_put g.T.AggTree.near c.args.defs.now.windows s.marks.times s.runs.slices x c.up_to-at.result from to s.partials.reach _ _ e c.up_to-at.ensures.place last
-    (subst (λ (y : Kept). to ≡ from + 1 → first_time (get_or s.runs.slices from []) ≤ y.time → SpendsNear g.T.AggTree.near (length s.runs.slices - to) s.partials.reach (2 + refolded y.time (get_or s.runs.slices from [])) c.args.steps.now c.enter.new.steps) same c.enter.ensures.near))
+    c.enter.ensures.near)
