@@ -2,8 +2,8 @@
 //!
 //! *From* the tuples and marks of a key that its store of slices has taken in and from moves of the
 //! watermark, *to* the changes of one window. *Stands on* `key_parts`, whose trait says what a part
-//! promises, and on `time_lanes` and `count_shift`, which do the work; general over the queue of a
-//! lane. *Promise*: a part appends exactly the changes of its window.
+//! promises, and on `time_lanes` and `count_shift`, which do the work; general over the partials and
+//! the queue of a lane. *Promise*: a part appends exactly the changes of its window.
 #![tactic(auto)]
 
 mod count_part;
