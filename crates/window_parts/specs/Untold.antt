@@ -1,6 +1,7 @@
 -- A tumbling or sliding window need not be told of a tuple at or behind the watermark.
-use Rattle.std.proofs.Common.{◌≡◌, ◌∙◌, ◌≤◌, ℕ, true, false, ap, arith, sym}
+use Rattle.std.proofs.Common.{◌≡◌, ◌∙◌, ◌≤◌, ℕ, ℤ, true, List, ap, arith, sym}
 use Rattle.std.proofs.lemmas.Bool.{false≢true}
+use Rattle.stream_base.specs.declared.func.Func.{Func}
 use Rattle.stream_base.specs.declared.kept.Kept.{Kept}
 use Rattle.stream_base.specs.declared.kind.Kind.{Kind}
 use Rattle.stream_base.specs.declared.kind.Kind.TheVariants.{Tumbling, Sliding, Session, Marks as Between, Events as Counted}
@@ -27,14 +28,15 @@ same_up_to d window m n before x more after t step =
     let stored = (taken_in d window n before x more after t step.comes).0 in
     tuple_stays d.windows window (window_at d window) before step.held.may_leave.kinds (stands_at d window t) (timed_at d window t) step.store step.held.sliced after x stored.put
 
-serves_with_tuple : (d : Definitions) (window : ℕ) (m : Moment) (n : ℕ) (before : Stored) (x : Kept) (more : ℕ) (after : Stored) (lane : Laned) → m.water ≤ x.time → IsPutStep d m n before x more after → Serves d window m before lane → Serves d window (with_tuple m x) after lane
+serves_with_tuple : {M : Type 0} {serves : Func → Type 0} {of_values : List ℤ → M} → (d : Definitions) (window : ℕ) (m : Moment) (n : ℕ) (before : Stored) (x : Kept) (more : ℕ) (after : Stored) (lane : Laned M) → m.water ≤ x.time → IsPutStep d m n before x more after → Serves serves of_values d window m before lane → Serves serves of_values d window (with_tuple m x) after lane
 serves_with_tuple d window m n before x more after lane behind step stood = record {
   timed = stood.timed;
+  shown = stood.shown;
   knows = knows_stays (kind_at d window) m.water x.time before after lane (same_up_to d window m n before x more after stood.timed step)
       (omega (arith, stood.knows.reached, last_by (kind_at d window) m.water, behind)) stood.knows;
 }
 
-misses_with_tuple : (d : Definitions) (window : ℕ) (m : Moment) (n : ℕ) (before : Stored) (x : Kept) (more : ℕ) (after : Stored) (lane : Laned) → IsTimedAt d window → m.water ≤ x.time → IsPutStep d m n before x more after → MissesNone d window m.water before lane → MissesNone d window m.water after lane
+misses_with_tuple : {M : Type 0} → (d : Definitions) (window : ℕ) (m : Moment) (n : ℕ) (before : Stored) (x : Kept) (more : ℕ) (after : Stored) (lane : Laned M) → IsTimedAt d window → m.water ≤ x.time → IsPutStep d m n before x more after → MissesNone d window m.water before lane → MissesNone d window m.water after lane
 misses_with_tuple d window m n before x more after lane t behind step ahead =
     knows_all_stays (kind_at d window) m.water x.time before after lane (same_up_to d window m n before x more after t step) (omega (arith, last_by (kind_at d window) m.water, behind)) ahead
 
@@ -54,14 +56,14 @@ no_count Between t e = false≢true t
 no_count (Counted count) t e = false≢true t
 
 -- ---- a part of any kind
-pub stands_with_tuple_any : {Q : Type 0} → (d : Definitions) (window : ℕ) (m : Moment) (n : ℕ) (before : Stored) (x : Kept) (more : ℕ) (after : Stored) (part : WindowPart Q) → is_timed (window_at d window).kind ≡ true → m.water ≤ x.time → IsPutStep d m n before x more after → stands_any d window m n before part → stands_any d window (with_tuple m x) more after part
-stands_with_tuple_any d window m n before x more after (Intervals p) t behind step stood = serves_with_tuple d window m n before x more after p.lane behind step stood
-stands_with_tuple_any d window m n before x more after (Sessions p) t behind step stood = absurd (no_session (window_at d window).kind t stood.session.session)
-stands_with_tuple_any d window m n before x more after (Marks p) t behind step stood = absurd (false≢true (sym (ap is_timed stood.marks.kind) ∙ t))
-stands_with_tuple_any d window m n before x more after (Events p) t behind step stood = absurd (no_count (window_at d window).kind t (passes_at (λ def. is_events def.kind) d window stood.counts))
+pub stands_with_tuple_any : {M Q : Type 0} (serves : Func → Type 0) (of_values : List ℤ → M) (d : Definitions) (window : ℕ) (m : Moment) (n : ℕ) (before : Stored) (x : Kept) (more : ℕ) (after : Stored) (part : WindowPart M Q) → is_timed (window_at d window).kind ≡ true → m.water ≤ x.time → IsPutStep d m n before x more after → stands_any serves of_values d window m n before part → stands_any serves of_values d window (with_tuple m x) more after part
+stands_with_tuple_any serves of_values d window m n before x more after (Intervals p) t behind step stood = serves_with_tuple d window m n before x more after p.lane behind step stood
+stands_with_tuple_any serves of_values d window m n before x more after (Sessions p) t behind step stood = absurd (no_session (window_at d window).kind t stood.session.session)
+stands_with_tuple_any serves of_values d window m n before x more after (Marks p) t behind step stood = absurd (false≢true (sym (ap is_timed stood.marks.kind) ∙ t))
+stands_with_tuple_any serves of_values d window m n before x more after (Events p) t behind step stood = absurd (no_count (window_at d window).kind t (passes_at (λ def. is_events def.kind) d window stood.counts))
 
-pub ahead_with_tuple_any : {Q : Type 0} → (d : Definitions) (window : ℕ) (m : Moment) (n : ℕ) (before : Stored) (x : Kept) (more : ℕ) (after : Stored) (part : WindowPart Q) → is_timed (window_at d window).kind ≡ true → m.water ≤ x.time → IsPutStep d m n before x more after → stands_any d window m n before part → ahead_any d window m.water before part → ahead_any d window m.water after part
-ahead_with_tuple_any d window m n before x more after (Intervals p) t behind step stood ahead = misses_with_tuple d window m n before x more after p.lane stood.timed behind step ahead
-ahead_with_tuple_any d window m n before x more after (Sessions p) t behind step stood ahead = ahead
-ahead_with_tuple_any d window m n before x more after (Marks p) t behind step stood ahead = ahead
-ahead_with_tuple_any d window m n before x more after (Events p) t behind step stood ahead = ahead
+pub ahead_with_tuple_any : {M Q : Type 0} (serves : Func → Type 0) (of_values : List ℤ → M) (d : Definitions) (window : ℕ) (m : Moment) (n : ℕ) (before : Stored) (x : Kept) (more : ℕ) (after : Stored) (part : WindowPart M Q) → is_timed (window_at d window).kind ≡ true → m.water ≤ x.time → IsPutStep d m n before x more after → stands_any serves of_values d window m n before part → ahead_any d window m.water before part → ahead_any d window m.water after part
+ahead_with_tuple_any serves of_values d window m n before x more after (Intervals p) t behind step stood ahead = misses_with_tuple d window m n before x more after p.lane stood.timed behind step ahead
+ahead_with_tuple_any serves of_values d window m n before x more after (Sessions p) t behind step stood ahead = ahead
+ahead_with_tuple_any serves of_values d window m n before x more after (Marks p) t behind step stood ahead = ahead
+ahead_with_tuple_any serves of_values d window m n before x more after (Events p) t behind step stood ahead = ahead

@@ -3,7 +3,7 @@
 //! *From* the tuples and marks of a key in its store of slices and moves of the watermark, *to* the
 //! changes of one window of any kind. *Stands on* `time_parts` and `context_windows`, whose parts it
 //! hands each call on to. *Promise*: that of `key_parts`, for the window at each place of all
-//! definitions.
+//! definitions of which the partials show the function.
 #![tactic(auto)]
 
 mod laws;

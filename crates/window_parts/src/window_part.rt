@@ -1,7 +1,7 @@
 //! The part of a window of any kind.
 use agg_laws::{AggQueue, Steps};
 use agg_store::AggStore;
-use aggregates::Bundle;
+use aggregates::Partial;
 use context_windows::{MarkPart, SessionPart};
 use key_parts::{AnyPart, KeyPart};
 use std::alloc::Global;
@@ -10,9 +10,9 @@ use time_parts::{CountPart, LanePart};
 
 /// The part of a window of any kind in the state of a key.
 #[derive(Drop)]
-pub enum WindowPart<Q: AggQueue<Bundle>> {
+pub enum WindowPart<M: Partial, Q: AggQueue<M>> {
     /// Of a tumbling or sliding window.
-    Intervals(LanePart<Q>),
+    Intervals(LanePart<M, Q>),
     /// Of a session window.
     Sessions(SessionPart),
     /// Of a window between marks.
@@ -21,24 +21,23 @@ pub enum WindowPart<Q: AggQueue<Bundle>> {
     Events(CountPart),
 }
 
-impl<Q: AggQueue<Bundle> + Drop> AnyPart for WindowPart<Q> {
+impl<M: Partial, Q: AggQueue<M> + Drop> AnyPart<M> for WindowPart<M, Q> {
     ghost use Rattle.window_parts.specs.Untold.{ahead_with_tuple_any, stands_with_tuple_any};
 
-    ghost serves = { λ d window within. within };
+    ghost serves = { λ d window within shown. record { within = within; shown = shown } };
 
-    ghost stands_with_tuple = { stands_with_tuple_any };
+    ghost stands_with_tuple = { stands_with_tuple_any M.serves M.of_values };
 
-    ghost ahead_with_tuple = { ahead_with_tuple_any };
+    ghost ahead_with_tuple = { ahead_with_tuple_any M.serves M.of_values };
 }
 
-impl<Q: AggQueue<Bundle> + Drop> KeyPart for WindowPart<Q> {
-    ghost use Rattle.std.specs.Prelude.{◌<◌, length};
+impl<M: Partial, Q: AggQueue<M> + Drop> KeyPart<M> for WindowPart<M, Q> {
     ghost use Rattle.time_parts.specs.Lanes.{complete_in_time, complete_up_to, slices_completed, slices_of_last};
-    ghost use Rattle.window_parts.specs.Any.{ahead_any, ahead_with_room_any, asked_any, can_move_any, credit_any, lean_any, mark_room_any, move_room_any, owed_any, put_room_any, ready_any, settles_any, stands_any, stands_with_room_any, waits_any};
+    ghost use Rattle.window_parts.specs.Any.{IsShown, ahead_any, ahead_with_room_any, asked_any, can_move_any, credit_any, lean_any, mark_room_any, move_room_any, owed_any, put_room_any, ready_any, settles_any, stands_any, stands_with_room_any, waits_any};
 
-    ghost is_for = { λ d window. window < length d.windows };
+    ghost is_for = { IsShown M.serves };
 
-    ghost stands = { stands_any };
+    ghost stands = { stands_any M.serves M.of_values };
 
     ghost is_asked = { asked_any };
 
@@ -69,11 +68,11 @@ impl<Q: AggQueue<Bundle> + Drop> KeyPart for WindowPart<Q> {
 
     ghost is_lean = { lean_any };
 
-    ghost stands_with_room = { stands_with_room_any };
+    ghost stands_with_room = { stands_with_room_any M.serves M.of_values };
 
     ghost ahead_with_room = { ahead_with_room_any };
 
-    ghost waits = { waits_any };
+    ghost waits = { waits_any M.serves M.of_values };
 
     ghost complete_in_time = { complete_in_time };
 
@@ -81,11 +80,11 @@ impl<Q: AggQueue<Bundle> + Drop> KeyPart for WindowPart<Q> {
         let windows = defs.windows();
         match windows[window as usize].kind {
             Kind::Tumbling { .. } | Kind::Sliding { .. } => {
-                WindowPart::Intervals(LanePart::fresh(alloc, defs, window))
+                WindowPart::Intervals(KeyPart::<M>::fresh(alloc, defs, window))
             }
-            Kind::Session { .. } => WindowPart::Sessions(SessionPart::fresh(alloc, defs, window)),
-            Kind::Marks => WindowPart::Marks(MarkPart::fresh(alloc, defs, window)),
-            Kind::Events { .. } => WindowPart::Events(CountPart::fresh(alloc, defs, window)),
+            Kind::Session { .. } => WindowPart::Sessions(KeyPart::<M>::fresh(alloc, defs, window)),
+            Kind::Marks => WindowPart::Marks(KeyPart::<M>::fresh(alloc, defs, window)),
+            Kind::Events { .. } => WindowPart::Events(KeyPart::<M>::fresh(alloc, defs, window)),
         }
     }
 
@@ -97,14 +96,18 @@ impl<Q: AggQueue<Bundle> + Drop> KeyPart for WindowPart<Q> {
         water: u64,
     ) -> Result<u64, NoMemory> {
         match self {
-            WindowPart::Intervals(part) => part.reserve_put(defs, window, time, water),
-            WindowPart::Sessions(part) => part.reserve_put(defs, window, time, water),
-            WindowPart::Marks(part) => part.reserve_put(defs, window, time, water),
-            WindowPart::Events(part) => part.reserve_put(defs, window, time, water),
+            WindowPart::Intervals(part) => KeyPart::<M>::reserve_put(
+                part, defs, window, time, water,
+            ),
+            WindowPart::Sessions(part) => KeyPart::<M>::reserve_put(
+                part, defs, window, time, water,
+            ),
+            WindowPart::Marks(part) => KeyPart::<M>::reserve_put(part, defs, window, time, water),
+            WindowPart::Events(part) => KeyPart::<M>::reserve_put(part, defs, window, time, water),
         }
     }
 
-    fn before<S: AggStore, L>(
+    fn before<S: AggStore<M>, L>(
         &mut self,
         defs: &Defs,
         window: u32,
@@ -121,7 +124,7 @@ impl<Q: AggQueue<Bundle> + Drop> KeyPart for WindowPart<Q> {
         }
     }
 
-    fn put<S: AggStore, L>(
+    fn put<S: AggStore<M>, L>(
         &mut self,
         defs: &Defs,
         window: u32,
@@ -158,14 +161,18 @@ impl<Q: AggQueue<Bundle> + Drop> KeyPart for WindowPart<Q> {
         water: u64,
     ) -> Result<u64, NoMemory> {
         match self {
-            WindowPart::Intervals(part) => part.reserve_mark(defs, window, time, water),
-            WindowPart::Sessions(part) => part.reserve_mark(defs, window, time, water),
-            WindowPart::Marks(part) => part.reserve_mark(defs, window, time, water),
-            WindowPart::Events(part) => part.reserve_mark(defs, window, time, water),
+            WindowPart::Intervals(part) => KeyPart::<M>::reserve_mark(
+                part, defs, window, time, water,
+            ),
+            WindowPart::Sessions(part) => KeyPart::<M>::reserve_mark(
+                part, defs, window, time, water,
+            ),
+            WindowPart::Marks(part) => KeyPart::<M>::reserve_mark(part, defs, window, time, water),
+            WindowPart::Events(part) => KeyPart::<M>::reserve_mark(part, defs, window, time, water),
         }
     }
 
-    fn mark<S: AggStore, L>(
+    fn mark<S: AggStore<M>, L>(
         &mut self,
         defs: &Defs,
         window: u32,
@@ -190,7 +197,7 @@ impl<Q: AggQueue<Bundle> + Drop> KeyPart for WindowPart<Q> {
         }
     }
 
-    fn reserve_water<S: AggStore>(
+    fn reserve_water<S: AggStore<M>>(
         &mut self,
         defs: &Defs,
         window: u32,
@@ -206,7 +213,7 @@ impl<Q: AggQueue<Bundle> + Drop> KeyPart for WindowPart<Q> {
         }
     }
 
-    fn water<S: AggStore, L>(
+    fn water<S: AggStore<M>, L>(
         &mut self,
         defs: &Defs,
         window: u32,
@@ -229,7 +236,7 @@ impl<Q: AggQueue<Bundle> + Drop> KeyPart for WindowPart<Q> {
         }
     }
 
-    fn next_due<S: AggStore>(&self, defs: &Defs, window: u32, store: &S, water: u64) -> u64 {
+    fn next_due<S: AggStore<M>>(&self, defs: &Defs, window: u32, store: &S, water: u64) -> u64 {
         match self {
             WindowPart::Intervals(part) => part.next_due(defs, window, store, water),
             WindowPart::Sessions(part) => part.next_due(defs, window, store, water),
@@ -240,37 +247,37 @@ impl<Q: AggQueue<Bundle> + Drop> KeyPart for WindowPart<Q> {
 
     fn first_unsettled(&self, defs: &Defs, window: u32, water: u64) -> u64 {
         match self {
-            WindowPart::Intervals(part) => part.first_unsettled(defs, window, water),
-            WindowPart::Sessions(part) => part.first_unsettled(defs, window, water),
-            WindowPart::Marks(part) => part.first_unsettled(defs, window, water),
-            WindowPart::Events(part) => part.first_unsettled(defs, window, water),
+            WindowPart::Intervals(part) => KeyPart::<M>::first_unsettled(part, defs, window, water),
+            WindowPart::Sessions(part) => KeyPart::<M>::first_unsettled(part, defs, window, water),
+            WindowPart::Marks(part) => KeyPart::<M>::first_unsettled(part, defs, window, water),
+            WindowPart::Events(part) => KeyPart::<M>::first_unsettled(part, defs, window, water),
         }
     }
 
     fn settled_by(&self, defs: &Defs, window: u32, time: u64) -> u64 {
         match self {
-            WindowPart::Intervals(part) => part.settled_by(defs, window, time),
-            WindowPart::Sessions(part) => part.settled_by(defs, window, time),
-            WindowPart::Marks(part) => part.settled_by(defs, window, time),
-            WindowPart::Events(part) => part.settled_by(defs, window, time),
+            WindowPart::Intervals(part) => KeyPart::<M>::settled_by(part, defs, window, time),
+            WindowPart::Sessions(part) => KeyPart::<M>::settled_by(part, defs, window, time),
+            WindowPart::Marks(part) => KeyPart::<M>::settled_by(part, defs, window, time),
+            WindowPart::Events(part) => KeyPart::<M>::settled_by(part, defs, window, time),
         }
     }
 
     fn drop_settled(&mut self, defs: &Defs, window: u32, water: u64) {
         match self {
-            WindowPart::Intervals(part) => part.drop_settled(defs, window, water),
-            WindowPart::Sessions(part) => part.drop_settled(defs, window, water),
-            WindowPart::Marks(part) => part.drop_settled(defs, window, water),
-            WindowPart::Events(part) => part.drop_settled(defs, window, water),
+            WindowPart::Intervals(part) => KeyPart::<M>::drop_settled(part, defs, window, water),
+            WindowPart::Sessions(part) => KeyPart::<M>::drop_settled(part, defs, window, water),
+            WindowPart::Marks(part) => KeyPart::<M>::drop_settled(part, defs, window, water),
+            WindowPart::Events(part) => KeyPart::<M>::drop_settled(part, defs, window, water),
         }
     }
 
     fn drop_needless(&mut self, defs: &Defs, window: u32, water: u64) {
         match self {
-            WindowPart::Intervals(part) => part.drop_needless(defs, window, water),
-            WindowPart::Sessions(part) => part.drop_needless(defs, window, water),
-            WindowPart::Marks(part) => part.drop_needless(defs, window, water),
-            WindowPart::Events(part) => part.drop_needless(defs, window, water),
+            WindowPart::Intervals(part) => KeyPart::<M>::drop_needless(part, defs, window, water),
+            WindowPart::Sessions(part) => KeyPart::<M>::drop_needless(part, defs, window, water),
+            WindowPart::Marks(part) => KeyPart::<M>::drop_needless(part, defs, window, water),
+            WindowPart::Events(part) => KeyPart::<M>::drop_needless(part, defs, window, water),
         }
     }
 }

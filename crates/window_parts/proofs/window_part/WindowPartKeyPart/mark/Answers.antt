@@ -5,13 +5,13 @@ use Rattle.window_parts.proofs.As.{mark_as}
 use Rattle.window_parts.proofs.window_part.WindowPartKeyPart.mark.Goals as goal
 
 pub returns-in-Intervals-clause-stands : goal.returns-in-Intervals-clause-stands
-returns-in-Intervals-clause-stands g c = λ m n before t. c.mark.ensures.stands m n before (mark_as (λ m n s h. subst (λ p. stands_any c.args.defs.now c.args.window m n s p) c.in-Intervals.is h) t)
+returns-in-Intervals-clause-stands g c = λ m n before t. c.mark.ensures.stands m n before (mark_as (λ m n s h. subst (λ p. stands_any g.M.Partial.serves g.M.Partial.of_values c.args.defs.now c.args.window m n s p) c.in-Intervals.is h) t)
 
 pub returns-in-Sessions-clause-stands : goal.returns-in-Sessions-clause-stands
-returns-in-Sessions-clause-stands g c = λ m n before t. c.mark-in-Sessions.ensures.stands m n before (mark_as (λ m n s h. subst (λ p. stands_any c.args.defs.now c.args.window m n s p) c.in-Sessions.is h) t)
+returns-in-Sessions-clause-stands g c = λ m n before t. c.mark-in-Sessions.ensures.stands m n before (mark_as (λ m n s h. subst (λ p. stands_any g.M.Partial.serves g.M.Partial.of_values c.args.defs.now c.args.window m n s p) c.in-Sessions.is h) t)
 
 pub returns-in-Marks-clause-stands : goal.returns-in-Marks-clause-stands
-returns-in-Marks-clause-stands g c = λ m n before t. c.mark-in-Marks.ensures.stands m n before (mark_as (λ m n s h. subst (λ p. stands_any c.args.defs.now c.args.window m n s p) c.in-Marks.is h) t)
+returns-in-Marks-clause-stands g c = λ m n before t. c.mark-in-Marks.ensures.stands m n before (mark_as (λ m n s h. subst (λ p. stands_any g.M.Partial.serves g.M.Partial.of_values c.args.defs.now c.args.window m n s p) c.in-Marks.is h) t)
 
 pub returns-in-Events-clause-stands : goal.returns-in-Events-clause-stands
-returns-in-Events-clause-stands g c = λ m n before t. c.mark-in-Events.ensures.stands m n before (mark_as (λ m n s h. subst (λ p. stands_any c.args.defs.now c.args.window m n s p) c.in-Events.is h) t)
+returns-in-Events-clause-stands g c = λ m n before t. c.mark-in-Events.ensures.stands m n before (mark_as (λ m n s h. subst (λ p. stands_any g.M.Partial.serves g.M.Partial.of_values c.args.defs.now c.args.window m n s p) c.in-Events.is h) t)

@@ -8,7 +8,7 @@ returns-in-Intervals g c =
     let d = c.args.defs.now in
     let window = c.args.window in
     record {
-      stays = λ m n s h. c.reserve_mark.ensures.stays m n s (subst (λ p. stands_any d window m n s p) c.in-Intervals.is h);
+      stays = λ m n s h. c.reserve_mark.ensures.stays m n s (subst (λ p. stands_any g.M.Partial.serves g.M.Partial.of_values d window m n s p) c.in-Intervals.is h);
       ready = c.reserve_mark.ensures.ready;
       room = c.reserve_mark.ensures.room;
       credit = omega (arith, c.reserve_mark.ensures.credit, ap credit_any c.in-Intervals.is);
@@ -20,7 +20,7 @@ returns-in-Sessions g c =
     let d = c.args.defs.now in
     let window = c.args.window in
     record {
-      stays = λ m n s h. c.reserve_mark-in-Sessions.ensures.stays m n s (subst (λ p. stands_any d window m n s p) c.in-Sessions.is h);
+      stays = λ m n s h. c.reserve_mark-in-Sessions.ensures.stays m n s (subst (λ p. stands_any g.M.Partial.serves g.M.Partial.of_values d window m n s p) c.in-Sessions.is h);
       ready = c.reserve_mark-in-Sessions.ensures.ready;
       room = c.reserve_mark-in-Sessions.ensures.room;
       credit = omega (arith, c.reserve_mark-in-Sessions.ensures.credit, ap credit_any c.in-Sessions.is);
@@ -32,7 +32,7 @@ returns-in-Marks g c =
     let d = c.args.defs.now in
     let window = c.args.window in
     record {
-      stays = λ m n s h. c.reserve_mark-in-Marks.ensures.stays m n s (subst (λ p. stands_any d window m n s p) c.in-Marks.is h);
+      stays = λ m n s h. c.reserve_mark-in-Marks.ensures.stays m n s (subst (λ p. stands_any g.M.Partial.serves g.M.Partial.of_values d window m n s p) c.in-Marks.is h);
       ready = c.reserve_mark-in-Marks.ensures.ready;
       room = c.reserve_mark-in-Marks.ensures.room;
       credit = omega (arith, c.reserve_mark-in-Marks.ensures.credit, ap credit_any c.in-Marks.is);
@@ -44,7 +44,7 @@ returns-in-Events g c =
     let d = c.args.defs.now in
     let window = c.args.window in
     record {
-      stays = λ m n s h. c.reserve_mark-in-Events.ensures.stays m n s (subst (λ p. stands_any d window m n s p) c.in-Events.is h);
+      stays = λ m n s h. c.reserve_mark-in-Events.ensures.stays m n s (subst (λ p. stands_any g.M.Partial.serves g.M.Partial.of_values d window m n s p) c.in-Events.is h);
       ready = c.reserve_mark-in-Events.ensures.ready;
       room = c.reserve_mark-in-Events.ensures.room;
       credit = omega (arith, c.reserve_mark-in-Events.ensures.credit, ap credit_any c.in-Events.is);

@@ -36,22 +36,22 @@ pub returns-in-Intervals-clause-settles : goal.returns-in-Intervals-clause-settl
 returns-in-Intervals-clause-settles g c = λ m n s w water earlier is t.
     let d = c.args.defs.now in
     subst (λ p. SettlesUpTo d.lateness (at_water (without_first n m) water) (window_at d c.args.window) (settles_any d c.args.window water p)) (sym c.in-Intervals.is)
-    (c.settled_by.ensures.settles m n s w water earlier is (stands_as (λ m n s h. subst (λ p. stands_any d c.args.window m n s p) c.in-Intervals.is h) t))
+    (c.settled_by.ensures.settles m n s w water earlier is (stands_as (λ m n s h. subst (λ p. stands_any g.M.Partial.serves g.M.Partial.of_values d c.args.window m n s p) c.in-Intervals.is h) t))
 
 pub returns-in-Sessions-clause-settles : goal.returns-in-Sessions-clause-settles
 returns-in-Sessions-clause-settles g c = λ m n s w water earlier is t.
     let d = c.args.defs.now in
     subst (λ p. SettlesUpTo d.lateness (at_water (without_first n m) water) (window_at d c.args.window) (settles_any d c.args.window water p)) (sym c.in-Sessions.is)
-    (c.settled_by-in-Sessions.ensures.settles m n s w water earlier is (stands_as (λ m n s h. subst (λ p. stands_any d c.args.window m n s p) c.in-Sessions.is h) t))
+    (c.settled_by-in-Sessions.ensures.settles m n s w water earlier is (stands_as (λ m n s h. subst (λ p. stands_any g.M.Partial.serves g.M.Partial.of_values d c.args.window m n s p) c.in-Sessions.is h) t))
 
 pub returns-in-Marks-clause-settles : goal.returns-in-Marks-clause-settles
 returns-in-Marks-clause-settles g c = λ m n s w water earlier is t.
     let d = c.args.defs.now in
     subst (λ p. SettlesUpTo d.lateness (at_water (without_first n m) water) (window_at d c.args.window) (settles_any d c.args.window water p)) (sym c.in-Marks.is)
-    (c.settled_by-in-Marks.ensures.settles m n s w water earlier is (stands_as (λ m n s h. subst (λ p. stands_any d c.args.window m n s p) c.in-Marks.is h) t))
+    (c.settled_by-in-Marks.ensures.settles m n s w water earlier is (stands_as (λ m n s h. subst (λ p. stands_any g.M.Partial.serves g.M.Partial.of_values d c.args.window m n s p) c.in-Marks.is h) t))
 
 pub returns-in-Events-clause-settles : goal.returns-in-Events-clause-settles
 returns-in-Events-clause-settles g c = λ m n s w water earlier is t.
     let d = c.args.defs.now in
     subst (λ p. SettlesUpTo d.lateness (at_water (without_first n m) water) (window_at d c.args.window) (settles_any d c.args.window water p)) (sym c.in-Events.is)
-    (c.settled_by-in-Events.ensures.settles m n s w water earlier is (stands_as (λ m n s h. subst (λ p. stands_any d c.args.window m n s p) c.in-Events.is h) t))
+    (c.settled_by-in-Events.ensures.settles m n s w water earlier is (stands_as (λ m n s h. subst (λ p. stands_any g.M.Partial.serves g.M.Partial.of_values d c.args.window m n s p) c.in-Events.is h) t))
