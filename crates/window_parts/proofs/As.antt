@@ -1,11 +1,10 @@
 -- What a part of one kind meets at a call, told of the part of any kind that it is.
-use Rattle.std.proofs.Common.{◌≡◌, ℕ, ℤ, subst, sym}
+use Rattle.std.proofs.Common.{ℕ}
 use Rattle.stream_base.specs.Limits.{Definitions}
 use Rattle.stream_base.specs.declared.kept.Kept.{Kept}
 use Rattle.stream_base.specs.Model.Changes.{Moment}
 use Rattle.window_laws.specs.After.{with_tuple}
 use Rattle.agg_store.specs.Stored.{Stored}
-use Rattle.key_windows.specs.Calls.{kept_at}
 use Rattle.key_parts.specs.Calls.{LosesSettled, Standing, StandsAt, TakesMark, TakesTuple}
 
 module _ {P Q : Type 0} {S : Standing P} {R : Standing Q} {d : Definitions} {window : ℕ} {p : P} {q : Q} (same : (m : Moment) (n : ℕ) (s : Stored) → S d window m n s p → R d window m n s q) where
@@ -21,18 +20,11 @@ module _ {P Q : Type 0} {S : Standing P} {R : Standing Q} {d : Definitions} {win
   pub tuple_as : {A : Definitions → ℕ → Moment → ℕ → P → Type 0} {B : Definitions → ℕ → Moment → ℕ → Q → Type 0} {water : ℕ} {x : Kept} {after : Stored} → ((m : Moment) → A d window m x.time p → B d window m x.time q) → {m : Moment} {n : ℕ} {before : Stored} {more : ℕ} → TakesTuple S d window A water x after p m n before more → TakesTuple R d window B water x after q m n before more
   tuple_as {A} {B} {water} {x} {after} asks {m} {n} {before} {more} t = record { water_is = t.water_is; is_water = t.is_water; step = t.step; stood = same m n before t.stood; asked = asks m t.asked }
 
-  -- the same where the value of the tuple is written in another way
-  pub stands_with : {A : Definitions → ℕ → Moment → ℕ → P → Type 0} {B : Definitions → ℕ → Moment → ℕ → Q → Type 0} {water pos time : ℕ} {value other : ℤ} {after : Stored} {now : Q} → ((m : Moment) → A d window m time p → B d window m time q) → other ≡ value → ((m : Moment) (n : ℕ) (before : Stored) (more : ℕ) → TakesTuple R d window B water (kept_at pos time other) after q m n before more → R d window (with_tuple m (kept_at pos time other)) more after now) → {m : Moment} {n : ℕ} {before : Stored} {more : ℕ} → TakesTuple S d window A water (kept_at pos time value) after p m n before more → R d window (with_tuple m (kept_at pos time value)) more after now
-  stands_with {A} {B} {water} {pos} {time} {value} {other} {after} {now} asks same step {m} {n} {before} {more} t =
-      let given = subst (λ v. TakesTuple S d window A water (kept_at pos time v) after p m n before more) (sym same) t in
-      subst (λ v. R d window (with_tuple m (kept_at pos time v)) more after now) same (step m n before more (tuple_as asks given))
+  pub stands_with : {A : Definitions → ℕ → Moment → ℕ → P → Type 0} {B : Definitions → ℕ → Moment → ℕ → Q → Type 0} {water : ℕ} {x : Kept} {after : Stored} {now : Q} → ((m : Moment) → A d window m x.time p → B d window m x.time q) → ((m : Moment) (n : ℕ) (before : Stored) (more : ℕ) → TakesTuple R d window B water x after q m n before more → R d window (with_tuple m x) more after now) → {m : Moment} {n : ℕ} {before : Stored} {more : ℕ} → TakesTuple S d window A water x after p m n before more → R d window (with_tuple m x) more after now
+  stands_with asks step {m} {n} {before} {more} t = step m n before more (tuple_as asks t)
 
-  pub changes_with : {A : Definitions → ℕ → Moment → ℕ → P → Type 0} {B : Definitions → ℕ → Moment → ℕ → Q → Type 0} {water pos time : ℕ} {value other : ℤ} {after : Stored} (F : Moment → Kept → Type 0) → ((m : Moment) → A d window m time p → B d window m time q) → other ≡ value → ((m : Moment) (n : ℕ) (before : Stored) (more : ℕ) → TakesTuple R d window B water (kept_at pos time other) after q m n before more → F m (kept_at pos time other)) → {m : Moment} {n : ℕ} {before : Stored} {more : ℕ} → TakesTuple S d window A water (kept_at pos time value) after p m n before more → F m (kept_at pos time value)
-  changes_with {A} {B} {water} {pos} {time} {value} {other} {after} F asks same step {m} {n} {before} {more} t =
-      let given = subst (λ v. TakesTuple S d window A water (kept_at pos time v) after p m n before more) (sym same) t in
-      subst (λ v. F m (kept_at pos time v)) same (step m n before more (tuple_as asks given))
+  pub changes_with : {A : Definitions → ℕ → Moment → ℕ → P → Type 0} {B : Definitions → ℕ → Moment → ℕ → Q → Type 0} {water : ℕ} {x : Kept} {after : Stored} (F : Moment → Kept → Type 0) → ((m : Moment) → A d window m x.time p → B d window m x.time q) → ((m : Moment) (n : ℕ) (before : Stored) (more : ℕ) → TakesTuple R d window B water x after q m n before more → F m x) → {m : Moment} {n : ℕ} {before : Stored} {more : ℕ} → TakesTuple S d window A water x after p m n before more → F m x
+  changes_with F asks step {m} {n} {before} {more} t = step m n before more (tuple_as asks t)
 
-  pub ahead_with : {A : Definitions → ℕ → Moment → ℕ → P → Type 0} {B : Definitions → ℕ → Moment → ℕ → Q → Type 0} {water pos time : ℕ} {value other : ℤ} {after : Stored} (F : Stored → Type 0) → ((m : Moment) → A d window m time p → B d window m time q) → other ≡ value → ((m : Moment) (n : ℕ) (before : Stored) (more : ℕ) → TakesTuple R d window B water (kept_at pos time other) after q m n before more → F before) → {m : Moment} {n : ℕ} {before : Stored} {more : ℕ} → TakesTuple S d window A water (kept_at pos time value) after p m n before more → F before
-  ahead_with {A} {B} {water} {pos} {time} {value} {other} {after} F asks same step {m} {n} {before} {more} t =
-      let given = subst (λ v. TakesTuple S d window A water (kept_at pos time v) after p m n before more) (sym same) t in
-      step m n before more (tuple_as asks given)
+  pub ahead_with : {A : Definitions → ℕ → Moment → ℕ → P → Type 0} {B : Definitions → ℕ → Moment → ℕ → Q → Type 0} {water : ℕ} {x : Kept} {after : Stored} (F : Stored → Type 0) → ((m : Moment) → A d window m x.time p → B d window m x.time q) → ((m : Moment) (n : ℕ) (before : Stored) (more : ℕ) → TakesTuple R d window B water x after q m n before more → F before) → {m : Moment} {n : ℕ} {before : Stored} {more : ℕ} → TakesTuple S d window A water x after p m n before more → F before
+  ahead_with F asks step {m} {n} {before} {more} t = step m n before more (tuple_as asks t)

@@ -5,7 +5,7 @@ use aggregates::Partial;
 use context_windows::{MarkPart, SessionPart};
 use key_parts::{AnyPart, KeyPart};
 use std::alloc::Global;
-use stream_base::{Change, Defs, KeyText, Kind, NoMemory};
+use stream_base::{Change, Defs, Kept, KeyText, Kind, NoMemory};
 use time_parts::{CountPart, LanePart};
 
 /// The part of a window of any kind in the state of a key.
@@ -130,26 +130,16 @@ impl<M: Partial, Q: AggQueue<M> + Drop> KeyPart<M> for WindowPart<M, Q> {
         window: u32,
         store: &S,
         key: &KeyText,
-        pos: u64,
-        time: u64,
-        value: i64,
+        x: Kept,
         water: u64,
         out: &mut Vec<Change>,
         steps: &mut Steps<L>,
     ) {
         match self {
-            WindowPart::Intervals(part) => part.put(
-                defs, window, store, key, pos, time, value, water, out, steps,
-            ),
-            WindowPart::Sessions(part) => part.put(
-                defs, window, store, key, pos, time, value, water, out, steps,
-            ),
-            WindowPart::Marks(part) => part.put(
-                defs, window, store, key, pos, time, value, water, out, steps,
-            ),
-            WindowPart::Events(part) => part.put(
-                defs, window, store, key, pos, time, value, water, out, steps,
-            ),
+            WindowPart::Intervals(part) => part.put(defs, window, store, key, x, water, out, steps),
+            WindowPart::Sessions(part) => part.put(defs, window, store, key, x, water, out, steps),
+            WindowPart::Marks(part) => part.put(defs, window, store, key, x, water, out, steps),
+            WindowPart::Events(part) => part.put(defs, window, store, key, x, water, out, steps),
         }
     }
 
