@@ -5,6 +5,7 @@ use Rattle.stream_base.specs.Limits.{Definitions}
 use Rattle.stream_base.specs.declared.def.Def.{Def}
 use Rattle.stream_base.specs.declared.func.Func.TheVariants.{Count}
 use Rattle.stream_base.specs.declared.kept.Kept.{Kept}
+use Rattle.stream_base.specs.declared.kind.Kind.{Kind}
 use Rattle.stream_base.specs.declared.kind.Kind.TheVariants.{Marks}
 use Rattle.stream_base.specs.declared.limits.TheConstants.{TIME_MAX}
 use Rattle.stream_base.specs.Model.Changes.{Moment}
@@ -16,6 +17,10 @@ use Rattle.key_parts.specs.Moves.{AreLists, IsMarkStep, IsPurge, IsPutStep}
 -- the window at a place of the definitions
 abbrev pub window_at : Definitions → ℕ → Def
 window_at d window = slice_index_or d.windows window (record { kind = Marks; func = Count })
+
+-- the kind of the window at a place
+abbrev pub kind_at : Definitions → ℕ → Kind
+kind_at d window = (window_at d window).kind
 
 -- for the window at a place a part stands for what is known of a key, of which the store lacks so many first tuples
 abbrev pub Standing : Type 0 → Type 1
@@ -76,10 +81,26 @@ module _ {P : Type 0} (at : StandingAt P) where
     pub within : time ≤ TIME_MAX
     pub key : (m : Moment) × (n : ℕ) × (s : Stored) × (w : ℕ) × at w s part m n
 
+  -- a part stands for some key, under a watermark that may lead on to this one
+  abbrev pub MayLeadTo : ℕ → P → Type 0
+  MayLeadTo water part = (m : Moment) × (n : ℕ) × (s : Stored) × (w : ℕ) × at w s part m n × LeadsOn w water
+
+-- a part stands for all that it stood for
+abbrev pub StandsAsBefore : {P : Type 0} → (Moment → ℕ → Stored → P → Type 0) → P → P → Type 0
+StandsAsBefore stands old new = (m : Moment) (n : ℕ) (s : Stored) → stands m n s old → stands m n s new
+
+-- a part stands for all that it stood for under a watermark
+abbrev pub StandsOnUnder : {P : Type 0} → (Moment → ℕ → Stored → P → Type 0) → ℕ → P → P → Type 0
+StandsOnUnder stands water old new = (m : Moment) (n : ℕ) (s : Stored) → m.water ≡ water → stands m n s old → stands m n s new
+
+-- a part has missed nothing that it hadn't
+abbrev pub MissesNoMore : {P : Type 0} → (ℕ → Stored → P → Type 0) → P → P → Type 0
+MissesNoMore is_ahead old new = (w : ℕ) (s : Stored) → is_ahead w s old → is_ahead w s new
+
 -- a call makes room and no more: where it doesn't fail the part is ready for the call to come, and it answers for how many changes. The part stands for all that it stood for, has missed nothing that it hadn't, and gains no credit
 pub record Prepares {P E : Type 0} (stands : Moment → ℕ → Stored → P → Type 0) (is_ahead : ℕ → Stored → P → Type 0) (credit_of : P → ℕ) (is_ready : P → Type 0) (room_for : P → ℕ) (old new : P) (answer : Result ℕ E) : Type 0 where
-  pub stays : (m : Moment) (n : ℕ) (s : Stored) → stands m n s old → stands m n s new
+  pub stays : StandsAsBefore stands old new
   pub ready : OnOk answer (is_ready new)
   pub room : IfOk answer (λ k. k ≡ room_for new)
   pub credit : credit_of new ≤ credit_of old
-  pub ahead : (w : ℕ) (s : Stored) → is_ahead w s old → is_ahead w s new
+  pub ahead : MissesNoMore is_ahead old new

@@ -2,3 +2,4 @@ pub mod Held
 pub mod Moves
 pub mod Calls
 pub mod Work
+pub mod Promises

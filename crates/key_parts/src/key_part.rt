@@ -1,16 +1,12 @@
 //! What the part of one window in the state of a key promises.
-ghost use Rattle.std.specs.Prelude.{◌≡◌, ◌≢◌, ◌≤◌, ◌<◌, ◌+◌, ◌-◌, ◌*◌, ◌++◌, [], ℕ, List, length, vec_len};
-ghost use Rattle.stream_base.specs.declared.limits.TheConstants.{FINAL};
-ghost use Rattle.stream_base.specs.Laws.{completions};
-ghost use Rattle.stream_base.specs.Model.Changes.{Moment, emissions, retractions};
+ghost use Rattle.std.specs.Prelude.{◌≡◌, ◌≤◌, ◌<◌, ◌*◌, [], ℕ, length};
+ghost use Rattle.stream_base.specs.Model.Changes.{Moment};
 ghost use Rattle.stream_base.specs.Vectors.{room};
-ghost use Rattle.window_laws.specs.After.{at_water, with_mark, with_tuple};
-ghost use Rattle.window_laws.specs.Settled.{without_first};
 ghost use Rattle.agg_store.specs.Stored.{Stored};
-ghost use Rattle.key_windows.specs.Calls.{IsAccepted, IsWater, LeadsOn, moment};
-ghost use Rattle.key_parts.specs.Calls.{LosesSettled, MayCome, MayMove, MayTell, Prepares, StandsAt, StandsForSome, TakesMark, TakesTuple, window_at};
-ghost use Rattle.key_parts.specs.Moves.{SettlesUpTo};
-ghost use Rattle.key_parts.specs.Work.{AddsAtMost, Spends, change_work, most_moved, row_work};
+ghost use Rattle.key_windows.specs.Calls.{IsAccepted, moment};
+ghost use Rattle.key_parts.specs.Calls.{MayCome, MayLeadTo, MayMove, MayTell, MissesNoMore, StandsAsBefore, StandsAt, StandsForSome, StandsOnUnder, kind_at};
+ghost use Rattle.key_parts.specs.Promises.{AddsByMark, AddsByMove, AddsByTuple, AheadAfterLoss, AheadMoved, AheadOfMark, AheadOfTuple, ForKey, MarkComes, NoneCompleteBefore, PaysAhead, PaysBehind, PreparesEntry, PreparesMove, SettlesTo, SettlesToEach, SomeCompleteAt, StandsAfterLoss, StandsMoved, StandsWithMark, StandsWithTuple, StepsAtMost, TupleComes};
+ghost use Rattle.key_parts.specs.Work.{AddsAtMost, SpendsOn, added, change_work, fold_work};
 
 use agg_laws::Steps;
 use agg_store::AggStore;
@@ -104,9 +100,8 @@ pub trait KeyPart<M: Partial>: Drop {
     ) -> Result<u64, NoMemory>
         requires { (s : Stored)
             × MayCome (StandsAt stands defs.now window) time water s self.old }
-        ensures { Prepares (stands defs.now window) (is_ahead defs.now window) credit
-            (is_ready defs.now window time water) (put_room defs.now window time water)
-            self.old self.new result };
+        ensures { PreparesEntry stands is_ahead credit is_ready put_room defs.now window
+            time water self.old self.new result };
 
     /// Keeps what stands of the instances that a tuple at a time changes. It is called before the
     /// store takes the tuple in.
@@ -123,18 +118,15 @@ pub trait KeyPart<M: Partial>: Drop {
             (S.stored store.now) self.old }
         requires accepted { IsAccepted defs.now time water }
         requires ready { is_ready defs.now window time water self.old }
-        ensures stays { (m : Moment) (n : ℕ) (s : Stored) → stands defs.now window m n s self.old
-            → stands defs.now window m n s self.new }
-        ensures asked { (m : Moment) (n : ℕ)
-            → StandsAt stands defs.now window water (S.stored store.now) self.old m n
-            → is_asked defs.now window m time self.new }
+        ensures stays { StandsAsBefore (stands defs.now window) self.old self.new }
+        ensures asked { ForKey stands defs.now window water (S.stored store.now) self.old
+            (λ m n. is_asked defs.now window m time self.new) }
         ensures ready { is_ready defs.now window time water self.new }
         ensures room { put_room defs.now window time water self.new
             ≡ put_room defs.now window time water self.old }
-        ensures cost { Spends (64 * ((S.stored store.now).reach + 2) * owed self.new)
-            steps.old steps.new (credit self.old) (credit self.new) }
-        ensures ahead { (w : ℕ) (s : Stored) → is_ahead defs.now window w s self.old
-            → is_ahead defs.now window w s self.new };
+        ensures cost { SpendsOn credit (fold_work (S.stored store.now).reach * owed self.new)
+            self.old self.new steps.old steps.new }
+        ensures ahead { MissesNoMore (is_ahead defs.now window) self.old self.new };
 
     /// Takes in a tuple that the store has taken in, or that is settled at once where each window
     /// counts events.
@@ -149,32 +141,22 @@ pub trait KeyPart<M: Partial>: Drop {
         out: &mut Vec<Change>,
         steps: &mut Steps<L>,
     )
-        requires takes { (m : Moment) × (n : ℕ) × (before : Stored) × (more : ℕ)
-            × TakesTuple stands defs.now window is_asked water x (S.stored store.now)
-            self.old m n before more }
+        requires takes { TupleComes stands defs.now window is_asked water x (S.stored store.now)
+            self.old }
         requires ready { is_ready defs.now window x.time water self.old }
         requires spare { put_room defs.now window x.time water self.old ≤ room out.old }
-        ensures stands { (m : Moment) (n : ℕ) (before : Stored) (more : ℕ)
-            → TakesTuple stands defs.now window is_asked water x (S.stored store.now)
-            self.old m n before more
-            → stands defs.now window (with_tuple m x) more (S.stored store.now) self.new }
-        ensures changes { (m : Moment) (n : ℕ) (before : Stored) (more : ℕ)
-            → TakesTuple stands defs.now window is_asked water x (S.stored store.now)
-            self.old m n before more → out.new.items ≡ out.old.items
-            ++ (retractions key.now m (with_tuple m x) (window, window_at defs.now window)
-            ++ emissions key.now m (with_tuple m x) (window, window_at defs.now window)) }
+        ensures stands { StandsWithTuple stands defs.now window is_asked water x (S.stored
+            store.now) self.old self.new }
+        ensures changes { AddsByTuple stands defs.now window is_asked water x (S.stored
+            store.now) self.old key.now out.old out.new }
         ensures adds { AddsAtMost (put_room defs.now window x.time water self.old)
             out.old out.new }
-        ensures owed { owed self.old ≤ vec_len out.new - vec_len out.old }
+        ensures owed { owed self.old ≤ added out.old out.new }
         ensures lean { is_lean defs.now window water self.new }
-        ensures cost { Spends (change_work (window_at defs.now window).kind
-            (S.stored store.now).reach * (vec_len out.new - vec_len out.old))
-            steps.old steps.new (credit self.old) (credit self.new) }
-        ensures ahead { (m : Moment) (n : ℕ) (before : Stored) (more : ℕ)
-            → TakesTuple stands defs.now window is_asked water x (S.stored store.now)
-            self.old m n before more → complete_by defs.now window water ≤ x.time
-            → is_ahead defs.now window water before self.old
-            → is_ahead defs.now window water (S.stored store.now) self.new };
+        ensures cost { SpendsOn credit (change_work (kind_at defs.now window) (S.stored
+            store.now).reach * added out.old out.new) self.old self.new steps.old steps.new }
+        ensures ahead { AheadOfTuple stands defs.now window is_asked complete_by is_ahead water x
+            (S.stored store.now) self.old self.new };
 
     /// Makes room for a mark at a time, and answers for how many changes.
     fn reserve_mark(
@@ -186,9 +168,8 @@ pub trait KeyPart<M: Partial>: Drop {
     ) -> Result<u64, NoMemory>
         requires { (s : Stored)
             × MayCome (StandsAt stands defs.now window) time water s self.old }
-        ensures { Prepares (stands defs.now window) (is_ahead defs.now window) credit
-            (is_ready defs.now window time water) (mark_room defs.now window time water)
-            self.old self.new result };
+        ensures { PreparesEntry stands is_ahead credit is_ready mark_room defs.now window
+            time water self.old self.new result };
 
     /// Takes in a mark that the store has taken in.
     fn mark<S: AggStore<M>, L>(
@@ -202,28 +183,19 @@ pub trait KeyPart<M: Partial>: Drop {
         out: &mut Vec<Change>,
         steps: &mut Steps<L>,
     )
-        requires takes { (m : Moment) × (n : ℕ) × (before : Stored)
-            × TakesMark stands defs.now window water time (S.stored store.now) self.old m n before }
+        requires takes { MarkComes stands defs.now window water time (S.stored store.now) self.old }
         requires ready { is_ready defs.now window time water self.old }
         requires spare { mark_room defs.now window time water self.old ≤ room out.old }
-        ensures stands { (m : Moment) (n : ℕ) (before : Stored)
-            → TakesMark stands defs.now window water time (S.stored store.now) self.old m n before
-            → stands defs.now window (with_mark m time) n (S.stored store.now) self.new }
-        ensures changes { (m : Moment) (n : ℕ) (before : Stored)
-            → TakesMark stands defs.now window water time (S.stored store.now) self.old m n before
-            → out.new.items ≡ out.old.items
-            ++ (retractions key.now m (with_mark m time) (window, window_at defs.now window)
-            ++ emissions key.now m (with_mark m time) (window, window_at defs.now window)) }
+        ensures stands { StandsWithMark stands defs.now window water time (S.stored store.now)
+            self.old self.new }
+        ensures changes { AddsByMark stands defs.now window water time (S.stored store.now)
+            self.old key.now out.old out.new }
         ensures adds { AddsAtMost (mark_room defs.now window time water self.old)
             out.old out.new }
-        ensures cost { Spends
-            (64 * ((S.stored store.now).reach + 2) * (vec_len out.new - vec_len out.old))
-            steps.old steps.new (credit self.old) (credit self.new) }
-        ensures ahead { (m : Moment) (n : ℕ) (before : Stored)
-            → TakesMark stands defs.now window water time (S.stored store.now) self.old m n before
-            → complete_by defs.now window water ≤ time
-            → is_ahead defs.now window water before self.old
-            → is_ahead defs.now window water (S.stored store.now) self.new };
+        ensures cost { SpendsOn credit (fold_work (S.stored store.now).reach * added out.old
+            out.new) self.old self.new steps.old steps.new }
+        ensures ahead { AheadOfMark stands defs.now window complete_by is_ahead water time
+            (S.stored store.now) self.old self.new };
 
     /// Makes room for a move of the watermark, and answers for how many changes.
     fn reserve_water<S: AggStore<M>>(
@@ -236,9 +208,8 @@ pub trait KeyPart<M: Partial>: Drop {
     ) -> Result<u64, NoMemory>
         requires { MayMove (StandsAt stands defs.now window) old new
             (S.stored store.now) self.old }
-        ensures { Prepares (stands defs.now window) (is_ahead defs.now window) credit
-            (can_move defs.now window (S.stored store.now) old new)
-            (move_room defs.now window (S.stored store.now) old new) self.old self.new result };
+        ensures { PreparesMove stands is_ahead credit can_move move_room defs.now window (S.stored
+            store.now) old new self.old self.new result };
 
     /// Takes in a move of the watermark, and appends the instances that it completes. With no credit
     /// it is bounded by the slices of the store and the rows.
@@ -258,62 +229,37 @@ pub trait KeyPart<M: Partial>: Drop {
         requires ready { can_move defs.now window (S.stored store.now) old new self.old }
         requires spare { move_room defs.now window (S.stored store.now) old new self.old
             ≤ room out.old }
-        ensures stands { (m : Moment) (n : ℕ)
-            → StandsAt stands defs.now window old (S.stored store.now) self.old m n
-            → stands defs.now window (at_water m new) n (S.stored store.now) self.new }
-        ensures changes { (m : Moment) (n : ℕ)
-            → StandsAt stands defs.now window old (S.stored store.now) self.old m n
-            → out.new.items ≡ out.old.items
-            ++ completions key.now m new (window, window_at defs.now window) }
+        ensures stands { StandsMoved stands defs.now window old new (S.stored store.now) self.old
+            self.new }
+        ensures changes { AddsByMove stands defs.now window old new (S.stored store.now)
+            self.old key.now out.old out.new }
         ensures adds { AddsAtMost
             (move_room defs.now window (S.stored store.now) old new self.old) out.old out.new }
-        ensures ahead { (m : Moment) (n : ℕ)
-            → StandsAt stands defs.now window old (S.stored store.now) self.old m n
-            → is_ahead defs.now window new (S.stored store.now) self.new }
-        ensures work_ahead { (m : Moment) (n : ℕ)
-            → StandsAt stands defs.now window old (S.stored store.now) self.old m n
-            → is_ahead defs.now window old (S.stored store.now) self.old
-            → steps.new + credit self.new ≤ steps.old + credit self.old
-            + (10 * taken_up defs.now window (S.stored store.now) old new
-            + row_work (window_at defs.now window).kind (S.stored store.now).reach
-            * (vec_len out.new - vec_len out.old)) }
-        ensures work { (m : Moment) (n : ℕ)
-            → StandsAt stands defs.now window old (S.stored store.now) self.old m n
-            → steps.new + credit self.new ≤ steps.old + credit self.old
-            + (10 * (taken_up defs.now window (S.stored store.now) old new
-            + missed defs.now window (S.stored store.now) old)
-            + row_work (window_at defs.now window).kind (S.stored store.now).reach
-            * (vec_len out.new - vec_len out.old)) }
-        ensures bound { (m : Moment) (n : ℕ)
-            → StandsAt stands defs.now window old (S.stored store.now) self.old m n
-            → steps.new ≤ steps.old + most_moved (window_at defs.now window).kind
-            (length (S.stored store.now).slices) (S.stored store.now).reach
-            (vec_len out.new - vec_len out.old) };
+        ensures ahead { AheadMoved stands defs.now window is_ahead old new (S.stored store.now)
+            self.old self.new }
+        ensures work_ahead { PaysAhead stands defs.now window is_ahead credit taken_up old new
+            (S.stored store.now) self.old self.new (added out.old out.new) steps.old steps.new }
+        ensures work { PaysBehind stands defs.now window credit taken_up missed old new (S.stored
+            store.now) self.old self.new (added out.old out.new) steps.old steps.new }
+        ensures bound { StepsAtMost stands defs.now window old (S.stored store.now) self.old
+            (added out.old out.new) steps.old steps.new };
 
     /// The first watermark at which something becomes complete: a move to below it changes nothing.
     /// Later than the final one where nothing is left to become so.
     fn next_due<S: AggStore<M>>(&self, defs: &Defs, window: u32, store: &S, water: u64) -> u64
         requires { StandsForSome (StandsAt stands defs.now window) water
             (S.stored store.now) self.now }
-        ensures none_before { (key : List ℕ) (m : Moment) (n new : ℕ)
-            → StandsAt stands defs.now window water (S.stored store.now) self.now m n
-            → water ≤ new → new < result
-            → completions key m new (window, window_at defs.now window) ≡ [] }
-        ensures some_at { (key : List ℕ) (m : Moment) (n : ℕ)
-            → StandsAt stands defs.now window water (S.stored store.now) self.now m n
-            → result ≤ FINAL → (water < result)
-            × (completions key m result (window, window_at defs.now window) ≢ []) };
+        ensures none_before { NoneCompleteBefore stands defs.now window water (S.stored store.now)
+            self.now result }
+        ensures some_at { SomeCompleteAt stands defs.now window water (S.stored store.now)
+            self.now result };
 
     /// From which time on tuples aren't settled in the window under a watermark, its own or a later
     /// one; later than any time where all are.
     fn first_unsettled(&self, defs: &Defs, window: u32, water: u64) -> u64
-        requires { (m : Moment) × (n : ℕ) × (s : Stored) × (w : ℕ)
-            × StandsAt stands defs.now window w s self.now m n × LeadsOn w water }
+        requires { MayLeadTo (StandsAt stands defs.now window) water self.now }
         ensures value { result ≡ settles_at defs.now window water self.now }
-        ensures settles { (m : Moment) (n : ℕ) (s : Stored) (w : ℕ) → w ≤ water
-            → StandsAt stands defs.now window w s self.now m n
-            → SettlesUpTo (defs.now).lateness (at_water (without_first n m) water)
-            (window_at defs.now window) result };
+        ensures settles { SettlesTo stands defs.now window water self.now result };
 
     /// By which watermark tuples at a time are settled in the window, and by none before.
     fn settled_by(&self, defs: &Defs, window: u32, time: u64) -> u64
@@ -322,34 +268,24 @@ pub trait KeyPart<M: Partial>: Drop {
             → settles_at defs.now window water self.now ≤ time }
         ensures by_then { (water : ℕ) → result ≤ water
             → time < settles_at defs.now window water self.now }
-        ensures settles { (m : Moment) (n : ℕ) (s : Stored) (w water : ℕ) → w ≤ water
-            → IsWater water → StandsAt stands defs.now window w s self.now m n
-            → SettlesUpTo (defs.now).lateness (at_water (without_first n m) water)
-            (window_at defs.now window) (settles_at defs.now window water self.now) };
+        ensures settles { SettlesToEach stands defs.now window self.now (λ water. settles_at
+            defs.now window water self.now) };
 
     /// Forgets what has ended by the watermark minus the lateness, where settled slices have left
     /// the store.
     fn drop_settled(&mut self, defs: &Defs, window: u32, water: u64)
         requires { window < length (defs.now).windows }
-        ensures stands { (m : Moment) (n time : ℕ) (before : Stored) (more : ℕ) (after : Stored)
-            → LosesSettled stands defs.now window water time self.old m n before more after
-            → time ≤ settles_at defs.now window water self.old
-            → stands defs.now window m more after self.new }
+        ensures stands { StandsAfterLoss stands defs.now window settles_at water self.old self.new }
         ensures credit { credit self.new ≡ credit self.old }
-        ensures ahead { (m : Moment) (n time : ℕ) (before : Stored) (more : ℕ) (after : Stored)
-            → LosesSettled stands defs.now window water time self.old m n before more after
-            → is_ahead defs.now window water before self.old
-            → is_ahead defs.now window water after self.new };
+        ensures ahead { AheadAfterLoss stands defs.now window is_ahead water self.old self.new };
 
     /// Lets leave what nothing can need any more at a watermark, where there is much of it.
     fn drop_needless(&mut self, defs: &Defs, window: u32, water: u64)
         requires { (m : Moment) × (n : ℕ) × (s : Stored) × stands defs.now window m n s self.old }
         ensures lean { is_lean defs.now window water self.new }
-        ensures stands { (m : Moment) (n : ℕ) (s : Stored) → m.water ≡ water
-            → stands defs.now window m n s self.old → stands defs.now window m n s self.new }
+        ensures stands { StandsOnUnder (stands defs.now window) water self.old self.new }
         ensures credit { credit self.new ≡ credit self.old }
-        ensures ahead { (w : ℕ) (s : Stored) → is_ahead defs.now window w s self.old
-            → is_ahead defs.now window w s self.new };
+        ensures ahead { MissesNoMore (is_ahead defs.now window) self.old self.new };
 
     /// What it stands for has nothing to do with the room of the store.
     ghost stands_with_room: { (d : Definitions) (window : ℕ) (m : Moment) (n : ℕ)
