@@ -3,3 +3,4 @@ pub mod Examples
 pub mod Means
 pub mod Partials
 pub mod RangeFacts
+pub mod RangeFolds

@@ -25,10 +25,10 @@ use stream_base::{Func, Shown};
 /// see what each function keeps.
 #[derive(Clone, Copy, Debug)]
 pub struct Bundle {
-    count: Count,
-    summed: Sum,
-    lowest: Min,
-    highest: Max,
+    pub(crate) count: Count,
+    pub(crate) summed: Sum,
+    pub(crate) lowest: Min,
+    pub(crate) highest: Max,
     mean: Mean,
     first: First,
     last: Last,
@@ -167,6 +167,10 @@ impl Partial for Bundle {
 
     fn in_any_order() -> bool {
         false
+    }
+
+    fn of_bundle(bundle: &Bundle) -> Bundle {
+        *bundle
     }
 
     fn show(&self, func: Func) -> Shown {

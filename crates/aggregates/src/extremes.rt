@@ -1,5 +1,5 @@
-ghost use Rattle.std.specs.Prelude.{◌≡◌, None, Some};
-ghost use Rattle.stream_base.specs.Model.Functions.{greatest, least};
+ghost use Rattle.std.specs.Prelude.{◌≡◌, ℤ, List, None, Some};
+ghost use Rattle.stream_base.specs.Model.Functions.{fold_of, greatest, least};
 ghost use Rattle.aggregates.specs.Values.{IsPick};
 
 use std::marker::Model;
@@ -47,6 +47,23 @@ impl Extremes {
             least: value,
             most: value,
         }
+    }
+
+    // Of the values whose least and greatest these are.
+    pub fn from(low: Option<i64>, high: Option<i64>) -> Extremes
+        ensures { (values : List ℤ) → low ≡ fold_of least values → high ≡ fold_of greatest values
+            → result ≡ (fold_of least values, fold_of greatest values) }
+    {
+        let Some(least) = low else {
+            return Extremes::none();
+        };
+        let Some(most) = high else {
+            return Extremes::none();
+        };
+        if most < least {
+            return Extremes::none();
+        }
+        Extremes { least, most }
     }
 
     // Of the values of both.

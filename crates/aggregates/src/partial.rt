@@ -2,9 +2,11 @@ ghost use Rattle.std.specs.Prelude.{◌≡◌, ℤ, List, Bool, true};
 ghost use Rattle.stream_base.specs.declared.func.Func.{Func};
 ghost use Rattle.stream_base.specs.declared.func.Func.TheVariants.{Count};
 ghost use Rattle.stream_base.specs.Model.Functions.{shown_of};
+ghost use Rattle.aggregates.specs.Bundled.{bundle_of};
 ghost use Rattle.aggregates.specs.Order.{Commutes};
 ghost use Rattle.aggregates.specs.Partial.{IsPartial};
 
+use crate::bundle::Bundle;
 use agg_laws::Lift;
 use stream_base::{Func, Shown};
 
@@ -27,6 +29,10 @@ pub trait Partial: Lift {
     /// Whether values may be combined in any order.
     fn in_any_order() -> bool
         ensures { result ≡ any_order };
+
+    /// What is kept here of the values of which all functions are kept.
+    fn of_bundle(bundle: &Bundle) -> Self
+        ensures { (values : List ℤ) → bundle.now ≡ bundle_of values → result ≡ of_values values };
 
     /// The value of a function, as a report shows it. It is that of the values which were lifted
     /// into the partial; what Min, Max and their kin show of no value at all says nothing.

@@ -3,7 +3,7 @@ ghost use Rattle.stream_base.specs.Model.Functions.{show_value};
 ghost use Rattle.aggregates.specs.Order.{IsOrderFree};
 ghost use Rattle.aggregates.specs.Summed.{IsSummary, empty_summary, summaries_combined, summaries_commute, summary_laws, summary_lifts, summary_of, summary_of_number, total_of_summaries};
 
-use crate::bundle::whole;
+use crate::bundle::{Bundle, whole};
 use crate::count::Count;
 use crate::extremes::Extremes;
 use crate::packed_sum::PackedSum;
@@ -110,6 +110,14 @@ impl Partial for Summary {
 
     fn in_any_order() -> bool {
         true
+    }
+
+    fn of_bundle(bundle: &Bundle) -> Summary {
+        Summary {
+            count: bundle.count,
+            summed: PackedSum::new(bundle.summed.sum),
+            range: Extremes::from(bundle.lowest.least, bundle.highest.most),
+        }
     }
 
     fn show(&self, func: Func) -> Shown {

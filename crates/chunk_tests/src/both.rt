@@ -11,7 +11,7 @@ pub struct Work;
 // The tuples of a key, and the same ones in a plain list.
 #[derive(Drop)]
 pub struct Both {
-    pub tuples: Tuples<Bundle>,
+    pub tuples: Tuples,
     pub plain: Vec<Kept>,
     pub steps: Steps<Work>,
 }

@@ -3,7 +3,6 @@ ghost use Rattle.std.specs.Prelude.{◌<◌};
 use crate::both::Both;
 use crate::draws::Draws;
 use agg_laws::Steps;
-use aggregates::Bundle;
 use slice_lists::Slice;
 use std::alloc::Global;
 use std::process::Abort;
@@ -95,7 +94,7 @@ fn random_times_fold_as_in_a_plain_list(rt: HostRuntime) -> Result<(), Fail> {
 
 #[test]
 fn range_shows_by_its_first_and_last_tuple(rt: HostRuntime) -> Result<(), Fail> {
-    let mut tuples: Tuples<Bundle> = Tuples::new(rt.alloc());
+    let mut tuples = Tuples::new(rt.alloc());
     tuples.reserve()?;
     tuples.put(Kept {
         position: 0,

@@ -47,7 +47,10 @@ pub use work::apply_counted;
 /// the slices lie in a tree with fingers at both ends, and those of a tumbling or sliding window in
 /// a DABA queue. Where the definitions ask only for functions of which the order of values makes no
 /// difference, the partials are summaries, and else bundles of all functions.
-pub type Shard = KeyedShard<EitherKey<KeyOf<Bundle>, KeyOf<Summary>>>;
+pub type Shard = KeyedShard<EitherKey<FullKey, LeanKey>>;
 
-/// The engine for the windows of a key, over partials of one kind.
-pub type KeyOf<M> = KeyState<M, FingerTree<M>, WindowPart<M, Daba<M>>>;
+/// The engine for the windows of a key, of which any function may be asked.
+pub type FullKey = KeyState<Bundle, FingerTree<Bundle>, WindowPart<Bundle, Daba<Bundle>>>;
+
+/// The same, of which only functions may be asked for which the order of values makes no difference.
+pub type LeanKey = KeyState<Summary, FingerTree<Summary>, WindowPart<Summary, Daba<Summary>>>;

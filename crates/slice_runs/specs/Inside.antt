@@ -5,13 +5,13 @@ use Rattle.slice_lists.specs.Parted.{AreKept, parted_by}
 use Rattle.slice_lists.specs.Slices.{Sliced}
 
 -- there is room while the count of those that came has not reached the greatest number of 64 bits
-abbrev pub sliced : {M : Type 0} → Inside M → Sliced
+abbrev pub sliced : Inside → Sliced
 sliced a = record {
   slices = parted_by a.bounds.items a.tuples.tuples;
   spare = min (min a.tuples.spare (vec_capacity a.bounds - vec_len a.bounds)) (2 ^ 64 - 1 - a.taken);
 }
 
 -- the tuples are parted into slices that show so, and no more stand than came
-pub record IsKept {M : Type 0} (a : Inside M) : Type 0 where
+pub record IsKept (a : Inside) : Type 0 where
   pub parted : AreKept a.bounds.items a.tuples.tuples
   pub counted : length a.tuples.tuples ≤ a.taken

@@ -8,7 +8,6 @@ ghost use Rattle.slice_lists.specs.Sides.{IsApartBefore, IsFirstEntered, IsLastE
 use crate::cut::have_cut;
 use crate::marks::Marks;
 use crate::runs::Runs;
-use aggregates::Partial;
 use stream_base::Def;
 
 /// Whether there is a cut between two times, by the definitions or by a mark.
@@ -23,13 +22,7 @@ pub fn has_cut(windows: &[Def], marks: &Marks, low: u64, high: u64) -> bool
 }
 
 // Whether a time lies inside the slice before a place or has no cut to its end.
-fn is_near_before<M: Partial>(
-    runs: &Runs<M>,
-    windows: &[Def],
-    marks: &Marks,
-    at: usize,
-    time: u64,
-) -> bool
+fn is_near_before(runs: &Runs, windows: &[Def], marks: &Marks, at: usize, time: u64) -> bool
     requires { IsPlaceAt windows.now (runs.now).slices at time }
     ensures near { result ≡ true
         → IsNearBefore (has_cut windows.now marks.now.times) (runs.now).slices at time }
@@ -44,13 +37,7 @@ fn is_near_before<M: Partial>(
 }
 
 /// From which place on a tuple at a time enters slices, where so many begin at or before the time.
-pub fn first_entered<M: Partial>(
-    runs: &Runs<M>,
-    windows: &[Def],
-    marks: &Marks,
-    at: usize,
-    time: u64,
-) -> usize
+pub fn first_entered(runs: &Runs, windows: &[Def], marks: &Marks, at: usize, time: u64) -> usize
     requires { IsPlaceAt windows.now (runs.now).slices at time }
     ensures { IsFirstEntered (has_cut windows.now marks.now.times) (runs.now).slices
         at time result }
@@ -63,13 +50,7 @@ pub fn first_entered<M: Partial>(
 }
 
 /// Up to which place it does.
-pub fn last_entered<M: Partial>(
-    runs: &Runs<M>,
-    windows: &[Def],
-    marks: &Marks,
-    at: usize,
-    time: u64,
-) -> usize
+pub fn last_entered(runs: &Runs, windows: &[Def], marks: &Marks, at: usize, time: u64) -> usize
     requires { IsPlaceBehind windows.now (runs.now).slices at time }
     ensures { IsLastEntered (has_cut windows.now marks.now.times) (runs.now).slices
         at time result }

@@ -2,6 +2,7 @@
 ghost use Rattle.std.specs.Prelude.{◌≡◌, ◌≤◌, ◌<◌, ◌+◌, [], length, drop, slice_index_or, nat_le, OnOk, IfSome, IfNone, All, false};
 ghost use Rattle.stream_base.specs.Model.Windows.{first_time, last_time};
 ghost use Rattle.slice_lists.specs.Runs.{IsAligned};
+ghost use Rattle.aggregates.specs.Bundled.{bundle_of};
 ghost use Rattle.slice_lists.specs.Touched.{is_across};
 ghost use Rattle.slice_lists.specs.Sides.{IsAcrossAt};
 ghost use Rattle.slice_lists.specs.Places.{IsPlaceOf};
@@ -11,7 +12,7 @@ ghost use Rattle.slice_lists.specs.Slices.{AreSlices, CanEnter, CanSplit, entere
 use crate::bounds::{enter_bounds, split_bounds};
 use crate::places::{slices_before, slices_up_to};
 use agg_laws::Steps;
-use aggregates::Partial;
+use aggregates::Bundle;
 use slice_lists::Slice;
 use std::alloc::Global;
 use std::marker::Model;
@@ -21,14 +22,14 @@ use tuple_chunks::Tuples;
 /// Tuples in event order, and beside them the bounds of each slice. Contracts see the slices as
 /// lists of tuples, and for how many more tuples there is room.
 #[derive(Drop)]
-pub struct Runs<M: Partial> {
-    tuples: Tuples<M>,
+pub struct Runs {
+    tuples: Tuples,
     bounds: Vec<Slice>,
     // How many tuples ever came: no slice has more, so 64 bits count them.
     taken: u64,
 }
 
-impl<M: Partial> Model for Runs<M> {
+impl Model for Runs {
     ghost use Rattle.slice_lists.specs.Slices.{Sliced};
 
     ghost Value = { Sliced };
@@ -40,9 +41,9 @@ impl<M: Partial> Model for Runs<M> {
     ghost invariant = { IsKept };
 }
 
-impl<M: Partial> Runs<M> {
+impl Runs {
     /// No tuple.
-    pub fn new(alloc: Global) -> Runs<M>
+    pub fn new(alloc: Global) -> Runs
         ensures { (result).slices ≡ [] }
     {
         Runs {
@@ -105,10 +106,10 @@ impl<M: Partial> Runs<M> {
     }
 
     /// What the tuples of a slice come to in event order, in at most one step for each.
-    pub fn fold_of<L>(&mut self, at: usize, steps: &mut Steps<L>) -> M
+    pub fn fold_of<L>(&mut self, at: usize, steps: &mut Steps<L>) -> Bundle
         requires { at < length (self.old).slices }
         ensures value { result
-            ≡ M.of_values (values_of (slice_index_or (self.old).slices at [])) }
+            ≡ bundle_of (values_of (slice_index_or (self.old).slices at [])) }
         ensures kept { self.new ≡ self.old }
         ensures cost { steps.new
             ≤ steps.old + length (slice_index_or (self.old).slices at []) }

@@ -1,5 +1,5 @@
 -- Rows of parts after an edit.
-use Rattle.std.proofs.Common.{◌≡◌, ◌∙◌, ℕ, ℤ, ◌+◌, ◌-◌, ◌<◌, ◌≤◌, ◌^◌, Bool, true, false, cond, List, [], ◌∷◌, ◌++◌, None, length, get_or, take, drop, ap, sym, refl, subst, arith, zero, suc, length-append, length-take, length-drop}
+use Rattle.std.proofs.Common.{◌≡◌, ◌∙◌, ℕ, ◌+◌, ◌-◌, ◌<◌, ◌≤◌, ◌^◌, Bool, true, false, cond, List, [], ◌∷◌, ◌++◌, None, length, get_or, take, drop, ap, sym, refl, subst, arith, zero, suc, length-append, length-take, length-drop}
 use Rattle.std.specs.Prelude.{nat_le, remove, Option}
 use Rattle.std.specs.List.{All, filter, flat_map}
 use Rattle.std.proofs.lemmas.Grind.{flat_map-append}
@@ -8,6 +8,7 @@ use Rattle.std.proofs.lemmas.List.Elements.{All-drop, All-head, All-take, All-we
 use Rattle.stream_base.specs.declared.kept.Kept.{Kept}
 use Rattle.stream_base.specs.Laws.{TimesDoNotFall}
 use Rattle.stream_base.specs.Model.Windows.{first_time, is_within, last_time, within}
+use Rattle.aggregates.specs.Bundled.{Bundled}
 use Rattle.slice_lists.proofs.Order.{nd_split}
 use Rattle.tuple_chunks.specs.Parts.{AreParts, IsReady, IsRow}
 use Rattle.tuple_chunks.specs.Sums.{IsSum}
@@ -79,8 +80,8 @@ module _ {P : Type 0} (f : P → List Kept) (s : P → ℕ) where
     ordered = (nd_split (λ (x : Kept). x.time) (flat_map f (take at ps)) (flat_map f (drop at ps)) (subst TimesDoNotFall (divided ps at) h.ordered)).1;
   }
 
-  pub a_row : {M : Type 0} (of_values : List ℤ → M) (ps : List P) (number : ℕ) (ready : Bool) → AreParts f ps → 0 < length ps → All (λ p. 1 ≤ s p) ps → number ≡ length (flat_map f ps) → number + 1 < 2 ^ 64 → IsRow of_values f s ps number 0 ready None
-  a_row of_values ps number ready h l r n c = record {
+  pub a_row : (ps : List P) (number : ℕ) (ready : Bool) → AreParts f ps → 0 < length ps → All (λ p. 1 ≤ s p) ps → number ≡ length (flat_map f ps) → number + 1 < 2 ^ 64 → IsRow f s ps number 0 ready None
+  a_row ps number ready h l r n c = record {
     holds = h;
     some = l;
     counted = n;
@@ -90,25 +91,25 @@ module _ {P : Type 0} (f : P → List Kept) (s : P → ℕ) where
     summed = tt;
   }
 
-  pub front_row : {M : Type 0} (of_values : List ℤ → M) (ps qs : List P) (at number all : ℕ) (ready : Bool) → qs ≡ take at ps → 0 < at → at < length ps → AreParts f ps → IsReady s ps all → all ≡ length (flat_map f ps) → number ≡ length (flat_map f (drop at ps)) → IsRow of_values f s qs (all - number) 0 ready None
-  front_row of_values ps qs at number all ready e l m h r n c =
-      subst (λ l. IsRow of_values f s l (all - number) 0 ready None) (sym e)
-      (a_row of_values (take at ps) (all - number) ready (front_parts ps at h) (omega (arith, length-take at ps)) (All-take (λ p. 1 ≤ s p) at ps r.rooms)
+  pub front_row : (ps qs : List P) (at number all : ℕ) (ready : Bool) → qs ≡ take at ps → 0 < at → at < length ps → AreParts f ps → IsReady s ps all → all ≡ length (flat_map f ps) → number ≡ length (flat_map f (drop at ps)) → IsRow f s qs (all - number) 0 ready None
+  front_row ps qs at number all ready e l m h r n c =
+      subst (λ l. IsRow f s l (all - number) 0 ready None) (sym e)
+      (a_row (take at ps) (all - number) ready (front_parts ps at h) (omega (arith, length-take at ps)) (All-take (λ p. 1 ≤ s p) at ps r.rooms)
       (omega (arith, n, c, ap length (divided ps at), length-append (flat_map f (take at ps)) (flat_map f (drop at ps))))
       (omega (arith, r.counts)))
 
-  pub back_row : {M : Type 0} (of_values : List ℤ → M) (ps qs : List P) (at number all : ℕ) (ready : Bool) → qs ≡ drop at ps → at < length ps → AreParts f ps → IsReady s ps all → all ≡ length (flat_map f ps) → number ≡ length (flat_map f (drop at ps)) → IsRow of_values f s qs number 0 ready None
-  back_row of_values ps qs at number all ready e m h r n c =
-      subst (λ l. IsRow of_values f s l number 0 ready None) (sym e)
-      (a_row of_values (drop at ps) number ready (back_parts ps at h) (omega (arith, length-drop at ps)) (All-drop (λ p. 1 ≤ s p) at ps r.rooms) c
+  pub back_row : (ps qs : List P) (at number all : ℕ) (ready : Bool) → qs ≡ drop at ps → at < length ps → AreParts f ps → IsReady s ps all → all ≡ length (flat_map f ps) → number ≡ length (flat_map f (drop at ps)) → IsRow f s qs number 0 ready None
+  back_row ps qs at number all ready e m h r n c =
+      subst (λ l. IsRow f s l number 0 ready None) (sym e)
+      (a_row (drop at ps) number ready (back_parts ps at h) (omega (arith, length-drop at ps)) (All-drop (λ p. 1 ≤ s p) at ps r.rooms) c
       (omega (arith, r.counts, n, c, ap length (divided ps at), length-append (flat_map f (take at ps)) (flat_map f (drop at ps)))))
 
   pub back_number : (ps : List P) (at : ℕ) → length (flat_map f (drop at ps)) ≤ length (flat_map f ps)
   back_number ps at = omega (arith, ap length (divided ps at), length-append (flat_map f (take at ps)) (flat_map f (drop at ps)))
 
   -- ---- where the first parts left
-  pub dropped_row : {M : Type 0} (of_values : List ℤ → M) (old new : List P) (time gone number left entered : ℕ) (ready : Bool) (sum : Option M) → IsRow of_values f s old number entered ready sum → flat_map f new ≡ filter (λ (x : Kept). nat_le time x.time) (flat_map f old) → AreParts f new → length new + gone ≡ length old → 0 < length new → ((k : ℕ) (d : P) → k < length new → s (get_or old (k + gone) d) ≤ s (get_or new k d)) → left ≡ length (flat_map f new) → IsRow of_values f s new left (entered - gone) ready None
-  dropped_row of_values old new time gone number left entered ready sum row is h e l keeps c =
+  pub dropped_row : (old new : List P) (time gone number left entered : ℕ) (ready : Bool) (sum : Option Bundled) → IsRow f s old number entered ready sum → flat_map f new ≡ filter (λ (x : Kept). nat_le time x.time) (flat_map f old) → AreParts f new → length new + gone ≡ length old → 0 < length new → ((k : ℕ) (d : P) → k < length new → s (get_or old (k + gone) d) ≤ s (get_or new k d)) → left ≡ length (flat_map f new) → IsRow f s new left (entered - gone) ready None
+  dropped_row old new time gone number left entered ready sum row is h e l keeps c =
       let fewer : left ≤ number = omega (arith, c, row.counted, ap length is, filter_shorter (λ (x : Kept). nat_le time x.time) (flat_map f old)) in
       record {
         holds = h;
@@ -137,14 +138,17 @@ module _ {P : Type 0} (f : P → List Kept) (s : P → ℕ) where
   pub numbers_within : (ps : List P) (i : ℕ) (d : P) → i < length ps → length (flat_map f (take i ps)) + length (f (get_or ps i d)) ≤ length (flat_map f ps)
   numbers_within ps i d l = omega (arith, ap length (taken_length f ps i d l), length-append (flat_map f (take i ps)) (f (get_or ps i d)), taken_within f ps (i + 1))
 
+  pub row_some : (ps : List P) (number entered : ℕ) (ready : Bool) (sum : Option Bundled) → IsRow f s ps number entered ready sum → 0 < length ps
+  row_some ps number entered ready sum row = omega (arith, row.some)
+
   -- another sum is kept
-  pub row_summed : {M : Type 0} (of_values : List ℤ → M) (ps : List P) (number entered : ℕ) (ready : Bool) (sum more : Option M) → IsRow of_values f s ps number entered ready sum → IsSum of_values more (flat_map f ps) → IsRow of_values f s ps number entered ready more
-  row_summed of_values ps number entered ready sum more row h = record {
+  pub row_summed : (ps : List P) (number entered : ℕ) (ready : Bool) (sum more : Option Bundled) → IsRow f s ps number entered ready sum → IsSum more (flat_map f ps) → IsRow f s ps number entered ready more
+  row_summed ps number entered ready sum more row h = record {
     holds = row.holds;
     some = row.some;
     counted = row.counted;
     fits = row.fits;
     rooms = row.rooms;
     roomy = row.roomy;
-    summed = sum_is_kept of_values more (flat_map f ps) h;
+    summed = sum_is_kept more (flat_map f ps) h;
   }

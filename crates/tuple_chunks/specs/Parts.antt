@@ -1,9 +1,10 @@
 -- Tuples in order, kept in parts one behind another.
-use Rattle.std.specs.Prelude.{◌≡◌, ◌≢◌, ◌≤◌, ◌<◌, ◌+◌, ◌++◌, ◌^◌, ◌⊎◌, ℕ, ℤ, Bool, true, List, [], Option, None, Some, Result, All, IfOk, IfSome, OnOk, OnErr, length, take, slice_index_or}
+use Rattle.std.specs.Prelude.{◌≡◌, ◌≢◌, ◌≤◌, ◌<◌, ◌+◌, ◌++◌, ◌^◌, ◌⊎◌, ℕ, Bool, true, List, [], Option, None, Some, Result, All, IfOk, IfSome, OnOk, OnErr, length, take, slice_index_or}
 use Rattle.std.specs.List.{flat_map}
 use Rattle.stream_base.specs.declared.kept.Kept.{Kept}
 use Rattle.stream_base.specs.Laws.{TimesDoNotFall}
 use Rattle.stream_base.specs.Model.Windows.{last_time}
+use Rattle.aggregates.specs.Bundled.{Bundled}
 use Rattle.tuple_chunks.specs.Sums.{IsKeptSum}
 
 -- no part is empty, and times don't fall over all of them
@@ -21,14 +22,14 @@ pub record IsReady {P : Type 0} (spare_of : P → ℕ) (parts : List P) (number 
   pub counts : number + 1 < 2 ^ 64
 
 -- how a row keeps its parts: their tuples are counted, each part but that entered last has room, and so has that one where the row is ready, and a sum that is kept is that of all
-pub record IsRow {M P : Type 0} (of_values : List ℤ → M) (tuples_of : P → List Kept) (spare_of : P → ℕ) (parts : List P) (number entered : ℕ) (ready : Bool) (sum : Option M) : Type 0 where
+pub record IsRow {P : Type 0} (tuples_of : P → List Kept) (spare_of : P → ℕ) (parts : List P) (number entered : ℕ) (ready : Bool) (sum : Option Bundled) : Type 0 where
   pub holds : AreParts tuples_of parts
   pub some : entered < length parts
   pub counted : number ≡ length (flat_map tuples_of parts)
   pub fits : number < 2 ^ 64
   pub rooms : HaveRoomBut spare_of parts entered
   pub roomy : ready ≡ true → IsReady spare_of parts number
-  pub summed : IsKeptSum of_values sum (flat_map tuples_of parts)
+  pub summed : IsKeptSum sum (flat_map tuples_of parts)
 
 -- where a tuple of a time enters: no tuple before that part is of a later time, and it has a tuple of a later time or is the last
 pub record IsEntry {P : Type 0} (tuples_of : P → List Kept) (parts : List P) (time at : ℕ) : Type 0 where

@@ -10,7 +10,7 @@ use crate::part::Part;
 use crate::places::{cut, place_of, tuples_before};
 use crate::sums::{covers, forget, sum_of};
 use agg_laws::Steps;
-use aggregates::Partial;
+use aggregates::Bundle;
 use slice_lists::Slice;
 use std::alloc::Global;
 use std::marker::Model;
@@ -21,12 +21,12 @@ pub const MOST: usize = 64;
 
 /// A few tuples of a key, one behind another, and what they come to once a fold has asked for it.
 #[derive(Drop)]
-pub struct Chunk<M: Partial> {
+pub struct Chunk {
     tuples: Vec<Kept>,
-    sum: Option<M>,
+    sum: Option<Bundle>,
 }
 
-impl<M: Partial> Model for Chunk<M> {
+impl Model for Chunk {
     ghost use Rattle.std.specs.Prelude.{vec_len, vec_capacity, ◌-◌};
     ghost use Rattle.stream_base.specs.Laws.{TimesDoNotFall};
     ghost use Rattle.tuple_chunks.specs.Held.{Held};
@@ -39,13 +39,12 @@ impl<M: Partial> Model for Chunk<M> {
       spare = vec_capacity c.tuples - vec_len c.tuples;
     } };
 
-    ghost invariant = { λ c. TimesDoNotFall c.tuples.items
-        × IsKeptSum M.of_values c.sum c.tuples.items };
+    ghost invariant = { λ c. TimesDoNotFall c.tuples.items × IsKeptSum c.sum c.tuples.items };
 }
 
-impl<M: Partial> Chunk<M> {
+impl Chunk {
     /// A chunk of these tuples, with room for one more.
-    pub fn of(alloc: Global, tuples: &[Kept]) -> Result<Chunk<M>, NoMemory>
+    pub fn of(alloc: Global, tuples: &[Kept]) -> Result<Chunk, NoMemory>
         requires ordered { TimesDoNotFall tuples.now }
         ensures tuples { IfOk result (λ c. c.tuples ≡ tuples.now) }
         ensures room { IfOk result (λ c. 1 ≤ c.spare) }
@@ -60,7 +59,7 @@ impl<M: Partial> Chunk<M> {
     }
 }
 
-impl<M: Partial> Part<M> for Chunk<M> {
+impl Part for Chunk {
     ghost tuples = { λ c. c.tuples };
 
     ghost spare = { λ c. c.spare };
@@ -81,7 +80,7 @@ impl<M: Partial> Part<M> for Chunk<M> {
         self.tuples.len() < MOST && self.tuples.len() < self.tuples.capacity()
     }
 
-    fn settle(&mut self, is_last: bool) -> Result<Option<Chunk<M>>, NoMemory> {
+    fn settle(&mut self, is_last: bool) -> Result<Option<Chunk>, NoMemory> {
         let len = self.tuples.len();
         if len < MOST {
             self.tuples.reserve(1)?;
@@ -109,7 +108,7 @@ impl<M: Partial> Part<M> for Chunk<M> {
         self.sum = None;
     }
 
-    fn fold<L>(&mut self, low: u64, high: u64, steps: &mut Steps<L>) -> Option<M> {
+    fn fold<L>(&mut self, low: u64, high: u64, steps: &mut Steps<L>) -> Option<Bundle> {
         if !covers(low, high, first_time(&self.tuples), last_time(&self.tuples)) {
             return sum_of(part_of(&self.tuples, low, high), steps);
         }

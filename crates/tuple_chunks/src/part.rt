@@ -6,12 +6,12 @@ ghost use Rattle.tuple_chunks.specs.Parts.{IsSettled};
 ghost use Rattle.tuple_chunks.specs.Sums.{IsSum, shown_of};
 
 use agg_laws::Steps;
-use aggregates::Partial;
+use aggregates::Bundle;
 use slice_lists::Slice;
 use stream_base::{Kept, NoMemory};
 
 /// Some tuples of a key, one behind another, as a part of a row of them.
-pub trait Part<M: Partial>: Drop {
+pub trait Part: Drop {
     // The tuples, and for how many more there is room.
     ghost tuples: { Self → List Kept };
 
@@ -54,8 +54,8 @@ pub trait Part<M: Partial>: Drop {
         ensures spare { spare self.old ≤ spare self.new };
 
     /// What the tuples of a range of times come to, if there are any.
-    fn fold<L>(&mut self, low: u64, high: u64, steps: &mut Steps<L>) -> Option<M>
-        ensures sum { IsSum M.of_values result (within low high (tuples self.old)) }
+    fn fold<L>(&mut self, low: u64, high: u64, steps: &mut Steps<L>) -> Option<Bundle>
+        ensures sum { IsSum result (within low high (tuples self.old)) }
         ensures kept { self.new ≡ self.old }
         ensures cost { steps.new ≤ steps.old + (length (within low high (tuples self.old)) - 1) };
 

@@ -11,7 +11,7 @@ use crate::part::Part;
 use crate::places::cut;
 use crate::sums::{covers, forget, joined, misses, shown_together};
 use agg_laws::Steps;
-use aggregates::Partial;
+use aggregates::Bundle;
 use slice_lists::Slice;
 use std::alloc::Global;
 use std::marker::Model;
@@ -20,17 +20,17 @@ use stream_base::{Kept, NoMemory};
 /// Tuples of a key in parts that stand in a row, and what they come to once a fold has asked for it.
 /// There is always one part at least.
 #[derive(Drop)]
-pub struct Row<M: Partial, P: Part<M>> {
+pub struct Row<P: Part> {
     parts: Vec<P>,
     number: usize,
     // The part that the last tuple entered, which alone may have no room.
     entered: usize,
     // Whether that part has room as well.
     ready: bool,
-    sum: Option<M>,
+    sum: Option<Bundle>,
 }
 
-impl<M: Partial, P: Part<M>> Model for Row<M, P> {
+impl<P: Part> Model for Row<P> {
     ghost use Rattle.std.specs.Prelude.{if◌then◌else◌};
     ghost use Rattle.std.specs.List.{flat_map};
     ghost use Rattle.tuple_chunks.specs.Held.{Held};
@@ -43,13 +43,12 @@ impl<M: Partial, P: Part<M>> Model for Row<M, P> {
       spare = if r.ready then 1 else 0;
     } };
 
-    ghost invariant = { λ r. IsRow M.of_values P.tuples P.spare r.parts.items r.number r.entered
-        r.ready r.sum };
+    ghost invariant = { λ r. IsRow P.tuples P.spare r.parts.items r.number r.entered r.ready r.sum };
 }
 
-impl<M: Partial, P: Part<M>> Row<M, P> {
+impl<P: Part> Row<P> {
     /// A row of one part.
-    pub fn of(alloc: Global, part: P) -> Result<Row<M, P>, NoMemory>
+    pub fn of(alloc: Global, part: P) -> Result<Row<P>, NoMemory>
         requires some { 0 < length (P.tuples part) }
         requires ordered { TimesDoNotFall (P.tuples part) }
         requires room { 1 ≤ P.spare part }
@@ -87,7 +86,7 @@ impl<M: Partial, P: Part<M>> Row<M, P> {
     }
 }
 
-impl<M: Partial, P: Part<M>> Part<M> for Row<M, P> {
+impl<P: Part> Part for Row<P> {
     ghost tuples = { λ r. r.tuples };
 
     ghost spare = { λ r. r.spare };
@@ -108,7 +107,7 @@ impl<M: Partial, P: Part<M>> Part<M> for Row<M, P> {
         self.ready
     }
 
-    fn settle(&mut self, is_last: bool) -> Result<Option<Row<M, P>>, NoMemory> {
+    fn settle(&mut self, is_last: bool) -> Result<Option<Row<P>>, NoMemory> {
         self.reserve()?;
         if self.parts.len() < MOST {
             return Ok(None);
@@ -147,7 +146,7 @@ impl<M: Partial, P: Part<M>> Part<M> for Row<M, P> {
         self.sum = None;
     }
 
-    fn fold<L>(&mut self, low: u64, high: u64, steps: &mut Steps<L>) -> Option<M> {
+    fn fold<L>(&mut self, low: u64, high: u64, steps: &mut Steps<L>) -> Option<Bundle> {
         let first = self.first_time();
         let last = self.last_time();
         if misses(low, high, first, last) {
@@ -182,7 +181,7 @@ impl<M: Partial, P: Part<M>> Part<M> for Row<M, P> {
 }
 
 // How many tuples parts have.
-fn numbers<M: Partial, P: Part<M>>(parts: &[P]) -> usize
+fn numbers<P: Part>(parts: &[P]) -> usize
     requires { length (flat_map P.tuples parts.now) < 2 ^ 64 }
     ensures { result ≡ length (flat_map P.tuples parts.now) }
 {
@@ -195,7 +194,7 @@ fn numbers<M: Partial, P: Part<M>>(parts: &[P]) -> usize
 
 // The part that a tuple at a time enters. A tuple that comes in order takes one look at the last one,
 // and where there is one part it takes none.
-fn entry_of<M: Partial, P: Part<M>>(parts: &[P], time: u64) -> usize
+fn entry_of<P: Part>(parts: &[P], time: u64) -> usize
     requires some { 0 < length parts.now }
     requires parts { AreParts P.tuples parts.now }
     ensures { IsEntry P.tuples parts.now time result }
@@ -212,7 +211,7 @@ fn entry_of<M: Partial, P: Part<M>>(parts: &[P], time: u64) -> usize
 }
 
 // Puts a tuple into the part that it enters, and answers whether that has room still.
-fn put_in_part<M: Partial, P: Part<M>>(parts: &mut Vec<P>, at: usize, x: Kept) -> bool
+fn put_in_part<P: Part>(parts: &mut Vec<P>, at: usize, x: Kept) -> bool
     requires entry { IsEntry P.tuples parts.old.items x.time at }
     requires parts { AreParts P.tuples parts.old.items }
     requires rooms { All (λ p. 1 ≤ P.spare p) parts.old.items }
@@ -229,7 +228,7 @@ fn put_in_part<M: Partial, P: Part<M>>(parts: &mut Vec<P>, at: usize, x: Kept) -
 }
 
 // Makes room in the one part that may have none.
-fn settle_part<M: Partial, P: Part<M>>(parts: &mut Vec<P>, at: usize) -> Result<(), NoMemory>
+fn settle_part<P: Part>(parts: &mut Vec<P>, at: usize) -> Result<(), NoMemory>
     requires within { at < vec_len parts.old }
     requires parts { AreParts P.tuples parts.old.items }
     requires rooms { HaveRoomBut P.spare parts.old.items at }
@@ -250,7 +249,7 @@ fn settle_part<M: Partial, P: Part<M>>(parts: &mut Vec<P>, at: usize) -> Result<
 }
 
 // Drops the tuples before a time, which aren't all, and tells how many parts left.
-fn drop_parts<M: Partial, P: Part<M>>(parts: &mut Vec<P>, time: u64) -> usize
+fn drop_parts<P: Part>(parts: &mut Vec<P>, time: u64) -> usize
     requires some { 0 < vec_len parts.old }
     requires parts { AreParts P.tuples parts.old.items }
     requires stays { time ≤ last_time (flat_map P.tuples parts.old.items) }
@@ -274,13 +273,13 @@ fn drop_parts<M: Partial, P: Part<M>>(parts: &mut Vec<P>, time: u64) -> usize
 }
 
 // What the tuples of a range of times come to, part by part.
-fn fold_parts<M: Partial, P: Part<M>, L>(
+fn fold_parts<P: Part, L>(
     parts: &mut [P],
     low: u64,
     high: u64,
     steps: &mut Steps<L>,
-) -> Option<M>
-    ensures sum { IsSum M.of_values result (within low high (flat_map P.tuples parts.old)) }
+) -> Option<Bundle>
+    ensures sum { IsSum result (within low high (flat_map P.tuples parts.old)) }
     ensures kept { parts.new ≡ parts.old }
     ensures cost { steps.new
         ≤ steps.old + (length (within low high (flat_map P.tuples parts.old)) - 1) }
@@ -294,7 +293,7 @@ fn fold_parts<M: Partial, P: Part<M>, L>(
 }
 
 // How the tuples of a range of times show, part by part.
-fn shown_parts<M: Partial, P: Part<M>>(parts: &[P], low: u64, high: u64) -> Option<Slice>
+fn shown_parts<P: Part>(parts: &[P], low: u64, high: u64) -> Option<Slice>
     requires { length (flat_map P.tuples parts.now) < 2 ^ 64 }
     ensures { result ≡ shown_of (within low high (flat_map P.tuples parts.now)) }
 {

@@ -4,15 +4,18 @@ ghost use Rattle.stream_base.specs.declared.kept.Kept.{Kept};
 ghost use Rattle.tuple_chunks.specs.Sums.{IsSum, number_in, shown_joined};
 
 use agg_laws::{Lift, Monoid, Steps};
-use aggregates::Partial;
+use aggregates::Bundle;
 use slice_lists::Slice;
 use stream_base::Kept;
 
 /// What the tuples of two sums come to, one behind the other. It takes a step where both have some.
-pub fn joined<M: Partial, L>(left: Option<M>, right: Option<M>, steps: &mut Steps<L>) -> Option<M>
-    ensures sum { (xs ys : List Kept) → IsSum M.of_values left xs → IsSum M.of_values right ys
-        → IsSum M.of_values result (xs ++ ys) }
-    ensures cost { (xs ys : List Kept) → IsSum M.of_values left xs → IsSum M.of_values right ys
+pub fn joined<L>(
+    left: Option<Bundle>,
+    right: Option<Bundle>,
+    steps: &mut Steps<L>,
+) -> Option<Bundle>
+    ensures sum { (xs ys : List Kept) → IsSum left xs → IsSum right ys → IsSum result (xs ++ ys) }
+    ensures cost { (xs ys : List Kept) → IsSum left xs → IsSum right ys
         → steps.new + ((length xs - 1) + (length ys - 1)) ≤ steps.old + (length (xs ++ ys) - 1) }
 {
     let Some(left) = left else {
@@ -25,8 +28,8 @@ pub fn joined<M: Partial, L>(left: Option<M>, right: Option<M>, steps: &mut Step
 }
 
 /// What tuples come to in their order: a step for each but the first.
-pub fn sum_of<M: Partial, L>(tuples: &[Kept], steps: &mut Steps<L>) -> Option<M>
-    ensures sum { IsSum M.of_values result tuples.now }
+pub fn sum_of<L>(tuples: &[Kept], steps: &mut Steps<L>) -> Option<Bundle>
+    ensures sum { IsSum result tuples.now }
     ensures cost { steps.new ≤ steps.old + (length tuples.now - 1) }
 {
     let mut sum = None;
@@ -37,10 +40,10 @@ pub fn sum_of<M: Partial, L>(tuples: &[Kept], steps: &mut Steps<L>) -> Option<M>
 }
 
 // What a tuple alone comes to.
-fn lifted<M: Partial>(x: &Kept) -> M
-    ensures { IsSum M.of_values (Some result) (x.now ∷ []) }
+fn lifted(x: &Kept) -> Bundle
+    ensures { IsSum (Some result) (x.now ∷ []) }
 {
-    M::lift(x.value)
+    Bundle::lift(x.value)
 }
 
 /// How two rows of tuples show, one behind the other.
@@ -76,7 +79,7 @@ pub fn misses(low: u64, high: u64, first: u64, last: u64) -> bool
 }
 
 /// Forgets a sum. Where there is none nothing is written, as in order.
-pub fn forget<M: Partial>(sum: &mut Option<M>)
+pub fn forget(sum: &mut Option<Bundle>)
     ensures { sum.new ≡ None }
 {
     if sum.is_some() {

@@ -3,6 +3,7 @@ ghost use Rattle.stream_base.specs.declared.kept.Kept.{Kept};
 ghost use Rattle.stream_base.specs.Laws.{TimesDoNotFall};
 ghost use Rattle.stream_base.specs.Model.Journal.{put_in_order};
 ghost use Rattle.stream_base.specs.Model.Windows.{last_time, within};
+ghost use Rattle.aggregates.specs.Bundled.{bundle_of};
 ghost use Rattle.slice_lists.specs.Slices.{slice_of, values_of};
 ghost use Rattle.tuple_chunks.specs.Sums.{IsSum};
 
@@ -12,24 +13,24 @@ use crate::places::{are_by, place_of};
 use crate::row::Row;
 use crate::sums::sum_of;
 use agg_laws::{Monoid, Steps};
-use aggregates::Partial;
+use aggregates::Bundle;
 use slice_lists::Slice;
 use std::alloc::Global;
 use std::marker::Model;
 use stream_base::{Kept, NoMemory};
 
 // Chunks in groups, these in groups again, and those in a row.
-type Rows<M> = Row<M, Row<M, Row<M, Chunk<M>>>>;
+type Rows = Row<Row<Row<Chunk>>>;
 
 /// The tuples of one key in event order. Contracts see the list, and whether there is room for one
 /// tuple more. A few tuples lie in one list, which is empty where there are rows.
 #[derive(Drop)]
-pub struct Tuples<M: Partial> {
+pub struct Tuples {
     few: Vec<Kept>,
-    rows: Option<Rows<M>>,
+    rows: Option<Rows>,
 }
 
-impl<M: Partial> Model for Tuples<M> {
+impl Model for Tuples {
     ghost use Rattle.std.specs.Prelude.{vec_len, vec_capacity, ◌-◌};
     ghost use Rattle.tuple_chunks.specs.Held.{Held, IsHeld, held_of};
 
@@ -40,9 +41,9 @@ impl<M: Partial> Model for Tuples<M> {
     ghost invariant = { λ t. IsHeld t.few.items (vec_capacity t.few) t.rows };
 }
 
-impl<M: Partial> Tuples<M> {
+impl Tuples {
     /// No tuple.
-    pub fn new(alloc: Global) -> Tuples<M>
+    pub fn new(alloc: Global) -> Tuples
         ensures { result.tuples ≡ [] }
     {
         Tuples {
@@ -110,8 +111,8 @@ impl<M: Partial> Tuples<M> {
     }
 
     /// What the tuples of a range of times come to, in at most one step for each.
-    pub fn fold<L>(&mut self, low: u64, high: u64, steps: &mut Steps<L>) -> M
-        ensures value { result ≡ M.of_values (values_of (within low high self.old.tuples)) }
+    pub fn fold<L>(&mut self, low: u64, high: u64, steps: &mut Steps<L>) -> Bundle
+        ensures value { result ≡ bundle_of (values_of (within low high self.old.tuples)) }
         ensures kept { self.new ≡ self.old }
         ensures cost { steps.new ≤ steps.old + length (within low high self.old.tuples) }
     {
@@ -134,7 +135,7 @@ impl<M: Partial> Tuples<M> {
 }
 
 // Rows of these tuples.
-fn rows_of<M: Partial>(tuples: &Vec<Kept>) -> Result<Rows<M>, NoMemory>
+fn rows_of(tuples: &Vec<Kept>) -> Result<Rows, NoMemory>
     requires some { 0 < length tuples.now.items }
     requires ordered { TimesDoNotFall tuples.now.items }
     ensures tuples { IfOk result (λ r. r.tuples ≡ tuples.now.items) }
@@ -148,12 +149,11 @@ fn rows_of<M: Partial>(tuples: &Vec<Kept>) -> Result<Rows<M>, NoMemory>
 }
 
 // What tuples come to, of which there may be none.
-fn or_unit<M: Partial>(sum: Option<M>) -> M
-    ensures { (xs : List Kept) → IsSum M.of_values sum xs
-        → result ≡ M.of_values (values_of xs) }
+fn or_unit(sum: Option<Bundle>) -> Bundle
+    ensures { (xs : List Kept) → IsSum sum xs → result ≡ bundle_of (values_of xs) }
 {
     match sum {
-        Some(partial) => partial,
-        None => M::unit(),
+        Some(bundle) => bundle,
+        None => Bundle::unit(),
     }
 }

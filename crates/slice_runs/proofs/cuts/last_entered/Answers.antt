@@ -5,7 +5,7 @@ use Rattle.slice_lists.proofs.SliceFacts.{ends_in_time}
 use Rattle.slice_runs.proofs.cuts.last_entered.Goals as goal
 
 pub has_cut-requires : goal.has_cut-requires
-has_cut-requires g c =
+has_cut-requires c =
     let l : c.args.at < length c.args.runs.now.slices = omega arith in
     record {
       kinds = c.requires.kinds;

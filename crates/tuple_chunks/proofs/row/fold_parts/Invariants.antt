@@ -8,6 +8,6 @@ use Rattle.tuple_chunks.proofs.row.fold_parts.Given as goal
 abbrev pub invariant-loop-part : goal.invariant-loop-part
 invariant-loop-part g l = record {
   kept : l.parts ≡ l.initial.parts;
-  sum : IsSum g.M.Partial.of_values l.sum (within l.low l.high (flat_map g.P.Part.tuples (take l.part-index l.initial.parts)));
+  sum : IsSum l.sum (within l.low l.high (flat_map g.P.Part.tuples (take l.part-index l.initial.parts)));
   cost : l.steps ≤ l.initial.steps + (length (within l.low l.high (flat_map g.P.Part.tuples (take l.part-index l.initial.parts))) - 1);
 }

@@ -5,6 +5,6 @@ use Rattle.tuple_chunks.proofs.sums.sum_of.Given as goal
 
 abbrev pub invariant-loop-x : goal.invariant-loop-x
 invariant-loop-x g l = record {
-  sum : IsSum g.M.Partial.of_values l.sum (take l.x-index l.tuples);
+  sum : IsSum l.sum (take l.x-index l.tuples);
   cost : l.steps ≤ l.initial.steps + (l.x-index - 1);
 }

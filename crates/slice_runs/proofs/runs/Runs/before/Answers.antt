@@ -9,12 +9,12 @@ use Rattle.slice_lists.proofs.SliceEdits.{lows_rise}
 use Rattle.slice_runs.proofs.runs.Runs.before.Goals as goal
 
 pub slices_before-requires : goal.slices_before-requires
-slices_before-requires g c =
+slices_before-requires c =
     let a = c.self.inside in
     subst (IsNonDecreasingBy (λ (s : Slice). s.low)) (sym c.self.invariant.parted.shown ∙ sym c.deref.ensures.value) (lows_rise (parted_by a.bounds.items a.tuples.tuples) c.self.invariant.parted.hold.ordered)
 
 pub returns : goal.returns
-returns g c =
+returns c =
     let a = c.self.inside in
     rw (← c.self.view_is)
     (record {

@@ -12,7 +12,7 @@ use Rattle.slice_runs.proofs.Parts.{fewer_kept}
 use Rattle.slice_runs.proofs.runs.Runs.drop_first.Goals as goal
 
 pub invariant_of-self : goal.invariant_of-self
-invariant_of-self g c =
+invariant_of-self c =
     let a = c.self.inside in
     let runs = parted_by a.bounds.items a.tuples.tuples in
     let time = c.args.time in
@@ -29,7 +29,7 @@ invariant_of-self g c =
     }
 
 pub returns-clause-slices : goal.returns-clause-slices
-returns-clause-slices g c =
+returns-clause-slices c =
     let a = c.self.inside in
     let runs = parted_by a.bounds.items a.tuples.tuples in
     let time = c.args.time in
@@ -43,4 +43,4 @@ returns-clause-slices g c =
     (c.drop_before.ensures.tuples ∙ ap (filter (λ (x : Kept). nat_le time x.time)) (sym c.self.invariant.parted.together) ∙ tuples_left runs time c.args.count place order aligned))
 
 pub returns-clause-holds : goal.returns-clause-holds
-returns-clause-holds g c = let kept = invariant_of-self g c in kept.parted.hold
+returns-clause-holds c = let kept = invariant_of-self c in kept.parted.hold

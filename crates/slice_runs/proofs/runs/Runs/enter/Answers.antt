@@ -8,7 +8,7 @@ use Rattle.slice_lists.proofs.SliceEdits.{entered_all, entered_hold, entered_num
 use Rattle.slice_runs.proofs.runs.Runs.enter.Goals as goal
 
 pub enter_bounds-requires-clause-number : goal.enter_bounds-requires-clause-number
-enter_bounds-requires-clause-number g c =
+enter_bounds-requires-clause-number c =
     let a = c.self.inside in
     let runs = parted_by a.bounds.items a.tuples.tuples in
     let number = entered_number runs a.bounds.items c.args.from c.args.to c.args.x c.requires.order c.requires.few c.self.invariant.parted.hold.ordered c.self.invariant.parted.shown in
@@ -17,7 +17,7 @@ enter_bounds-requires-clause-number g c =
     omega (arith, number, n, c.self.invariant.counted, room)
 
 pub invariant_of-self : goal.invariant_of-self
-invariant_of-self g c =
+invariant_of-self c =
     let a = c.self.inside in
     let runs = parted_by a.bounds.items a.tuples.tuples in
     let ordered : AreInOrder (entered_at c.args.from c.args.to c.args.x runs) = rw (← c.self.view_is) at c.requires.ordered in
@@ -34,7 +34,7 @@ invariant_of-self g c =
     }
 
 pub returns-clause-slices : goal.returns-clause-slices
-returns-clause-slices g c =
+returns-clause-slices c =
     let a = c.self.inside in
     let runs = parted_by a.bounds.items a.tuples.tuples in
     let ordered : AreInOrder (entered_at c.args.from c.args.to c.args.x runs) = rw (← c.self.view_is) at c.requires.ordered in
@@ -45,4 +45,4 @@ returns-clause-slices g c =
     (c.put.ensures.tuples ∙ ap (λ l. put_in_order l c.args.x) (sym c.self.invariant.parted.together) ∙ entered_tuples runs c.args.from c.args.to c.args.x c.requires.order ordered))
 
 pub returns-clause-holds : goal.returns-clause-holds
-returns-clause-holds g c = let kept = invariant_of-self g c in kept.parted.hold
+returns-clause-holds c = let kept = invariant_of-self c in kept.parted.hold

@@ -2,6 +2,7 @@
 use Rattle.std.proofs.Common.{◌≡◌, ◌∙◌, ◌<◌, ◌≤◌, [], ap, arith, length, get_or}
 use Rattle.stream_base.specs.declared.limits.TheConstants.{TIME_MAX}
 use Rattle.stream_base.specs.Model.Windows.{last_time}
+use Rattle.aggregates.specs.Bundled.{bundle_of}
 use Rattle.slice_lists.specs.declared.slice.Slice.{Slice}
 use Rattle.slice_lists.specs.Parted.{parted_by}
 use Rattle.slice_lists.specs.Slices.{slice_of, values_of}
@@ -27,7 +28,7 @@ returns-clause-value g c =
     let shown : c.index-slice.result.now ≡ slice_of (get_or runs c.args.at []) = shown_at runs a.bounds.items c.args.at c.index-slice.result.now c.self.invariant.parted.shown l c.index-slice.ensures in
     rw (← c.self.view_is)
     (c.fold.ensures.value
-    ∙ ap (λ ts. g.M.Partial.of_values (values_of ts)) (whole_shown runs c.args.at l c.self.invariant.parted.hold.ordered a.tuples.tuples c.self.invariant.parted.together c.index-slice.result.now shown))
+    ∙ ap (λ ts. bundle_of (values_of ts)) (whole_shown runs c.args.at l c.self.invariant.parted.hold.ordered a.tuples.tuples c.self.invariant.parted.together c.index-slice.result.now shown))
 
 pub returns-clause-cost : goal.returns-clause-cost
 returns-clause-cost g c =

@@ -12,7 +12,7 @@ use Rattle.slice_runs.proofs.Parts.{back_shown, both_parts, front_shown, some_ba
 use Rattle.slice_runs.proofs.runs.Runs.split.Goals as goal
 
 pub shown-front-requires : goal.shown-front-requires
-shown-front-requires g c =
+shown-front-requires c =
     let a = c.self.inside in
     let runs = parted_by a.bounds.items a.tuples.tuples in
     let at = c.args.at in
@@ -25,7 +25,7 @@ shown-front-requires g c =
     omega (arith, ap length front, some_front run c.args.time (some_tuples run c.args.time before behind) before)
 
 pub overflow_add-slice : goal.overflow_add-slice
-overflow_add-slice g c =
+overflow_add-slice c =
     let a = c.self.inside in
     let runs = parted_by a.bounds.items a.tuples.tuples in
     let l : c.args.at < length runs = rw (← c.self.view_is) at c.requires.within in
@@ -34,7 +34,7 @@ overflow_add-slice g c =
     omega (arith, ap (λ (s : Slice). s.high) shown, end)
 
 pub shown-back-requires : goal.shown-back-requires
-shown-back-requires g c =
+shown-back-requires c =
     let a = c.self.inside in
     let runs = parted_by a.bounds.items a.tuples.tuples in
     let at = c.args.at in
@@ -47,7 +47,7 @@ shown-back-requires g c =
     omega (arith, ap length back, some_back run c.args.time (some_tuples run c.args.time before behind) behind)
 
 pub invariant_of-self : goal.invariant_of-self
-invariant_of-self g c =
+invariant_of-self c =
     let a = c.self.inside in
     let runs = parted_by a.bounds.items a.tuples.tuples in
     let at = c.args.at in
@@ -72,7 +72,7 @@ invariant_of-self g c =
     }
 
 pub returns-clause-slices : goal.returns-clause-slices
-returns-clause-slices g c =
+returns-clause-slices c =
     let a = c.self.inside in
     let runs = parted_by a.bounds.items a.tuples.tuples in
     let at = c.args.at in
@@ -92,4 +92,4 @@ returns-clause-slices g c =
     (sym together ∙ split_tuples runs at time l (both_parts runs at l order time)))
 
 pub returns-clause-holds : goal.returns-clause-holds
-returns-clause-holds g c = let kept = invariant_of-self g c in kept.parted.hold
+returns-clause-holds c = let kept = invariant_of-self c in kept.parted.hold

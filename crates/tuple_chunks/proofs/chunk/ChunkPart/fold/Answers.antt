@@ -17,7 +17,7 @@ returns-then-is_some-clause-sum g c =
     let test : (nat_le low (first_time tuples) && nat_lt (last_time tuples) high) ≡ true = (λ i. nat_le low (first i) && nat_lt (last i) high) ∙ sym c.covers.ensures ∙ c.if-not-covers.false in
     let all : within low high tuples ≡ tuples = covered low high tuples c.self.invariant.0 test in
     rw (← c.self.view_is)
-    (subst (IsSum g.M.Partial.of_values c.self.inside.sum) (sym all) (kept_is_sum g.M.Partial.of_values c.self.inside.sum tuples (sym c.is_some.ensures ∙ c.if-is_some.true) c.self.invariant.1))
+    (subst (IsSum c.self.inside.sum) (sym all) (kept_is_sum c.self.inside.sum tuples (sym c.is_some.ensures ∙ c.if-is_some.true) c.self.invariant.1))
 
 pub returns-clause-sum : goal.returns-clause-sum
 returns-clause-sum g c =
@@ -29,7 +29,7 @@ returns-clause-sum g c =
     let test : (nat_le low (first_time tuples) && nat_lt (last_time tuples) high) ≡ true = (λ i. nat_le low (first i) && nat_lt (last i) high) ∙ sym c.covers.ensures ∙ c.if-not-covers.false in
     let all : within low high tuples ≡ tuples = covered low high tuples c.self.invariant.0 test in
     rw (← c.self.view_is)
-    (subst (IsSum g.M.Partial.of_values c.sum_of-self-inside.result) (c.deref-3.ensures.value ∙ sym all) c.sum_of-self-inside.ensures.sum)
+    (subst (IsSum c.sum_of-self-inside.result) (c.deref-3.ensures.value ∙ sym all) c.sum_of-self-inside.ensures.sum)
 
 pub returns-clause-cost : goal.returns-clause-cost
 returns-clause-cost g c =

@@ -23,6 +23,6 @@ invariant_of-self g c =
     let len : length gone.new.parts.items + gone.result ≡ length c.self.inside.parts.items = omega (arith, gone.ensures.len) in
     let some : 0 < length gone.new.parts.items = omega (arith, gone.ensures.some) in
     let keeps = λ (k : ℕ) (d : g.row.P.Denot) (l : k < length gone.new.parts.items). gone.ensures.spare k d (omega (arith, l)) in
-    subst (λ n. IsRow g.M.Partial.of_values g.P.Part.tuples g.P.Part.spare gone.new.parts.items c.numbers-self-inside.result n c.self.inside.ready None) (sym c.saturating_sub-self-inside.ensures)
-    (dropped_row g.P.Part.tuples g.P.Part.spare g.M.Partial.of_values c.self.inside.parts.items gone.new.parts.items c.args.time gone.result c.self.inside.number c.numbers-self-inside.result c.self.inside.entered c.self.inside.ready c.self.inside.sum row gone.ensures.tuples gone.ensures.parts len some keeps
+    subst (λ n. IsRow g.P.Part.tuples g.P.Part.spare gone.new.parts.items c.numbers-self-inside.result n c.self.inside.ready None) (sym c.saturating_sub-self-inside.ensures)
+    (dropped_row g.P.Part.tuples g.P.Part.spare c.self.inside.parts.items gone.new.parts.items c.args.time gone.result c.self.inside.number c.numbers-self-inside.result c.self.inside.entered c.self.inside.ready c.self.inside.sum row gone.ensures.tuples gone.ensures.parts len some keeps
     (c.numbers-self-inside.ensures ∙ ap (λ l. length (flat_map g.P.Part.tuples l)) c.deref.ensures.value))

@@ -20,7 +20,7 @@ returns-then-misses-clause-sum g c =
     let ordered = subst (λ (h : Held). TimesDoNotFall h.tuples) c.self.view_is c.self.invariant.holds.ordered in
     let test : (nat_lt (last_time tuples) low || nat_le high (first_time tuples)) ≡ true =
     (λ i. nat_lt (sym c.last_time-last.ensures i) low || nat_le high (sym c.first_time-first.ensures i)) ∙ sym c.misses.ensures ∙ c.if-misses.true in
-    no_sum g.M.Partial.of_values (within low high tuples) (missed low high tuples ordered test)
+    no_sum (within low high tuples) (missed low high tuples ordered test)
 
 pub returns-then-is_some-clause-sum : goal.returns-then-is_some-clause-sum
 returns-then-is_some-clause-sum g c =
@@ -34,8 +34,8 @@ returns-then-is_some-clause-sum g c =
     let test : (nat_le low (first_time tuples) && nat_lt (last_time tuples) high) ≡ true =
     (λ i. nat_le low (sym c.first_time-first.ensures i) && nat_lt (sym c.last_time-last.ensures i) high) ∙ sym c.covers.ensures ∙ c.if-not-covers.false in
     let all = covered low high tuples ordered test in
-    let own = kept_is_sum g.M.Partial.of_values sum (flat_map f c.self.inside.parts.items) (sym c.is_some.ensures ∙ c.if-is_some.true) row.summed in
-    subst (IsSum g.M.Partial.of_values sum) (sym all) (subst (λ (h : Held). IsSum g.M.Partial.of_values sum h.tuples) c.self.view_is own)
+    let own = kept_is_sum sum (flat_map f c.self.inside.parts.items) (sym c.is_some.ensures ∙ c.if-is_some.true) row.summed in
+    subst (IsSum sum) (sym all) (subst (λ (h : Held). IsSum sum h.tuples) c.self.view_is own)
 
 pub invariant_of-self-2 : goal.invariant_of-self-2
 invariant_of-self-2 g c =
@@ -54,6 +54,6 @@ invariant_of-self-2 g c =
     let all = subst (λ (h : Held). within low high h.tuples ≡ h.tuples) (sym c.self.view_is) (covered low high tuples ordered test) in
     let len : inside.parts.len ≡ length parts = omega arith in
     let same = same_list inside.parts.len parts folded.new.parts (folded.ensures.kept ∙ c.deref_mut-2.ensures.value) len in
-    let own = subst (IsSum g.M.Partial.of_values folded.result) (ap (λ l. within low high (flat_map f l)) c.deref_mut-2.ensures.value ∙ all) folded.ensures.sum in
-    subst (λ l. IsRow g.M.Partial.of_values f s l inside.number inside.entered inside.ready folded.result) (sym same)
-    (row_summed f s g.M.Partial.of_values parts inside.number inside.entered inside.ready inside.sum folded.result row own)
+    let own = subst (IsSum folded.result) (ap (λ l. within low high (flat_map f l)) c.deref_mut-2.ensures.value ∙ all) folded.ensures.sum in
+    subst (λ l. IsRow f s l inside.number inside.entered inside.ready folded.result) (sym same)
+    (row_summed f s parts inside.number inside.entered inside.ready inside.sum folded.result row own)

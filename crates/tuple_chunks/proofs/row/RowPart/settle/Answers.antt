@@ -28,7 +28,7 @@ invariant_of-result g c =
     let ready : c.self.inside.ready ≡ true = is_ready c.self.inside.ready c.reserve.new.self.spare (ap (λ h. h.spare) c.self.view_is) c.in_ok-reserve.ensures.room in
     let all : IsReady g.P.Part.spare parts number = c.self.invariant.roomy ready in
     let within : c.cut-at.result < length parts = omega (arith, c.cut-at.ensures.within, c.len-2.ensures) in
-    back_row f g.P.Part.spare g.M.Partial.of_values parts c.in_ok-back.back.items c.cut-at.result c.numbers-number.result number true c.in_ok-back.ensures.tail within c.self.invariant.holds all c.self.invariant.counted
+    back_row f g.P.Part.spare parts c.in_ok-back.back.items c.cut-at.result c.numbers-number.result number true c.in_ok-back.ensures.tail within c.self.invariant.holds all c.self.invariant.counted
     (c.numbers-number.ensures ∙ ap (λ l. length (flat_map f l)) (c.deref.ensures.value ∙ c.in_ok-back.ensures.tail))
 
 pub invariant_of-self-2 : goal.invariant_of-self-2
@@ -39,7 +39,7 @@ invariant_of-self-2 g c =
     let ready : c.self.inside.ready ≡ true = is_ready c.self.inside.ready c.reserve.new.self.spare (ap (λ h. h.spare) c.self.view_is) c.in_ok-reserve.ensures.room in
     let all : IsReady g.P.Part.spare parts number = c.self.invariant.roomy ready in
     let within : c.cut-at.result < length parts = omega (arith, c.cut-at.ensures.within, c.len-2.ensures) in
-    front_row f g.P.Part.spare g.M.Partial.of_values parts c.split_off.new.self.items c.cut-at.result c.numbers-number.result number c.self.inside.ready c.in_ok-back.ensures.items c.cut-at.ensures.some within c.self.invariant.holds all c.self.invariant.counted
+    front_row f g.P.Part.spare parts c.split_off.new.self.items c.cut-at.result c.numbers-number.result number c.self.inside.ready c.in_ok-back.ensures.items c.cut-at.ensures.some within c.self.invariant.holds all c.self.invariant.counted
     (c.numbers-number.ensures ∙ ap (λ l. length (flat_map f l)) (c.deref.ensures.value ∙ c.in_ok-back.ensures.tail))
 
 pub returns : goal.returns

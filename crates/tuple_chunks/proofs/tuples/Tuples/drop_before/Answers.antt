@@ -11,7 +11,7 @@ use Rattle.tuple_chunks.proofs.HeldFacts.{few_held, few_left, rows_drop, rows_le
 use Rattle.tuple_chunks.proofs.tuples.Tuples.drop_before.Goals as goal
 
 pub invariant_of-self : goal.invariant_of-self
-invariant_of-self g c =
+invariant_of-self c =
     let few = c.self.inside.few in
     let new = c.retain.new.self in
     let left : new.items ≡ filter (λ (x : Kept). nat_le c.args.time x.time) few.items = filter_same _ (λ (x : Kept). nat_le c.args.time x.time) _ (λ x b f' k. search rules) _ _ c.retain.ensures.filtered in
@@ -21,7 +21,7 @@ invariant_of-self g c =
     more
 
 pub returns-in_default-clause-tuples : goal.returns-in_default-clause-tuples
-returns-in_default-clause-tuples g c =
+returns-in_default-clause-tuples c =
     let few = c.self.inside.few in
     let new = c.retain.new.self in
     let left : new.items ≡ filter (λ (x : Kept). nat_le c.args.time x.time) few.items = filter_same _ (λ (x : Kept). nat_le c.args.time x.time) _ (λ x b f' k. search rules) _ _ c.retain.ensures.filtered in
@@ -29,14 +29,14 @@ returns-in_default-clause-tuples g c =
     (few_left c.args.time c.self.inside.rows few.items new.items (vec_capacity few - vec_len few) (vec_capacity new - vec_len new) c.in_default.not-Some left)
 
 pub invariant_of-self-then-time-last_time : goal.invariant_of-self-then-time-last_time
-invariant_of-self-then-time-last_time g c =
+invariant_of-self-then-time-last_time c =
     let few = c.self.inside.few in
     let rows = c.in-Some.rows in
     let late : c.args.time ≤ last_time rows.tuples = omega (arith, c.if-time-last_time.true, c.last_time.ensures) in
     rows_drop few.items (vec_capacity few) c.self.inside.rows rows c.drop_before.new.self c.args.time c.in-Some.is c.self.invariant late c.drop_before.ensures.tuples
 
 pub returns-clause-tuples : goal.returns-clause-tuples
-returns-clause-tuples g c =
+returns-clause-tuples c =
     let few = c.self.inside.few in
     let rows = c.in-Some.rows in
     let early : last_time rows.tuples < c.args.time = omega (arith, c.if-time-last_time.false, c.last_time.ensures) in
