@@ -5,7 +5,7 @@ ghost use Rattle.partials.specs.Apart.{SpendsNear};
 ghost use Rattle.slice_lists.specs.Slices.{entered_at, joined, slices_between};
 ghost use Rattle.slice_store.specs.Following.{Follow, MayEnter, refolded};
 
-use crate::lifting::lifted;
+use crate::lifting::{fold_of, lifted};
 use agg_laws::{AggTree, Monoid, Steps};
 use aggregates::Partial;
 use partials::Partials;
@@ -14,7 +14,7 @@ use stream_base::Kept;
 
 // The tuple becomes a slice of its own.
 fn add<M: Partial, T: AggTree<M>, L>(
-    runs: &mut Runs<M>,
+    runs: &mut Runs,
     partials: &mut Partials<M, T>,
     at: usize,
     x: Kept,
@@ -32,7 +32,7 @@ fn add<M: Partial, T: AggTree<M>, L>(
 // The tuple comes behind those of a slice, or anywhere in it where order makes no difference: its
 // partial is combined with it once, however many tuples it has.
 fn extend<M: Partial, T: AggTree<M>, L>(
-    runs: &mut Runs<M>,
+    runs: &mut Runs,
     partials: &mut Partials<M, T>,
     at: usize,
     x: Kept,
@@ -55,7 +55,7 @@ fn extend<M: Partial, T: AggTree<M>, L>(
 
 // The tuple comes before those of a slice, which then begins with it.
 fn front<M: Partial, T: AggTree<M>, L>(
-    runs: &mut Runs<M>,
+    runs: &mut Runs,
     partials: &mut Partials<M, T>,
     at: usize,
     x: Kept,
@@ -77,7 +77,7 @@ fn front<M: Partial, T: AggTree<M>, L>(
 // The tuple comes between those of a slice, whose tuples are folded anew in event order, since that
 // makes a difference.
 fn refold<M: Partial, T: AggTree<M>, L>(
-    runs: &mut Runs<M>,
+    runs: &mut Runs,
     partials: &mut Partials<M, T>,
     at: usize,
     x: Kept,
@@ -94,13 +94,13 @@ fn refold<M: Partial, T: AggTree<M>, L>(
 {
     let low = runs.slice(at).low;
     runs.enter(at, at + 1, x);
-    let partial = runs.fold_of(at, steps);
+    let partial = fold_of(runs, at, steps);
     partials.set(low, partial, steps);
 }
 
 // The tuple comes between two slices and joins them.
 fn merge<M: Partial, T: AggTree<M>, L>(
-    runs: &mut Runs<M>,
+    runs: &mut Runs,
     partials: &mut Partials<M, T>,
     at: usize,
     x: Kept,
@@ -124,7 +124,7 @@ fn merge<M: Partial, T: AggTree<M>, L>(
 /// Puts a tuple in its place, where the slices from one place up to another become one with it, and
 /// brings the partials after it.
 pub fn enter<M: Partial, T: AggTree<M>, L>(
-    runs: &mut Runs<M>,
+    runs: &mut Runs,
     partials: &mut Partials<M, T>,
     from: usize,
     to: usize,

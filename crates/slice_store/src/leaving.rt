@@ -10,7 +10,7 @@ use slice_runs::Runs;
 
 /// Takes out the partials of the first slices.
 pub fn take_first<M: Partial, T: AggTree<M>, L>(
-    runs: &Runs<M>,
+    runs: &Runs,
     partials: &mut Partials<M, T>,
     count: usize,
     steps: &mut Steps<L>,

@@ -3,6 +3,7 @@ ghost use Rattle.std.specs.Prelude.{◌≤◌, ◌+◌, ◌*◌, [], length, sli
 ghost use Rattle.slice_lists.specs.Slices.{split_at};
 ghost use Rattle.slice_store.specs.Following.{Follow, MaySplit};
 
+use crate::lifting::fold_of;
 use agg_laws::{AggTree, Steps};
 use aggregates::Partial;
 use partials::Partials;
@@ -10,7 +11,7 @@ use slice_runs::Runs;
 
 /// Splits a slice at a time inside it, and folds the tuples of both parts.
 pub fn split<M: Partial, T: AggTree<M>, L>(
-    runs: &mut Runs<M>,
+    runs: &mut Runs,
     partials: &mut Partials<M, T>,
     at: usize,
     time: u64,
@@ -25,8 +26,8 @@ pub fn split<M: Partial, T: AggTree<M>, L>(
     let low = runs.slice(at).low;
     runs.split(at, time);
     let next = runs.slice(at + 1).low;
-    let front = runs.fold_of(at, steps);
-    let back = runs.fold_of(at + 1, steps);
+    let front = fold_of(runs, at, steps);
+    let back = fold_of(runs, at + 1, steps);
     partials.set(low, front, steps);
     partials.insert(next, back, steps);
 }

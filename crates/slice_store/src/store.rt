@@ -41,7 +41,7 @@ use stream_base::{Defs, Kept, NoMemory};
 /// theirs is a condition of `put` and `mark`, and each of them says it again.
 #[derive(Drop)]
 pub struct SliceStore<M: Partial, T: AggTree<M>> {
-    runs: Runs<M>,
+    runs: Runs,
     marks: Marks,
     dropped: u64,
     partials: Partials<M, T>,
