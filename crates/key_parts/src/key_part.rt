@@ -192,8 +192,8 @@ pub trait KeyPart<M: Partial>: Drop {
             self.old key.now out.old out.new }
         ensures adds { AddsAtMost (mark_room defs.now window time water self.old)
             out.old out.new }
-        ensures cost { SpendsOn credit (fold_work (S.stored store.now).reach * added out.old
-            out.new) self.old self.new steps.old steps.new }
+        ensures cost { SpendsOn credit (fold_work (S.stored store.now).reach
+            * added out.old out.new) self.old self.new steps.old steps.new }
         ensures ahead { AheadOfMark stands defs.now window complete_by is_ahead water time
             (S.stored store.now) self.old self.new };
 
@@ -229,8 +229,8 @@ pub trait KeyPart<M: Partial>: Drop {
         requires ready { can_move defs.now window (S.stored store.now) old new self.old }
         requires spare { move_room defs.now window (S.stored store.now) old new self.old
             ≤ room out.old }
-        ensures stands { StandsMoved stands defs.now window old new (S.stored store.now) self.old
-            self.new }
+        ensures stands { StandsMoved stands defs.now window old new (S.stored store.now)
+            self.old self.new }
         ensures changes { AddsByMove stands defs.now window old new (S.stored store.now)
             self.old key.now out.old out.new }
         ensures adds { AddsAtMost

@@ -19,8 +19,8 @@ impl<M: Partial, P: KeyPart<M>> Parts<M, P> {
     pub fn reserve_mark(&mut self, defs: &Defs, time: u64, water: u64) -> Result<u64, NoMemory>
         requires { (s : Stored)
             × MayCome (AllStandAt P.stands defs.now) time water s self.old.list.items }
-        ensures { AllPrepareEntry P.stands P.is_ahead P.credit P.is_ready P.mark_room defs.now time
-            water self.old.list.items self.new.list.items result }
+        ensures { AllPrepareEntry P.stands P.is_ahead P.credit P.is_ready P.mark_room defs.now
+            time water self.old.list.items self.new.list.items result }
     {
         let mut room: u64 = 0;
         for window in 0..window_count(defs) {
@@ -43,16 +43,16 @@ impl<M: Partial, P: KeyPart<M>> Parts<M, P> {
     )
         requires takes { MarkComesToAll P.stands defs.now water time store.now self.old.list.items }
         requires ready { AllReady P.is_ready defs.now time water self.old.list.items }
-        requires spare { entry_rooms P.mark_room defs.now time water self.old.list.items ≤ room
-            out.old }
-        ensures stands { AllStandWithMark P.stands defs.now water time store.now self.old.list.items
-            self.new.list.items }
+        requires spare { entry_rooms P.mark_room defs.now time water self.old.list.items
+            ≤ room out.old }
+        ensures stands { AllStandWithMark P.stands defs.now water time store.now
+            self.old.list.items self.new.list.items }
         ensures changes { AllAddByMark P.stands defs.now water time store.now self.old.list.items
             key.now out.old out.new }
         ensures adds { AddsAtMost (entry_rooms P.mark_room defs.now time water self.old.list.items)
             out.old out.new }
-        ensures cost { SpendsOn (all_credit P.credit) (fold_work store.now.reach * added out.old
-            out.new) self.old.list.items self.new.list.items steps.old steps.new }
+        ensures cost { SpendsOn (all_credit P.credit) (fold_work store.now.reach
+            * added out.old out.new) self.old.list.items self.new.list.items steps.old steps.new }
         ensures ahead { AllAheadOfMark P.stands defs.now P.is_ahead water time store.now
             self.old.list.items self.new.list.items }
     {

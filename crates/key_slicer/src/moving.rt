@@ -48,10 +48,10 @@ impl<M: Partial, P: KeyPart<M>> Parts<M, P> {
         requires moves { MayMove (AllStandAt P.stands defs.now) old new store.now
             self.old.list.items }
         requires ready { AllCanMove P.can_move defs.now store.now old new self.old.list.items }
-        requires spare { move_rooms P.move_room defs.now store.now old new self.old.list.items ≤
-            room out.old }
-        ensures stands { AllStandMoved P.stands defs.now old new store.now self.old.list.items
-            self.new.list.items }
+        requires spare { move_rooms P.move_room defs.now store.now old new self.old.list.items
+            ≤ room out.old }
+        ensures stands { AllStandMoved P.stands defs.now old new store.now
+            self.old.list.items self.new.list.items }
         ensures changes { AllAddByMove P.stands defs.now old new store.now self.old.list.items
             key.now out.old out.new }
         ensures adds { AddsAtMost (move_rooms P.move_room defs.now store.now old new

@@ -48,12 +48,12 @@ impl<M: Partial, P: KeyPart<M>> Parts<M, P> {
     // have left the store.
     pub fn drop_settled(&mut self, defs: &Defs, water: u64)
         requires as_many { length self.old.list.items ≡ length (defs.now).windows }
-        ensures stands { AllStandAfterLoss P.stands defs.now P.settles_at water self.old.list.items
-            self.new.list.items }
+        ensures stands { AllStandAfterLoss P.stands defs.now P.settles_at water
+            self.old.list.items self.new.list.items }
         ensures credit { all_credit P.credit self.new.list.items
             ≤ all_credit P.credit self.old.list.items }
-        ensures ahead { AllAheadAfterLoss P.stands defs.now P.is_ahead water self.old.list.items
-            self.new.list.items }
+        ensures ahead { AllAheadAfterLoss P.stands defs.now P.is_ahead water
+            self.old.list.items self.new.list.items }
     {
         for window in 0..window_count(defs) {
             self.list[window as usize].drop_settled(defs, window, water);
@@ -65,12 +65,12 @@ impl<M: Partial, P: KeyPart<M>> Parts<M, P> {
         requires { (m : Moment) × (n : ℕ) × (s : Stored)
             × AreStanding P.stands defs.now m n s self.old.list.items }
         ensures lean { EachPart (λ i part. P.is_lean defs.now i water part) self.new.list.items }
-        ensures stands { StandsOnUnder (AreStanding P.stands defs.now) water self.old.list.items
-            self.new.list.items }
+        ensures stands { StandsOnUnder (AreStanding P.stands defs.now) water
+            self.old.list.items self.new.list.items }
         ensures credit { all_credit P.credit self.new.list.items
             ≤ all_credit P.credit self.old.list.items }
-        ensures ahead { MissesNoMore (AllAhead P.is_ahead defs.now) self.old.list.items
-            self.new.list.items }
+        ensures ahead { MissesNoMore (AllAhead P.is_ahead defs.now)
+            self.old.list.items self.new.list.items }
     {
         for window in 0..window_count(defs) {
             self.list[window as usize].drop_needless(defs, window, water);

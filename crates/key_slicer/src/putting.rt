@@ -20,8 +20,8 @@ impl<M: Partial, P: KeyPart<M>> Parts<M, P> {
     pub fn reserve_put(&mut self, defs: &Defs, time: u64, water: u64) -> Result<u64, NoMemory>
         requires { (s : Stored)
             × MayCome (AllStandAt P.stands defs.now) time water s self.old.list.items }
-        ensures { AllPrepareEntry P.stands P.is_ahead P.credit P.is_ready P.put_room defs.now time
-            water self.old.list.items self.new.list.items result }
+        ensures { AllPrepareEntry P.stands P.is_ahead P.credit P.is_ready P.put_room defs.now
+            time water self.old.list.items self.new.list.items result }
     {
         let mut room: u64 = 0;
         for window in 0..window_count(defs) {
@@ -44,17 +44,17 @@ impl<M: Partial, P: KeyPart<M>> Parts<M, P> {
             self.old.list.items }
         requires accepted { IsAccepted defs.now time water }
         requires ready { AllReady P.is_ready defs.now time water self.old.list.items }
-        ensures stays { StandsAsBefore (AreStanding P.stands defs.now) self.old.list.items
-            self.new.list.items }
+        ensures stays { StandsAsBefore (AreStanding P.stands defs.now)
+            self.old.list.items self.new.list.items }
         ensures asked { AllAsked P.stands defs.now P.is_asked time water store.now
             self.old.list.items self.new.list.items }
         ensures ready { AllReady P.is_ready defs.now time water self.new.list.items }
-        ensures room { entry_rooms P.put_room defs.now time water self.new.list.items ≡ entry_rooms
-            P.put_room defs.now time water self.old.list.items }
+        ensures room { entry_rooms P.put_room defs.now time water self.new.list.items
+            ≡ entry_rooms P.put_room defs.now time water self.old.list.items }
         ensures cost { SpendsOn (all_credit P.credit) (fold_work store.now.reach * all_owed P.owed
             self.new.list.items) self.old.list.items self.new.list.items steps.old steps.new }
-        ensures ahead { MissesNoMore (AllAhead P.is_ahead defs.now) self.old.list.items
-            self.new.list.items }
+        ensures ahead { MissesNoMore (AllAhead P.is_ahead defs.now)
+            self.old.list.items self.new.list.items }
     {
         for window in 0..window_count(defs) {
             self.list[window as usize].before(defs, window, store, time, water, steps);
@@ -75,8 +75,8 @@ impl<M: Partial, P: KeyPart<M>> Parts<M, P> {
         requires takes { TupleComesToAll P.stands defs.now P.is_asked water x store.now
             self.old.list.items }
         requires ready { AllReady P.is_ready defs.now x.time water self.old.list.items }
-        requires spare { entry_rooms P.put_room defs.now x.time water self.old.list.items ≤ room
-            out.old }
+        requires spare { entry_rooms P.put_room defs.now x.time water self.old.list.items
+            ≤ room out.old }
         ensures stands { AllStandWithTuple P.stands defs.now P.is_asked water x store.now
             self.old.list.items self.new.list.items }
         ensures changes { AllAddByTuple P.stands defs.now P.is_asked water x store.now
