@@ -19,8 +19,8 @@ abbrev pub window_at : Definitions → ℕ → Def
 window_at d window = slice_index_or d.windows window (record { kind = Marks; func = Count })
 
 -- the kind of the window at a place
-abbrev pub kind_at : Definitions → ℕ → Kind
-kind_at d window = (window_at d window).kind
+abbrev pub window_kind : Definitions → ℕ → Kind
+window_kind d window = (window_at d window).kind
 
 -- for the window at a place a part stands for what is known of a key, of which the store lacks so many first tuples
 abbrev pub Standing : Type 0 → Type 1

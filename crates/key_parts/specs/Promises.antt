@@ -10,18 +10,18 @@ use Rattle.window_laws.specs.After.{at_water, with_mark, with_tuple}
 use Rattle.window_laws.specs.Settled.{without_first}
 use Rattle.agg_store.specs.Stored.{Stored}
 use Rattle.key_windows.specs.Calls.{IsWater}
-use Rattle.key_parts.specs.Calls.{LosesSettled, Prepares, Standing, StandsAt, TakesMark, TakesTuple, kind_at, window_at}
+use Rattle.key_parts.specs.Calls.{LosesSettled, Prepares, Standing, StandsAt, TakesMark, TakesTuple, window_kind, window_at}
 use Rattle.key_parts.specs.Moves.{SettlesUpTo}
-use Rattle.key_parts.specs.Work.{CostsAtMost, most_moved, moved_work}
+use Rattle.key_parts.specs.Work.{CostsAtMost, most_moved, paid_work}
 
 -- the changes of the window at a place from one moment of a key to another, retractions first
-abbrev pub changes_at : Definitions → ℕ → List ℕ → Moment → Moment → List Change
-changes_at d window key old new =
+abbrev pub window_changes : Definitions → ℕ → List ℕ → Moment → Moment → List Change
+window_changes d window key old new =
     retractions key old new (window, window_at d window) ++ emissions key old new (window, window_at d window)
 
 -- the rows of the window at a place that a move of the watermark completes
-abbrev pub completions_at : Definitions → ℕ → List ℕ → Moment → ℕ → List Change
-completions_at d window key m new = completions key m new (window, window_at d window)
+abbrev pub window_completions : Definitions → ℕ → List ℕ → Moment → ℕ → List Change
+window_completions d window key m new = completions key m new (window, window_at d window)
 
 -- whether a part has missed something of the window at a place by a watermark, with this store
 abbrev pub Missing : Type 0 → Type 1
@@ -62,7 +62,7 @@ module _ {P : Type 0} (stands : Standing P) (d : Definitions) (window : ℕ) whe
   -- what was appended are the changes of the window by the tuple that a part took in
   abbrev pub AddsByTuple : {Z : Type 0} → (Definitions → ℕ → Moment → ℕ → P → Type 0) → ℕ → Kept → Stored → P → List ℕ → Vec Change Z → Vec Change Z → Type 0
   AddsByTuple is_asked water x s old key out longer =
-      ForTuple is_asked water x s old (λ m n before more. longer.items ≡ out.items ++ changes_at d window key m (with_tuple m x))
+      ForTuple is_asked water x s old (λ m n before more. longer.items ≡ out.items ++ window_changes d window key m (with_tuple m x))
 
   -- a part that had missed nothing hasn't by a tuple either, which isn't before what is complete
   abbrev pub AheadOfTuple : (Definitions → ℕ → Moment → ℕ → P → Type 0) → (Definitions → ℕ → ℕ → ℕ) → Missing P → ℕ → Kept → Stored → P → P → Type 0
@@ -87,7 +87,7 @@ module _ {P : Type 0} (stands : Standing P) (d : Definitions) (window : ℕ) whe
   -- what was appended are the changes of the window by the mark that a part took in
   abbrev pub AddsByMark : {Z : Type 0} → ℕ → ℕ → Stored → P → List ℕ → Vec Change Z → Vec Change Z → Type 0
   AddsByMark water time s old key out longer =
-      ForMark water time s old (λ m n before. longer.items ≡ out.items ++ changes_at d window key m (with_mark m time))
+      ForMark water time s old (λ m n before. longer.items ≡ out.items ++ window_changes d window key m (with_mark m time))
 
   -- a part that had missed nothing hasn't by a mark either, which isn't before what is complete
   abbrev pub AheadOfMark : (Definitions → ℕ → ℕ → ℕ) → Missing P → ℕ → ℕ → Stored → P → P → Type 0
@@ -101,7 +101,7 @@ module _ {P : Type 0} (stands : Standing P) (d : Definitions) (window : ℕ) whe
   -- what was appended are the rows of the window that the move of a part completes
   abbrev pub AddsByMove : {Z : Type 0} → ℕ → ℕ → Stored → P → List ℕ → Vec Change Z → Vec Change Z → Type 0
   AddsByMove old new s part key out longer =
-      ForKey old s part (λ m n. longer.items ≡ out.items ++ completions_at d window key m new)
+      ForKey old s part (λ m n. longer.items ≡ out.items ++ window_completions d window key m new)
 
   -- a part that was moved has missed nothing by the new watermark
   abbrev pub AheadMoved : Missing P → ℕ → ℕ → Stored → P → P → Type 0
@@ -110,27 +110,27 @@ module _ {P : Type 0} (stands : Standing P) (d : Definitions) (window : ℕ) whe
   -- the most that a move takes on credit which appends so many rows, of a part that has missed nothing: what it takes up in this store
   abbrev pub PaysAhead : Missing P → (P → ℕ) → (Definitions → ℕ → Stored → ℕ → ℕ → ℕ) → ℕ → ℕ → Stored → P → P → ℕ → ℕ → ℕ → Type 0
   PaysAhead is_ahead credit_of taken_up old new s part part_then rows steps steps_then =
-      ForKey old s part (λ m n. is_ahead d window old s part → CostsAtMost (moved_work (kind_at d window) s.reach (taken_up d window s old new) rows) steps steps_then (credit_of part) (credit_of part_then))
+      ForKey old s part (λ m n. is_ahead d window old s part → CostsAtMost (paid_work (window_kind d window) s.reach (taken_up d window s old new) rows) steps steps_then (credit_of part) (credit_of part_then))
 
   -- and of any part: what it takes up, and what it can have missed
   abbrev pub PaysBehind : (P → ℕ) → (Definitions → ℕ → Stored → ℕ → ℕ → ℕ) → (Definitions → ℕ → Stored → ℕ → ℕ) → ℕ → ℕ → Stored → P → P → ℕ → ℕ → ℕ → Type 0
   PaysBehind credit_of taken_up missed old new s part part_then rows steps steps_then =
-      ForKey old s part (λ m n. CostsAtMost (moved_work (kind_at d window) s.reach (taken_up d window s old new + missed d window s old) rows) steps steps_then (credit_of part) (credit_of part_then))
+      ForKey old s part (λ m n. CostsAtMost (paid_work (window_kind d window) s.reach (taken_up d window s old new + missed d window s old) rows) steps steps_then (credit_of part) (credit_of part_then))
 
   -- the most that a move takes of whatever part, which appends so many rows
   abbrev pub StepsAtMost : ℕ → Stored → P → ℕ → ℕ → ℕ → Type 0
   StepsAtMost old s part rows steps steps_then =
-      ForKey old s part (λ m n. steps_then ≤ steps + most_moved (kind_at d window) (length s.slices) s.reach rows)
+      ForKey old s part (λ m n. steps_then ≤ steps + most_moved (window_kind d window) (length s.slices) s.reach rows)
 
   -- below a watermark a move completes nothing of the window, of whatever key the part stands for
   abbrev pub NoneCompleteBefore : ℕ → Stored → P → ℕ → Type 0
   NoneCompleteBefore water s part due =
-      (key : List ℕ) (m : Moment) (n new : ℕ) → StandsAt stands d window water s part m n → water ≤ new → new < due → completions_at d window key m new ≡ []
+      (key : List ℕ) (m : Moment) (n new : ℕ) → StandsAt stands d window water s part m n → water ≤ new → new < due → window_completions d window key m new ≡ []
 
   -- a move to a watermark, if it is one, completes something
   abbrev pub SomeCompleteAt : ℕ → Stored → P → ℕ → Type 0
   SomeCompleteAt water s part due =
-      (key : List ℕ) (m : Moment) (n : ℕ) → StandsAt stands d window water s part m n → due ≤ FINAL → (water < due) × (completions_at d window key m due ≢ [])
+      (key : List ℕ) (m : Moment) (n : ℕ) → StandsAt stands d window water s part m n → due ≤ FINAL → (water < due) × (window_completions d window key m due ≢ [])
 
   -- under a watermark, no earlier than that of the key that a part stands for, tuples are settled in the window up to a time and no further
   abbrev pub SettlesTo : ℕ → P → ℕ → Type 0

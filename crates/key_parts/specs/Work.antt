@@ -28,8 +28,8 @@ abbrev pub most_moved : Kind → ℕ → ℕ → ℕ → ℕ
 most_moved kind slices reach rows = slice_work kind * slices + row_work kind reach * rows
 
 -- the most that a move takes on credit in a window of this kind: ten for each slice that it takes up, and what its rows take
-abbrev pub moved_work : Kind → ℕ → ℕ → ℕ → ℕ
-moved_work kind reach slices rows = 10 * slices + row_work kind reach * rows
+abbrev pub paid_work : Kind → ℕ → ℕ → ℕ → ℕ
+paid_work kind reach slices rows = 10 * slices + row_work kind reach * rows
 
 -- a vector has at most so many elements more, and took no memory for them
 pub record AddsAtMost {X Z : Type 0} (most : ℕ) (old new : Vec X Z) : Type 0 where

@@ -4,7 +4,7 @@ ghost use Rattle.stream_base.specs.Model.Changes.{Moment};
 ghost use Rattle.stream_base.specs.Vectors.{room};
 ghost use Rattle.agg_store.specs.Stored.{Stored};
 ghost use Rattle.key_windows.specs.Calls.{IsAccepted, moment};
-ghost use Rattle.key_parts.specs.Calls.{MayCome, MayLeadTo, MayMove, MayTell, MissesNoMore, StandsAsBefore, StandsAt, StandsForSome, StandsOnUnder, kind_at};
+ghost use Rattle.key_parts.specs.Calls.{MayCome, MayLeadTo, MayMove, MayTell, MissesNoMore, StandsAsBefore, StandsAt, StandsForSome, StandsOnUnder, window_kind};
 ghost use Rattle.key_parts.specs.Promises.{AddsByMark, AddsByMove, AddsByTuple, AheadAfterLoss, AheadMoved, AheadOfMark, AheadOfTuple, ForKey, MarkComes, NoneCompleteBefore, PaysAhead, PaysBehind, PreparesEntry, PreparesMove, SettlesTo, SettlesToEach, SomeCompleteAt, StandsAfterLoss, StandsMoved, StandsWithMark, StandsWithTuple, StepsAtMost, TupleComes};
 ghost use Rattle.key_parts.specs.Work.{AddsAtMost, SpendsOn, added, change_work, fold_work};
 
@@ -153,7 +153,7 @@ pub trait KeyPart<M: Partial>: Drop {
             out.old out.new }
         ensures owed { owed self.old ≤ added out.old out.new }
         ensures lean { is_lean defs.now window water self.new }
-        ensures cost { SpendsOn credit (change_work (kind_at defs.now window) (S.stored
+        ensures cost { SpendsOn credit (change_work (window_kind defs.now window) (S.stored
             store.now).reach * added out.old out.new) self.old self.new steps.old steps.new }
         ensures ahead { AheadOfTuple stands defs.now window is_asked complete_by is_ahead water x
             (S.stored store.now) self.old self.new };
@@ -192,8 +192,8 @@ pub trait KeyPart<M: Partial>: Drop {
             self.old key.now out.old out.new }
         ensures adds { AddsAtMost (mark_room defs.now window time water self.old)
             out.old out.new }
-        ensures cost { SpendsOn credit (fold_work (S.stored store.now).reach * added out.old
-            out.new) self.old self.new steps.old steps.new }
+        ensures cost { SpendsOn credit (fold_work (S.stored store.now).reach
+            * added out.old out.new) self.old self.new steps.old steps.new }
         ensures ahead { AheadOfMark stands defs.now window complete_by is_ahead water time
             (S.stored store.now) self.old self.new };
 
@@ -229,8 +229,8 @@ pub trait KeyPart<M: Partial>: Drop {
         requires ready { can_move defs.now window (S.stored store.now) old new self.old }
         requires spare { move_room defs.now window (S.stored store.now) old new self.old
             ≤ room out.old }
-        ensures stands { StandsMoved stands defs.now window old new (S.stored store.now) self.old
-            self.new }
+        ensures stands { StandsMoved stands defs.now window old new (S.stored store.now)
+            self.old self.new }
         ensures changes { AddsByMove stands defs.now window old new (S.stored store.now)
             self.old key.now out.old out.new }
         ensures adds { AddsAtMost

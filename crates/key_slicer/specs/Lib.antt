@@ -3,3 +3,5 @@ pub mod Sorted
 pub mod States
 pub mod Work
 pub mod Joining
+pub mod Promises
+pub mod Keys

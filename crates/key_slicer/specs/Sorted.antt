@@ -1,5 +1,5 @@
 -- Which changes are retractions.
-use Rattle.std.specs.Prelude.{Bool, true, false}
+use Rattle.std.specs.Prelude.{◌++◌, Bool, List, true, false, filter, not}
 use Rattle.stream_base.specs.declared.change.Change.{Change}
 use Rattle.stream_base.specs.declared.change.Change.TheVariants.{Gone, New, Again, Dropped}
 
@@ -9,3 +9,7 @@ is_gone (Gone row) = true
 is_gone (New row) = false
 is_gone (Again row former) = false
 is_gone Dropped = false
+
+-- all retractions of these changes, and then all others
+abbrev pub gone_first : List Change → List Change
+gone_first changes = filter is_gone changes ++ filter (λ change. not (is_gone change)) changes

@@ -12,9 +12,10 @@ use Rattle.slice_lists.specs.Runs.{parted_at}
 use Rattle.partials.specs.Apart.{IsReachOver}
 use Rattle.slice_lists.specs.Touched.{is_across, is_near}
 use Rattle.slice_lists.specs.Slices.{joined}
+use Rattle.agg_store.specs.Entered.{slices_near}
 use Rattle.agg_store.specs.Stored.{Stored}
 use Rattle.key_windows.specs.Calls.{slices_at}
-use Rattle.key_parts.specs.Work.{change_work, most_moved, row_work}
+use Rattle.key_parts.specs.Work.{change_work, fold_work, most_moved, row_work}
 use Rattle.key_slicer.specs.Parts.{turns}
 
 -- the most that a window takes for its changes by a tuple from one moment of a key to another, over a tree of this reach
@@ -32,6 +33,14 @@ counting_work d key old new = sum_by (λ w. 2 * events_in (w.1).kind * length (t
 -- the most that an entry takes which leads from one moment of a key to another, where the tree of the key has this reach and so many tuples lie in the slices that the entry enters or splits: what four folds take in a tree that the entry has made higher, and two more for each change; a step for each of those tuples; and the steps of the windows that count events
 abbrev pub entry_work : Definitions → List ℕ → Moment → Moment → ℕ → ℕ → ℕ
 entry_work d key old new reach tuples = 64 * (reach + 3) * (4 + 2 * length (changes_between d.windows key old new)) + tuples + counting_work d key old new
+
+-- the most that it takes to put a tuple at a time into a store: what two folds take in a tree that it has made higher, and a step for each tuple of the slices that it is near to
+abbrev pub enter_work : Definitions → ℕ → Stored → ℕ
+enter_work d time s = 128 * (s.reach + 3) + length (joined (slices_near d.windows time s))
+
+-- the most that it takes to let slices leave a store, by the store before and after it: one fold for each of them
+abbrev pub leave_work : Stored → Stored → ℕ
+leave_work before after = fold_work before.reach * (length before.slices - length after.slices)
 
 -- the most that a tuple at a time takes over a tree of this reach, where these are the slices and the marks before it: those slices that it is near to it enters
 abbrev pub put_over : Definitions → List ℕ → Moment → Moment → ℕ → List (List Kept) → List ℕ → ℕ → ℕ

@@ -1,8 +1,9 @@
 //! The state of a key as an engine.
 ghost use Rattle.std.specs.Prelude.{All, vec_capacity, vec_len, ◌-◌};
-ghost use Rattle.key_slicer.specs.Parts.{AllAhead, all_credit};
-ghost use Rattle.key_slicer.specs.States.{Fits, IsReady};
+ghost use Rattle.key_slicer.specs.Parts.{all_credit};
+ghost use Rattle.key_slicer.specs.States.{IsReady};
 ghost use Rattle.key_slicer.specs.Work.{bounds_mark, bounds_move, bounds_put, catch_up, mark_work, move_work, put_work};
+ghost use Rattle.key_slicer.specs.Keys.{FitsKey, KeyAhead};
 
 use crate::key_state::{
     KeyState, all_count_events, is_water, leaves_due, needs_no_part, put_in, vouch_reach,
@@ -24,8 +25,7 @@ impl<T: AggTree<Bundle> + Drop, P: AnyPart<Bundle>> AnyKey for KeyState<Bundle, 
 impl<M: Partial, T: AggTree<M> + Drop, P: AnyPart<M>> KeyWindows for KeyState<M, T, P> {
     ghost key_of = { λ k. k.key };
 
-    ghost fits = { λ d kept marks water k. Fits P.stands d kept marks water
-        k.next k.store k.parts.list.items };
+    ghost fits = { λ d kept marks water k. FitsKey P.stands d kept marks water k };
 
     ghost is_ready = { λ d call k. IsReady T.bounded P.is_ready P.put_room P.mark_room
         P.can_move P.move_room d call k.store k.parts.list.items k.promise k.scratch.items
@@ -49,7 +49,7 @@ impl<M: Partial, T: AggTree<M> + Drop, P: AnyPart<M>> KeyWindows for KeyState<M,
 
     ghost credit = { λ k. all_credit P.credit k.parts.list.items };
 
-    ghost is_ahead = { λ d water k. AllAhead P.is_ahead d water k.store k.parts.list.items };
+    ghost is_ahead = { λ d water k. KeyAhead P.is_ahead d water k };
 
     ghost move_work = { λ d old new before after. move_work P.taken_up d before.key old new
         before.store after.store };

@@ -1,17 +1,16 @@
 //! The state of a key.
-ghost use Rattle.std.specs.Prelude.{◌≡◌, ◌≤◌, ◌+◌, ◌-◌, ◌*◌, [], ℕ, length, true, All, IfNone, IfSome, OnOk, vec_capacity, vec_len};
+ghost use Rattle.std.specs.Prelude.{◌≡◌, ◌≤◌, ◌+◌, ◌-◌, [], ℕ, length, true, All, IfNone, IfSome, OnOk, vec_capacity, vec_len};
 ghost use Rattle.std.specs.List.{list_all};
 ghost use Rattle.stream_base.specs.Kinds.{is_events, is_timed};
 ghost use Rattle.stream_base.specs.Model.Journal.{put_in_order};
 ghost use Rattle.partials.specs.Apart.{IsReachOver};
-ghost use Rattle.agg_store.specs.Entered.{slices_near};
 ghost use Rattle.agg_store.specs.Stored.{tuples_of};
 ghost use Rattle.slice_lists.specs.Slices.{joined};
-ghost use Rattle.slice_store.specs.declared.placed.Placed.TheVariants.{Appended};
-ghost use Rattle.slice_store.specs.Placing.{is_last, placed_in};
 ghost use Rattle.key_windows.specs.Calls.{IsWater};
 ghost use Rattle.key_parts.specs.Moves.{Comes, all_count_events};
 ghost use Rattle.key_slicer.specs.States.{IsFirstTime, MayEnter, needs_no_part};
+ghost use Rattle.key_slicer.specs.Work.{enter_work};
+ghost use Rattle.key_slicer.specs.Joining.{JoinsLast};
 
 use crate::parts::Parts;
 use agg_laws::{AggTree, Steps};
@@ -129,11 +128,8 @@ pub fn put_in<M: Partial, T: AggTree<M>, L>(
     ensures comes { (n : ℕ) → (more : ℕ) × Comes defs.now n store.old x more store.new }
     ensures bare { all_count_events defs.now → store.new.slices ≡ [] }
     ensures reach { store.new.reach ≤ store.old.reach + 1 }
-    ensures work { steps.new ≤ steps.old + (128 * (store.old.reach + 3)
-        + length (joined (slices_near (defs.now).windows x.time store.old))) }
-    ensures joined { result ≡ true
-        → placed_in (slices_near (defs.now).windows x.time store.old) (is_last x.time store.old)
-        ≡ Appended }
+    ensures work { steps.new ≤ steps.old + enter_work defs.now x.time store.old }
+    ensures joined { result ≡ true → JoinsLast defs.now x.time store.old }
     ensures enters { result ≡ true → tuples_of store.new ≡ put_in_order (tuples_of store.old) x }
 {
     if !all_count_events(defs) {

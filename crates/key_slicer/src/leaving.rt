@@ -1,10 +1,10 @@
 //! Settled slices that leave the state of a key.
-ghost use Rattle.std.specs.Prelude.{◌≡◌, ◌≤◌, ◌+◌, ◌-◌, ◌*◌, ℕ, List, length, false};
-ghost use Rattle.stream_base.specs.declared.kept.Kept.{Kept};
+ghost use Rattle.std.specs.Prelude.{◌≡◌, ◌≤◌, ◌+◌, ◌*◌, length, false};
 ghost use Rattle.slice_lists.specs.Touched.{marks_left, slices_from};
-ghost use Rattle.key_windows.specs.Calls.{moment};
-ghost use Rattle.key_slicer.specs.Parts.{AllAhead, EachPart, HasFewMarks, all_credit};
-ghost use Rattle.key_slicer.specs.States.{Fits, MayPurge, StandsFor};
+ghost use Rattle.key_slicer.specs.Parts.{EachPart, all_credit};
+ghost use Rattle.key_slicer.specs.Promises.{HasFewSettledMarks};
+ghost use Rattle.key_slicer.specs.Keys.{FitsPurged, KeyAhead, MayPurgeKey};
+ghost use Rattle.key_slicer.specs.Work.{leave_work};
 
 use crate::key_state::{KeyState, first_time};
 use agg_laws::{AggTree, Steps};
@@ -18,23 +18,18 @@ impl<M: Partial, T: AggTree<M>, P: KeyPart<M>> KeyState<M, T, P> {
     // Marks that nothing needs leave with the slices, or else once they are more than the others:
     // then what it takes to move the others up is paid for by those that leave.
     pub fn purge<L>(&mut self, defs: &Defs, water: u64, steps: &mut Steps<L>)
-        requires { MayPurge P.stands defs.now water self.old.next self.old.store
-            self.old.parts.list.items }
+        requires { MayPurgeKey P.stands defs.now water self.old }
         ensures key { self.new.key ≡ self.old.key }
         ensures next { self.new.next ≡ self.old.next }
-        ensures fits { (kept : List Kept) (marks : List ℕ) → StandsFor P.stands defs.now
-            (moment kept marks water) self.old.next self.old.store self.old.parts.list.items
-            → Fits P.stands defs.now kept marks
-            water self.new.next self.new.store self.new.parts.list.items }
+        ensures fits { FitsPurged P.stands defs.now water self.old self.new }
         ensures reach { self.new.store.reach ≤ self.old.store.reach }
-        ensures work { steps.new ≤ steps.old + 64 * (self.old.store.reach + 2)
-            * (length self.old.store.slices - length self.new.store.slices) }
+        ensures work { steps.new ≤ steps.old + leave_work self.old.store self.new.store }
         ensures credit { all_credit P.credit self.new.parts.list.items
             ≤ all_credit P.credit self.old.parts.list.items }
-        ensures ahead { AllAhead P.is_ahead defs.now water self.old.store self.old.parts.list.items
-            → AllAhead P.is_ahead defs.now water self.new.store self.new.parts.list.items }
-        ensures marks { HasFewMarks (λ i part. P.settles_at defs.now i water part)
-            (water - (defs.now).lateness) self.old.parts.list.items self.new.store }
+        ensures ahead { KeyAhead P.is_ahead defs.now water self.old → KeyAhead P.is_ahead defs.now
+            water self.new }
+        ensures marks { HasFewSettledMarks P.settles_at defs.now water self.old.parts.list.items
+            self.new.store }
         ensures lean { EachPart (λ i part. P.is_lean defs.now i water part)
             self.new.parts.list.items }
     {
@@ -45,23 +40,18 @@ impl<M: Partial, T: AggTree<M>, P: KeyPart<M>> KeyState<M, T, P> {
     // Lets the slices leave that are settled under the watermark, and with them what the parts need
     // no more that has ended.
     fn drop_settled<L>(&mut self, defs: &Defs, water: u64, steps: &mut Steps<L>)
-        requires { MayPurge P.stands defs.now water self.old.next self.old.store
-            self.old.parts.list.items }
+        requires { MayPurgeKey P.stands defs.now water self.old }
         ensures key { self.new.key ≡ self.old.key }
         ensures next { self.new.next ≡ self.old.next }
-        ensures fits { (kept : List Kept) (marks : List ℕ) → StandsFor P.stands defs.now
-            (moment kept marks water) self.old.next self.old.store self.old.parts.list.items
-            → Fits P.stands defs.now kept marks
-            water self.new.next self.new.store self.new.parts.list.items }
+        ensures fits { FitsPurged P.stands defs.now water self.old self.new }
         ensures reach { self.new.store.reach ≤ self.old.store.reach }
-        ensures work { steps.new ≤ steps.old + 64 * (self.old.store.reach + 2)
-            * (length self.old.store.slices - length self.new.store.slices) }
+        ensures work { steps.new ≤ steps.old + leave_work self.old.store self.new.store }
         ensures credit { all_credit P.credit self.new.parts.list.items
             ≤ all_credit P.credit self.old.parts.list.items }
-        ensures ahead { AllAhead P.is_ahead defs.now water self.old.store self.old.parts.list.items
-            → AllAhead P.is_ahead defs.now water self.new.store self.new.parts.list.items }
-        ensures marks { HasFewMarks (λ i part. P.settles_at defs.now i water part)
-            (water - (defs.now).lateness) self.old.parts.list.items self.new.store }
+        ensures ahead { KeyAhead P.is_ahead defs.now water self.old → KeyAhead P.is_ahead defs.now
+            water self.new }
+        ensures marks { HasFewSettledMarks P.settles_at defs.now water self.old.parts.list.items
+            self.new.store }
     {
         let time = self.parts.first_unsettled(defs, water);
         if has_needless(&self.store, time) {

@@ -1,15 +1,10 @@
 //! The parts of a key's windows where the watermark moves.
-ghost use Rattle.std.specs.Prelude.{◌≡◌, ◌≢◌, ◌≤◌, ◌<◌, ◌+◌, ◌++◌, [], ℕ, List, length};
-ghost use Rattle.std.specs.List.{enumerate_from, flat_map};
-ghost use Rattle.stream_base.specs.declared.limits.TheConstants.{FINAL};
-ghost use Rattle.stream_base.specs.Laws.{completions};
-ghost use Rattle.stream_base.specs.Model.Changes.{Moment};
+ghost use Rattle.std.specs.Prelude.{◌≤◌};
 ghost use Rattle.stream_base.specs.Vectors.{room};
-ghost use Rattle.window_laws.specs.After.{at_water};
-ghost use Rattle.key_parts.specs.Calls.{MayMove, Prepares, StandsForSome};
+ghost use Rattle.key_parts.specs.Calls.{MayMove, StandsForSome};
 ghost use Rattle.key_parts.specs.Work.{AddsAtMost};
-ghost use Rattle.key_slicer.specs.Parts.{AllAhead, AllStandAt, AreStanding, EachPart, all_credit, rooms};
-ghost use Rattle.key_slicer.specs.Work.{catch_up, moves_work, walks_work};
+ghost use Rattle.key_slicer.specs.Parts.{AllStandAt};
+ghost use Rattle.key_slicer.specs.Promises.{AllAddByMove, AllAheadMoved, AllCanMove, AllPayAhead, AllPayBehind, AllPrepareMove, AllStandMoved, AllStepAtMost, NoneCompleteInAll, SomeCompleteInAll, move_rooms};
 
 use crate::parts::{Parts, sum_of, window_count};
 use agg_laws::{AggTree, Steps};
@@ -28,11 +23,8 @@ impl<M: Partial, P: KeyPart<M>> Parts<M, P> {
         new: u64,
     ) -> Result<u64, NoMemory>
         requires { MayMove (AllStandAt P.stands defs.now) old new store.now self.old.list.items }
-        ensures { Prepares (AreStanding P.stands defs.now) (AllAhead P.is_ahead defs.now)
-            (all_credit P.credit)
-            (EachPart (λ i part. P.can_move defs.now i store.now old new part))
-            (rooms (λ i part. P.move_room defs.now i store.now old new part))
-            self.old.list.items self.new.list.items result }
+        ensures { AllPrepareMove P.stands P.is_ahead P.credit P.can_move P.move_room defs.now
+            store.now old new self.old.list.items self.new.list.items result }
     {
         let mut room: u64 = 0;
         for window in 0..window_count(defs) {
@@ -55,39 +47,23 @@ impl<M: Partial, P: KeyPart<M>> Parts<M, P> {
     )
         requires moves { MayMove (AllStandAt P.stands defs.now) old new store.now
             self.old.list.items }
-        requires ready { EachPart
-            (λ i part. P.can_move defs.now i store.now old new part) self.old.list.items }
-        requires spare { rooms (λ i part. P.move_room defs.now i store.now old new part)
-            self.old.list.items ≤ room out.old }
-        ensures stands { (m : Moment) (n : ℕ)
-            → AllStandAt P.stands defs.now old store.now self.old.list.items m n
-            → AreStanding P.stands defs.now (at_water m new) n store.now self.new.list.items }
-        ensures changes { (m : Moment) (n : ℕ)
-            → AllStandAt P.stands defs.now old store.now self.old.list.items m n
-            → out.new.items ≡ out.old.items
-            ++ flat_map (completions key.now m new) (enumerate_from 0 (defs.now).windows) }
-        ensures adds { AddsAtMost
-            (rooms (λ i part. P.move_room defs.now i store.now old new part) self.old.list.items)
-            out.old out.new }
-        ensures ahead { (m : Moment) (n : ℕ)
-            → AllStandAt P.stands defs.now old store.now self.old.list.items m n
-            → AllAhead P.is_ahead defs.now new store.now self.new.list.items }
-        ensures work_ahead { (m : Moment) (n : ℕ)
-            → AllStandAt P.stands defs.now old store.now self.old.list.items m n
-            → AllAhead P.is_ahead defs.now old store.now self.old.list.items
-            → steps.new + all_credit P.credit self.new.list.items
-            ≤ steps.old + all_credit P.credit self.old.list.items
-            + moves_work P.taken_up defs.now key.now m new store.now }
-        ensures work { (m : Moment) (n : ℕ)
-            → AllStandAt P.stands defs.now old store.now self.old.list.items m n
-            → steps.new + all_credit P.credit self.new.list.items
-            ≤ steps.old + all_credit P.credit self.old.list.items
-            + (moves_work P.taken_up defs.now key.now m new store.now
-            + catch_up P.missed defs.now store.now old) }
-        ensures bound { (m : Moment) (n : ℕ)
-            → AllStandAt P.stands defs.now old store.now self.old.list.items m n
-            → steps.new ≤ steps.old + walks_work defs.now key.now m new
-            (length store.now.slices) store.now.reach }
+        requires ready { AllCanMove P.can_move defs.now store.now old new self.old.list.items }
+        requires spare { move_rooms P.move_room defs.now store.now old new self.old.list.items
+            ≤ room out.old }
+        ensures stands { AllStandMoved P.stands defs.now old new store.now
+            self.old.list.items self.new.list.items }
+        ensures changes { AllAddByMove P.stands defs.now old new store.now self.old.list.items
+            key.now out.old out.new }
+        ensures adds { AddsAtMost (move_rooms P.move_room defs.now store.now old new
+            self.old.list.items) out.old out.new }
+        ensures ahead { AllAheadMoved P.stands defs.now P.is_ahead old new store.now
+            self.old.list.items self.new.list.items }
+        ensures work_ahead { AllPayAhead P.stands defs.now P.is_ahead P.credit P.taken_up old new
+            store.now key.now self.old.list.items self.new.list.items steps.old steps.new }
+        ensures work { AllPayBehind P.stands defs.now P.credit P.taken_up P.missed old new store.now
+            key.now self.old.list.items self.new.list.items steps.old steps.new }
+        ensures bound { AllStepAtMost P.stands defs.now old new store.now self.old.list.items
+            key.now steps.old steps.new }
     {
         for window in 0..window_count(defs) {
             self.list[window as usize].water(defs, window, store, key, old, new, out, steps);
@@ -99,15 +75,10 @@ impl<M: Partial, P: KeyPart<M>> Parts<M, P> {
     pub fn next_due<T: AggTree<M>>(&self, defs: &Defs, store: &SliceStore<M, T>, water: u64) -> u64
         requires { StandsForSome (AllStandAt P.stands defs.now) water store.now
             self.now.list.items }
-        ensures none_before { (key : List ℕ) (m : Moment) (n new : ℕ)
-            → AllStandAt P.stands defs.now water store.now self.now.list.items m n
-            → water ≤ new → new < result
-            → flat_map (completions key m new) (enumerate_from 0 (defs.now).windows) ≡ [] }
-        ensures some_at { (key : List ℕ) (m : Moment) (n : ℕ)
-            → AllStandAt P.stands defs.now water store.now self.now.list.items m n
-            → result ≤ FINAL → (water < result)
-            × (flat_map (completions key m result)
-            (enumerate_from 0 (defs.now).windows) ≢ []) }
+        ensures none_before { NoneCompleteInAll P.stands defs.now water store.now
+            self.now.list.items result }
+        ensures some_at { SomeCompleteInAll P.stands defs.now water store.now self.now.list.items
+            result }
     {
         let mut due = u64::MAX;
         for window in 0..window_count(defs) {

@@ -1,13 +1,10 @@
 //! The parts of a key's windows where settled slices leave.
-ghost use Rattle.std.specs.Prelude.{◌≡◌, ◌≤◌, ◌<◌, ◌-◌, ℕ, length};
+ghost use Rattle.std.specs.Prelude.{◌≡◌, ◌≤◌, ◌<◌, ℕ, length};
 ghost use Rattle.stream_base.specs.Model.Changes.{Moment};
-ghost use Rattle.window_laws.specs.After.{at_water};
-ghost use Rattle.window_laws.specs.Settled.{without_first};
 ghost use Rattle.agg_store.specs.Stored.{Stored};
-ghost use Rattle.key_windows.specs.Calls.{IsWater, LeadsOn};
-ghost use Rattle.key_parts.specs.Calls.{MayTell, window_at};
-ghost use Rattle.key_parts.specs.Moves.{SettlesUpTo};
-ghost use Rattle.key_slicer.specs.Parts.{AllAhead, AllLoseSettled, AllStandAt, AreStanding, EachPart, IsLeastOf, all_credit};
+ghost use Rattle.key_parts.specs.Calls.{MayLeadTo, MayTell, MissesNoMore, StandsOnUnder};
+ghost use Rattle.key_slicer.specs.Parts.{AllAhead, AllStandAt, AreStanding, EachPart, all_credit};
+ghost use Rattle.key_slicer.specs.Promises.{AllAheadAfterLoss, AllSettle, AllSettleUnderEach, AllStandAfterLoss, IsLeastSettled};
 
 use crate::parts::{Parts, window_count};
 use aggregates::Partial;
@@ -18,15 +15,9 @@ impl<M: Partial, P: KeyPart<M>> Parts<M, P> {
     // Up to which time all tuples are settled under a watermark, its own or a later one: the least
     // of the watermark minus the lateness and of the times of the windows.
     pub fn first_unsettled(&self, defs: &Defs, water: u64) -> u64
-        requires { (m : Moment) × (n : ℕ) × (s : Stored) × (w : ℕ)
-            × AllStandAt P.stands defs.now w s self.now.list.items m n × LeadsOn w water }
-        ensures least { IsLeastOf (λ i part. P.settles_at defs.now i water part)
-            (water - (defs.now).lateness) self.now.list.items result }
-        ensures settles { (m : Moment) (n : ℕ) (s : Stored) (w : ℕ) → w ≤ water
-            → AllStandAt P.stands defs.now w s self.now.list.items m n
-            → EachPart (λ i part. SettlesUpTo (defs.now).lateness
-            (at_water (without_first n m) water) (window_at defs.now i)
-            (P.settles_at defs.now i water part)) self.now.list.items }
+        requires { MayLeadTo (AllStandAt P.stands defs.now) water self.now.list.items }
+        ensures least { IsLeastSettled P.settles_at defs.now water self.now.list.items result }
+        ensures settles { AllSettle P.stands defs.now P.settles_at water self.now.list.items }
     {
         let mut time = water.saturating_sub(defs.lateness());
         for window in 0..window_count(defs) {
@@ -40,17 +31,11 @@ impl<M: Partial, P: KeyPart<M>> Parts<M, P> {
     pub fn settled_by(&self, defs: &Defs, time: u64) -> u64
         requires { MayTell (AllStandAt P.stands defs.now) time self.now.list.items }
         ensures later { time < result }
-        ensures before { (water least : ℕ) → water < result
-            → IsLeastOf (λ i part. P.settles_at defs.now i water part)
-            (water - (defs.now).lateness) self.now.list.items least → least ≤ time }
-        ensures by_then { (water least : ℕ) → result ≤ water
-            → IsLeastOf (λ i part. P.settles_at defs.now i water part)
-            (water - (defs.now).lateness) self.now.list.items least → time < least }
-        ensures settles { (m : Moment) (n : ℕ) (s : Stored) (w water : ℕ) → w ≤ water
-            → IsWater water → AllStandAt P.stands defs.now w s self.now.list.items m n
-            → EachPart (λ i part. SettlesUpTo (defs.now).lateness
-            (at_water (without_first n m) water) (window_at defs.now i)
-            (P.settles_at defs.now i water part)) self.now.list.items }
+        ensures before { (water least : ℕ) → water < result → IsLeastSettled P.settles_at defs.now
+            water self.now.list.items least → least ≤ time }
+        ensures by_then { (water least : ℕ) → result ≤ water → IsLeastSettled P.settles_at defs.now
+            water self.now.list.items least → time < least }
+        ensures settles { AllSettleUnderEach P.stands defs.now P.settles_at self.now.list.items }
     {
         let mut due = time + 1 + defs.lateness();
         for window in 0..window_count(defs) {
@@ -63,16 +48,12 @@ impl<M: Partial, P: KeyPart<M>> Parts<M, P> {
     // have left the store.
     pub fn drop_settled(&mut self, defs: &Defs, water: u64)
         requires as_many { length self.old.list.items ≡ length (defs.now).windows }
-        ensures stands { (m : Moment) (n time : ℕ) (before : Stored) (more : ℕ) (after : Stored)
-            → AllLoseSettled P.stands defs.now water time self.old.list.items m n before more after
-            → EachPart (λ i part. time ≤ P.settles_at defs.now i water part) self.old.list.items
-            → AreStanding P.stands defs.now m more after self.new.list.items }
+        ensures stands { AllStandAfterLoss P.stands defs.now P.settles_at water
+            self.old.list.items self.new.list.items }
         ensures credit { all_credit P.credit self.new.list.items
             ≤ all_credit P.credit self.old.list.items }
-        ensures ahead { (m : Moment) (n time : ℕ) (before : Stored) (more : ℕ) (after : Stored)
-            → AllLoseSettled P.stands defs.now water time self.old.list.items m n before more after
-            → AllAhead P.is_ahead defs.now water before self.old.list.items
-            → AllAhead P.is_ahead defs.now water after self.new.list.items }
+        ensures ahead { AllAheadAfterLoss P.stands defs.now P.is_ahead water
+            self.old.list.items self.new.list.items }
     {
         for window in 0..window_count(defs) {
             self.list[window as usize].drop_settled(defs, window, water);
@@ -84,14 +65,12 @@ impl<M: Partial, P: KeyPart<M>> Parts<M, P> {
         requires { (m : Moment) × (n : ℕ) × (s : Stored)
             × AreStanding P.stands defs.now m n s self.old.list.items }
         ensures lean { EachPart (λ i part. P.is_lean defs.now i water part) self.new.list.items }
-        ensures stands { (m : Moment) (n : ℕ) (s : Stored) → m.water ≡ water
-            → AreStanding P.stands defs.now m n s self.old.list.items
-            → AreStanding P.stands defs.now m n s self.new.list.items }
+        ensures stands { StandsOnUnder (AreStanding P.stands defs.now) water
+            self.old.list.items self.new.list.items }
         ensures credit { all_credit P.credit self.new.list.items
             ≤ all_credit P.credit self.old.list.items }
-        ensures ahead { (w : ℕ) (s : Stored)
-            → AllAhead P.is_ahead defs.now w s self.old.list.items
-            → AllAhead P.is_ahead defs.now w s self.new.list.items }
+        ensures ahead { MissesNoMore (AllAhead P.is_ahead defs.now)
+            self.old.list.items self.new.list.items }
     {
         for window in 0..window_count(defs) {
             self.list[window as usize].drop_needless(defs, window, water);

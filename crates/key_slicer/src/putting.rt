@@ -1,15 +1,12 @@
 //! The parts of a key's windows where a tuple comes.
-ghost use Rattle.std.specs.Prelude.{◌≡◌, ◌≤◌, ◌+◌, ◌-◌, ◌*◌, ◌++◌, ℕ, vec_len};
-ghost use Rattle.std.specs.List.{enumerate_from, flat_map};
-ghost use Rattle.stream_base.specs.Model.Changes.{Moment};
+ghost use Rattle.std.specs.Prelude.{◌≡◌, ◌≤◌, ◌*◌};
 ghost use Rattle.stream_base.specs.Vectors.{room};
-ghost use Rattle.window_laws.specs.After.{with_tuple};
 ghost use Rattle.agg_store.specs.Stored.{Stored};
 ghost use Rattle.key_windows.specs.Calls.{IsAccepted};
-ghost use Rattle.key_parts.specs.Calls.{MayCome, Prepares, StandsForSome};
-ghost use Rattle.key_parts.specs.Work.{AddsAtMost, Spends};
-ghost use Rattle.key_slicer.specs.Parts.{AllAhead, AllStandAt, AllTakeTuple, AreStanding, EachPart, all_credit, rooms, turns};
-ghost use Rattle.key_slicer.specs.Work.{turns_work};
+ghost use Rattle.key_parts.specs.Calls.{MayCome, MissesNoMore, StandsAsBefore, StandsForSome};
+ghost use Rattle.key_parts.specs.Work.{AddsAtMost, SpendsOn, added, fold_work};
+ghost use Rattle.key_slicer.specs.Parts.{AllAhead, AllStandAt, AreStanding, all_credit};
+ghost use Rattle.key_slicer.specs.Promises.{AllAddByTuple, AllAheadOfTuple, AllAsked, AllPrepareEntry, AllReady, AllStandWithTuple, AllStepForTuple, TupleComesToAll, all_owed, entry_rooms};
 
 use crate::parts::{Parts, sum_of, window_count};
 use agg_laws::{AggTree, Steps};
@@ -23,10 +20,8 @@ impl<M: Partial, P: KeyPart<M>> Parts<M, P> {
     pub fn reserve_put(&mut self, defs: &Defs, time: u64, water: u64) -> Result<u64, NoMemory>
         requires { (s : Stored)
             × MayCome (AllStandAt P.stands defs.now) time water s self.old.list.items }
-        ensures { Prepares (AreStanding P.stands defs.now) (AllAhead P.is_ahead defs.now)
-            (all_credit P.credit) (EachPart (λ i part. P.is_ready defs.now i time water part))
-            (rooms (λ i part. P.put_room defs.now i time water part))
-            self.old.list.items self.new.list.items result }
+        ensures { AllPrepareEntry P.stands P.is_ahead P.credit P.is_ready P.put_room defs.now
+            time water self.old.list.items self.new.list.items result }
     {
         let mut room: u64 = 0;
         for window in 0..window_count(defs) {
@@ -48,25 +43,18 @@ impl<M: Partial, P: KeyPart<M>> Parts<M, P> {
         requires stands { StandsForSome (AllStandAt P.stands defs.now) water store.now
             self.old.list.items }
         requires accepted { IsAccepted defs.now time water }
-        requires ready { EachPart
-            (λ i part. P.is_ready defs.now i time water part) self.old.list.items }
-        ensures stays { (m : Moment) (n : ℕ) (s : Stored)
-            → AreStanding P.stands defs.now m n s self.old.list.items
-            → AreStanding P.stands defs.now m n s self.new.list.items }
-        ensures asked { (m : Moment) (n : ℕ)
-            → AllStandAt P.stands defs.now water store.now self.old.list.items m n
-            → EachPart (λ i part. P.is_asked defs.now i m time part) self.new.list.items }
-        ensures ready { EachPart
-            (λ i part. P.is_ready defs.now i time water part) self.new.list.items }
-        ensures room { rooms (λ i part. P.put_room defs.now i time water part) self.new.list.items
-            ≡ rooms (λ i part. P.put_room defs.now i time water part) self.old.list.items }
-        ensures cost { Spends
-            (64 * (store.now.reach + 2) * rooms (λ i part. P.owed part) self.new.list.items)
-            steps.old steps.new (all_credit P.credit self.old.list.items)
-            (all_credit P.credit self.new.list.items) }
-        ensures ahead { (w : ℕ) (s : Stored)
-            → AllAhead P.is_ahead defs.now w s self.old.list.items
-            → AllAhead P.is_ahead defs.now w s self.new.list.items }
+        requires ready { AllReady P.is_ready defs.now time water self.old.list.items }
+        ensures stays { StandsAsBefore (AreStanding P.stands defs.now)
+            self.old.list.items self.new.list.items }
+        ensures asked { AllAsked P.stands defs.now P.is_asked time water store.now
+            self.old.list.items self.new.list.items }
+        ensures ready { AllReady P.is_ready defs.now time water self.new.list.items }
+        ensures room { entry_rooms P.put_room defs.now time water self.new.list.items
+            ≡ entry_rooms P.put_room defs.now time water self.old.list.items }
+        ensures cost { SpendsOn (all_credit P.credit) (fold_work store.now.reach * all_owed P.owed
+            self.new.list.items) self.old.list.items self.new.list.items steps.old steps.new }
+        ensures ahead { MissesNoMore (AllAhead P.is_ahead defs.now)
+            self.old.list.items self.new.list.items }
     {
         for window in 0..window_count(defs) {
             self.list[window as usize].before(defs, window, store, time, water, steps);
@@ -84,37 +72,24 @@ impl<M: Partial, P: KeyPart<M>> Parts<M, P> {
         out: &mut Vec<Change>,
         steps: &mut Steps<L>,
     )
-        requires takes { (m : Moment) × (n : ℕ) × (before : Stored) × (more : ℕ)
-            × AllTakeTuple P.stands defs.now P.is_asked water x store.now
-            self.old.list.items m n before more }
-        requires ready { EachPart
-            (λ i part. P.is_ready defs.now i x.time water part) self.old.list.items }
-        requires spare { rooms (λ i part. P.put_room defs.now i x.time water part)
-            self.old.list.items ≤ room out.old }
-        ensures stands { (m : Moment) (n : ℕ) (before : Stored) (more : ℕ)
-            → AllTakeTuple P.stands defs.now P.is_asked water x store.now
-            self.old.list.items m n before more
-            → AreStanding P.stands defs.now (with_tuple m x) more store.now self.new.list.items }
-        ensures changes { (m : Moment) (n : ℕ) (before : Stored) (more : ℕ)
-            → AllTakeTuple P.stands defs.now P.is_asked water x store.now
-            self.old.list.items m n before more → out.new.items ≡ out.old.items
-            ++ flat_map (turns key.now m (with_tuple m x)) (enumerate_from 0 (defs.now).windows) }
-        ensures adds { AddsAtMost
-            (rooms (λ i part. P.put_room defs.now i x.time water part) self.old.list.items)
+        requires takes { TupleComesToAll P.stands defs.now P.is_asked water x store.now
+            self.old.list.items }
+        requires ready { AllReady P.is_ready defs.now x.time water self.old.list.items }
+        requires spare { entry_rooms P.put_room defs.now x.time water self.old.list.items
+            ≤ room out.old }
+        ensures stands { AllStandWithTuple P.stands defs.now P.is_asked water x store.now
+            self.old.list.items self.new.list.items }
+        ensures changes { AllAddByTuple P.stands defs.now P.is_asked water x store.now
+            self.old.list.items key.now out.old out.new }
+        ensures adds { AddsAtMost (entry_rooms P.put_room defs.now x.time water self.old.list.items)
             out.old out.new }
-        ensures owed { rooms (λ i part. P.owed part) self.old.list.items
-            ≤ vec_len out.new - vec_len out.old }
-        ensures work { (m : Moment) (n : ℕ) (before : Stored) (more : ℕ)
-            → AllTakeTuple P.stands defs.now P.is_asked water x store.now
-            self.old.list.items m n before more → steps.new ≤ steps.old
-            + turns_work defs.now key.now m (with_tuple m x) store.now.reach }
+        ensures owed { all_owed P.owed self.old.list.items ≤ added out.old out.new }
+        ensures work { AllStepForTuple P.stands defs.now P.is_asked water x store.now
+            self.old.list.items key.now steps.old steps.new }
         ensures credit { all_credit P.credit self.new.list.items
             ≤ all_credit P.credit self.old.list.items }
-        ensures ahead { (m : Moment) (n : ℕ) (before : Stored) (more : ℕ)
-            → AllTakeTuple P.stands defs.now P.is_asked water x store.now
-            self.old.list.items m n before more → water ≤ x.time
-            → AllAhead P.is_ahead defs.now water before self.old.list.items
-            → AllAhead P.is_ahead defs.now water store.now self.new.list.items }
+        ensures ahead { AllAheadOfTuple P.stands defs.now P.is_asked P.is_ahead water x store.now
+            self.old.list.items self.new.list.items }
     {
         for window in 0..window_count(defs) {
             self.list[window as usize].put(defs, window, store, key, x, water, out, steps);

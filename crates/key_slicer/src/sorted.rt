@@ -1,16 +1,14 @@
 //! Changes window by window, in the order of an engine's.
-ghost use Rattle.std.specs.Prelude.{◌≡◌, ◌≤◌, ◌++◌, not, length, filter};
+ghost use Rattle.std.specs.Prelude.{◌≡◌, ◌≤◌, not, length, filter};
 ghost use Rattle.stream_base.specs.Vectors.{Appends, room};
-ghost use Rattle.key_slicer.specs.Sorted.{is_gone};
+ghost use Rattle.key_slicer.specs.Sorted.{gone_first, is_gone};
 
 use stream_base::Change;
 
 /// Appends all retractions of these changes, and then all others.
 pub fn append_sorted(changes: &[Change], out: &mut Vec<Change>)
     requires { length changes.now ≤ room out.old }
-    ensures { Appends
-        (filter is_gone changes.now ++ filter (λ change. not (is_gone change)) changes.now)
-        out.old out.new }
+    ensures { Appends (gone_first changes.now) out.old out.new }
 {
     append_gone(changes, out);
     append_others(changes, out);

@@ -1,13 +1,11 @@
 //! What an engine for the windows of one key promises.
-ghost use Rattle.std.specs.Prelude.{◌≡◌, ◌≤◌, ◌<◌, ◌+◌, [], ℕ, List, length, true, IfOk, vec_len};
-ghost use Rattle.std.specs.BTreeSet.{insert_key};
-ghost use Rattle.std.specs.Ordering.{nat_cmp};
+ghost use Rattle.std.specs.Prelude.{◌≡◌, ◌≤◌, ◌<◌, ◌+◌, [], ℕ, List, true, IfOk, vec_len};
 ghost use Rattle.stream_base.specs.declared.kept.Kept.{Kept};
-ghost use Rattle.stream_base.specs.declared.limits.TheConstants.{FINAL, JOURNAL_MAX};
-ghost use Rattle.stream_base.specs.Model.Journal.{put_in_order};
-ghost use Rattle.key_windows.specs.Calls.{BringsMore, IsWater, MakesRoom, MayReserve, MayTakeIn, StandsUnder, StaysAhead, TakesIn, changes_by_move, moment, slices_at};
-ghost use Rattle.key_windows.specs.Calls.Call.{Put, Mark, Move};
-ghost use Rattle.key_windows.specs.Dues.{IsExact, LeavesDue, LeavesExact};
+ghost use Rattle.stream_base.specs.declared.limits.TheConstants.{JOURNAL_MAX};
+ghost use Rattle.key_windows.specs.Calls.{IsWater, MakesRoom, MayReserve, MayTakeIn, StandsUnder, StaysAhead, TakesIn};
+ghost use Rattle.key_windows.specs.Calls.Call.{Mark, Move, Put};
+ghost use Rattle.key_windows.specs.Dues.{LeavesDue, LeavesExact};
+ghost use Rattle.key_windows.specs.Promises.{CountsSlices, IsExactlyDue, MarkIsBounded, MarkWithin, MoveIsBounded, MovePaysAhead, MovePaysBehind, NothingDueBefore, PutIsBounded, PutWithin, SomethingDueAt, WaitsBefore, after_mark, after_move, after_put};
 
 use agg_laws::Steps;
 use std::alloc::Global;
@@ -106,18 +104,11 @@ pub trait KeyWindows: Drop {
             self.old out.old }
         requires position { next_position self.old ≤ x.position }
         requires few { x.position < JOURNAL_MAX }
-        ensures taken { TakesIn fits defs.now key_of next_position water
-            (λ kept marks. moment (put_in_order kept x) marks water) (x.position + 1)
-            self.old self.new out.old out.new }
-        ensures work { (kept : List Kept) (marks : List ℕ)
-            → fits defs.now kept marks water self.old
-            → steps.new ≤ steps.old + put_work defs.now (moment kept marks water)
-            (moment (put_in_order kept x) marks water) x.time self.old }
-        ensures bound { (kept : List Kept) (marks : List ℕ)
-            → fits defs.now kept marks water self.old → (bound : ℕ)
-            × bounds_put defs.now (key_of self.old) (moment kept marks water)
-            (moment (put_in_order kept x) marks water) x.time bound
-            × (steps.new ≤ steps.old + bound) }
+        ensures taken { TakesIn fits defs.now key_of next_position water (after_put water x)
+            (x.position + 1) self.old self.new out.old out.new }
+        ensures work { PutWithin fits defs.now put_work water x self.old steps.old steps.new }
+        ensures bound { PutIsBounded fits defs.now key_of bounds_put water x self.old
+            steps.old steps.new }
         ensures pace { StaysAhead credit is_ahead defs.now x.time water self.old self.new }
         ensures due { result ≡ true → LeavesDue fits defs.now (key_of self.old) water x
             self.old self.new }
@@ -140,18 +131,12 @@ pub trait KeyWindows: Drop {
         steps: &mut Steps<L>,
     )
         requires { MayTakeIn fits defs.now is_ready promised (Mark time water) self.old out.old }
-        ensures taken { TakesIn fits defs.now key_of next_position water
-            (λ kept marks. moment kept (insert_key nat_cmp marks time) water)
+        ensures taken { TakesIn fits defs.now key_of next_position water (after_mark water time)
             (next_position self.old) self.old self.new out.old out.new }
-        ensures work { (kept : List Kept) (marks : List ℕ)
-            → fits defs.now kept marks water self.old
-            → steps.new ≤ steps.old + mark_work defs.now (moment kept marks water)
-            (moment kept (insert_key nat_cmp marks time) water) time self.old self.new }
-        ensures bound { (kept : List Kept) (marks : List ℕ)
-            → fits defs.now kept marks water self.old → (bound : ℕ)
-            × bounds_mark defs.now (key_of self.old) (moment kept marks water)
-            (moment kept (insert_key nat_cmp marks time) water) time bound
-            × (steps.new ≤ steps.old + bound) }
+        ensures work { MarkWithin fits defs.now mark_work water time self.old self.new
+            steps.old steps.new }
+        ensures bound { MarkIsBounded fits defs.now key_of bounds_mark water time self.old
+            steps.old steps.new }
         ensures pace { StaysAhead credit is_ahead defs.now time water self.old self.new };
 
     /// Makes room for a move of the watermark.
@@ -170,48 +155,29 @@ pub trait KeyWindows: Drop {
         steps: &mut Steps<L>,
     )
         requires { MayTakeIn fits defs.now is_ready promised (Move old new) self.old out.old }
-        ensures taken { TakesIn fits defs.now key_of next_position old
-            (λ kept marks. moment kept marks new)
+        ensures taken { TakesIn fits defs.now key_of next_position old (after_move new)
             (next_position self.old) self.old self.new out.old out.new }
         ensures room { vec_len out.new ≤ vec_len out.old + promised self.old }
         ensures ahead { IsWater old → is_ahead defs.now new self.new }
-        ensures work_ahead { (kept : List Kept) (marks : List ℕ)
-            → fits defs.now kept marks old self.old → is_ahead defs.now old self.old
-            → steps.new + credit self.new ≤ steps.old + credit self.old
-            + move_work defs.now (moment kept marks old) (moment kept marks new)
-            self.old self.new }
-        ensures work { (kept : List Kept) (marks : List ℕ)
-            → fits defs.now kept marks old self.old
-            → steps.new + credit self.new ≤ steps.old + credit self.old
-            + (move_work defs.now (moment kept marks old) (moment kept marks new)
-            self.old self.new + catch_up defs.now old self.old) }
-        ensures bound { (kept : List Kept) (marks : List ℕ)
-            → fits defs.now kept marks old self.old → (bound : ℕ)
-            × bounds_move defs.now (key_of self.old) (moment kept marks old)
-            (moment kept marks new) bound × (steps.new ≤ steps.old + bound) };
+        ensures work_ahead { MovePaysAhead fits defs.now is_ahead credit move_work old new
+            self.old self.new steps.old steps.new }
+        ensures work { MovePaysBehind fits defs.now credit move_work catch_up old new
+            self.old self.new steps.old steps.new }
+        ensures bound { MoveIsBounded fits defs.now key_of bounds_move old new self.old
+            steps.old steps.new };
 
     /// The first watermark at which something becomes complete, or settled. Up to there the state
     /// stands as it is: a move to below it changes nothing, and need not be told. Later than the final
     /// watermark where nothing is left to become so.
     fn next_due(&self, defs: &Defs, water: u64) -> u64
         requires { StandsUnder fits defs.now water self.now }
-        ensures none_before { (kept : List Kept) (marks : List ℕ) (new : ℕ)
-            → fits defs.now kept marks water self.now
-            → water ≤ new → new < result → changes_by_move defs.now
-            (key_of self.now) kept marks water new ≡ [] }
-        ensures waits { (kept : List Kept) (marks : List ℕ) (new : ℕ)
-            → fits defs.now kept marks water self.now
-            → water ≤ new → new < result → IsWater new → fits defs.now kept marks new self.now }
-        ensures some_at { (kept : List Kept) (marks : List ℕ)
-            → fits defs.now kept marks water self.now → result ≤ FINAL → (water < result)
-            × BringsMore defs.now (key_of self.now) kept marks water result }
-        ensures exact { (kept : List Kept) (marks : List ℕ)
-            → fits defs.now kept marks water self.now
-            → IsExact defs.now (key_of self.now) kept marks water result };
+        ensures none_before { NothingDueBefore fits defs.now key_of water self.now result }
+        ensures waits { WaitsBefore fits defs.now water self.now result }
+        ensures some_at { SomethingDueAt fits defs.now key_of water self.now result }
+        ensures exact { IsExactlyDue fits defs.now key_of water self.now result };
 
     /// How many slices its unsettled tuples have under a watermark, its own or a later one.
     fn slice_count(&self, defs: &Defs, water: u64) -> u64
         requires { (w : ℕ) × MayReserve fits defs.now (Move w water) self.now }
-        ensures { (kept : List Kept) (marks : List ℕ) (w : ℕ) → fits defs.now kept marks w self.now
-            → w ≤ water → result ≡ length (slices_at defs.now (moment kept marks water)) };
+        ensures { CountsSlices fits defs.now water self.now result };
 }
