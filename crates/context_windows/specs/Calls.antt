@@ -1,7 +1,11 @@
 -- What the calls of sessions and of intervals between marks ask, and what they leave.
-use Rattle.std.specs.Prelude.{◌≡◌, ◌≤◌, ◌+◌, ℕ, Result, IfOk, OnOk}
+use Rattle.std.specs.Prelude.{◌≡◌, ◌≤◌, ◌+◌, ℕ, List, Vec, Result, IfOk, OnOk, length}
 use Rattle.stream_base.specs.declared.limits.TheConstants.{TIME_MAX}
+use Rattle.stream_base.specs.declared.change.Change.{Change}
 use Rattle.stream_base.specs.Limits.{Definitions}
+use Rattle.agg_store.specs.Stored.{Stored}
+use Rattle.window_spans.specs.declared.span.Span.{Span}
+use Rattle.window_spans.specs.Telling.{Tells}
 use Rattle.context_windows.specs.Marked.{Marked}
 use Rattle.context_windows.specs.Spanned.{IsSessionAt, Spanned}
 
@@ -34,3 +38,7 @@ pub record DiffersInStood (old new : Spanned) : Type 0 where
 pub record TakesOne (old new : Spanned) : Type 0 where
   pub forgotten : new.forgotten ≡ old.forgotten
   pub room_left : old.spare ≤ new.spare + 1
+
+-- these are told over a store, each in at most 64 (reach + 2) steps
+abbrev pub TellsEach : {Z : Type 0} → List Span → Stored → Vec Change Z → Vec Change Z → ℕ → ℕ → Type 0
+TellsEach spans store old new steps later = Tells (length spans) store.reach old new steps later

@@ -4,3 +4,5 @@ pub mod Spanned
 pub mod Marked
 pub mod Aligned
 pub mod Calls
+pub mod SessionCalls
+pub mod MarkCalls

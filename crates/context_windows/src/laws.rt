@@ -3,31 +3,21 @@
 //! function that does nothing.
 ghost use Rattle.std.specs.Prelude.{◌≡◌, ◌≤◌, ℕ, List};
 ghost use Rattle.stream_base.specs.declared.def.Def.{Def};
-ghost use Rattle.stream_base.specs.declared.kept.Kept.{Kept};
-ghost use Rattle.stream_base.specs.Model.Journal.{put_in_order};
 ghost use Rattle.slice_lists.specs.Runs.{IsAligned};
 ghost use Rattle.slice_lists.specs.Touched.{marks_left};
 ghost use Rattle.agg_store.specs.Stored.{Stored};
-ghost use Rattle.window_spans.specs.Held.{AreAlignedWith};
 ghost use Rattle.window_spans.specs.Parted.{holder_of};
 ghost use Rattle.window_spans.specs.Spans.{asked_of, due_of, told_at};
-ghost use Rattle.context_windows.specs.Aligned.{IsOfSessions, IsOfWindows};
+ghost use Rattle.context_windows.specs.Aligned.{IsOfWindows};
 ghost use Rattle.context_windows.specs.Marked.{AreEnoughFrom, IsEdge};
-ghost use Rattle.context_windows.specs.Spanned.{Follows, Spanned, gap_of};
+ghost use Rattle.context_windows.specs.SessionCalls.{PartAt, PartWithTupleAt};
 
 /// What `before`, `put` and `water` of sessions ask of the slices: of a store that holds some of the
 /// key's tuples, with the new one among them in `put`.
 pub fn slices_part_at_sessions()
-    ensures asked { (windows : List Def) (w : Def) (kept : List Kept) (store : Stored) (s : Spanned)
-        (time water : ℕ) → IsOfSessions windows w kept store → Follows (gap_of w.kind) kept s
-        → AreAlignedWith store.slices (asked_of (gap_of w.kind) time water s.spans) }
-    ensures told { (windows : List Def) (w : Def) (kept : List Kept) (x : Kept) (store : Stored)
-        (s : Spanned) (water : ℕ) → IsOfSessions windows w (put_in_order kept x) store
-        → Follows (gap_of w.kind) kept s → s.forgotten ≤ x.time
-        → AreAlignedWith store.slices (told_at (gap_of w.kind) x.time water s.spans) }
-    ensures due { (windows : List Def) (w : Def) (kept : List Kept) (store : Stored) (s : Spanned)
-        (old new : ℕ) → IsOfSessions windows w kept store → Follows (gap_of w.kind) kept s
-        → AreAlignedWith store.slices (due_of old new s.spans) }
+    ensures asked { PartAt asked_of }
+    ensures told { PartWithTupleAt told_at }
+    ensures due { PartAt (λ gap old new spans. due_of old new spans) }
 {}
 
 /// What the calls of marks windows ask of the slices: that each start and end is an edge by the marks

@@ -1,12 +1,9 @@
 //! The intervals between the marks of one key.
-ghost use Rattle.std.specs.Prelude.{◌≡◌, ◌≤◌, ◌<◌, ◌+◌, ◌-◌, ◌*◌, ◌++◌, ℕ, List, [], length, max, vec_len, Some, option_to_list};
+ghost use Rattle.std.specs.Prelude.{◌≡◌, ◌≤◌, ◌<◌, ◌+◌, ◌-◌, ◌*◌, ◌++◌, ℕ, [], length, max, vec_len, option_to_list};
 ghost use Rattle.std.specs.BTreeSet.{insert_key};
 ghost use Rattle.std.specs.Ordering.{nat_cmp};
-ghost use Rattle.stream_base.specs.declared.kept.Kept.{Kept};
 ghost use Rattle.stream_base.specs.declared.limits.TheConstants.{FINAL};
 ghost use Rattle.stream_base.specs.Laws.{completions};
-ghost use Rattle.stream_base.specs.Model.Changes.{Moment};
-ghost use Rattle.stream_base.specs.Model.Journal.{put_in_order};
 ghost use Rattle.stream_base.specs.Vectors.{room};
 ghost use Rattle.slice_lists.specs.Touched.{marks_left};
 ghost use Rattle.window_laws.specs.After.{with_mark, with_tuple};
@@ -14,9 +11,10 @@ ghost use Rattle.window_spans.specs.Ahead.{end_after, end_of_last_begun, start_a
 ghost use Rattle.window_spans.specs.Held.{AreAlignedWith};
 ghost use Rattle.window_spans.specs.Spans.{due_of};
 ghost use Rattle.window_spans.specs.Telling.{Tells};
-ghost use Rattle.context_windows.specs.Calls.{DiffersInStood, MayTake, Promises, TakesOne, spanned_of};
-ghost use Rattle.context_windows.specs.Marked.{FollowsMarks, HoldsStretches, IsMarkedAsBefore, RemembersHolder, asked_at, entered_at, holder_in, marked_open_after, marks_window, most_changes, parted_of, with_parts};
+ghost use Rattle.context_windows.specs.Calls.{DiffersInStood, MayTake, Promises, TakesOne, TellsEach, spanned_of};
+ghost use Rattle.context_windows.specs.Marked.{FollowsMarks, IsMarkedAsBefore, RemembersHolder, asked_at, entered_at, marked_open_after, marks_window, most_changes, parted_of, with_parts};
 ghost use Rattle.context_windows.specs.Spanned.{changes_of};
+ghost use Rattle.context_windows.specs.MarkCalls.{FollowMarksWithTuple, FollowOn, WhereMarksFollowed, WhereMarksHeld, WhereMomentHeld, WhereRemembered, WhereTupleCameBetween, most_changes_at};
 
 use agg_laws::Steps;
 use agg_store::AggStore;
@@ -78,8 +76,7 @@ impl MarkWindows {
     /// least how many changes its `put` or `mark` will append.
     pub fn reserve(&mut self, window: u32, time: u64, water: u64) -> Result<u64, NoMemory>
         requires { time < u64.MAX }
-        ensures promises { Promises (most_changes time water
-            (holder_in time self.old.spans self.old.marks)) result self.new.spare }
+        ensures promises { Promises (most_changes_at time water self.old) result self.new.spare }
         ensures kept { IsMarkedAsBefore self.old self.new }
     {
         self.spans.reserve(1)?;
@@ -106,9 +103,8 @@ impl MarkWindows {
         requires serves { M.serves func }
         ensures kept { DiffersInStood (spanned_of self.old) (spanned_of self.new) }
         ensures marks { self.new.marks ≡ self.old.marks }
-        ensures remembers { (marks : List ℕ) (kept : List Kept) → FollowsMarks marks kept self.old
-            → self.old.forgotten ≤ time → HoldsStretches time marks kept (S.stored store.now)
-            → RemembersHolder func time water marks kept self.new }
+        ensures remembers { WhereMarksHeld time (S.stored store.now) self.old
+            (λ marks kept. RemembersHolder func time water marks kept self.new) }
         ensures cost { steps.new
             ≤ steps.old + 64 * ((S.stored store.now).reach + 2) * length self.new.stood }
     {
@@ -134,20 +130,14 @@ impl MarkWindows {
             (entered_at time water self.old) }
         requires serves { M.serves func }
         requires spare { length (entered_at time water self.old) ≤ room out.old }
-        ensures follows { (marks : List ℕ) (kept : List Kept) (x : Kept)
-            → FollowsMarks marks kept self.old → self.old.forgotten ≤ time → x.time ≡ time
-            → FollowsMarks marks (put_in_order kept x) self.new }
-        ensures changes { (m : Moment) (x : Kept) → FollowsMarks m.marks m.kept self.old
-            → self.old.forgotten ≤ time → x.time ≡ time → m.water ≡ water
-            → RemembersHolder func time water m.marks m.kept self.old
-            → HoldsStretches time m.marks (put_in_order m.kept x) (S.stored store.now)
-            → out.new.items ≡ out.old.items
-            ++ changes_of key.now m (with_tuple m x) (window, marks_window func) }
-        ensures tells { Tells (length (entered_at time water self.old))
-            (S.stored store.now).reach out.old out.new steps.old steps.new }
-        ensures owed { (marks : List ℕ) (kept : List Kept) → FollowsMarks marks kept self.old
-            → self.old.forgotten ≤ time → RemembersHolder func time water marks kept self.old
-            → length self.old.stood ≤ vec_len out.new - vec_len out.old }
+        ensures follows { FollowMarksWithTuple time self.old self.new }
+        ensures changes { WhereTupleCameBetween func time water (S.stored store.now) self.old
+            (λ m x. out.new.items
+            ≡ out.old.items ++ changes_of key.now m (with_tuple m x) (window, marks_window func)) }
+        ensures tells { TellsEach (entered_at time water self.old)
+            (S.stored store.now) out.old out.new steps.old steps.new }
+        ensures owed { WhereRemembered func time water self.old
+            (length self.old.stood ≤ vec_len out.new - vec_len out.old) }
         ensures takes { TakesOne (spanned_of self.old) (spanned_of self.new) }
         ensures marks { self.new.marks ≡ self.old.marks }
     {
@@ -178,18 +168,13 @@ impl MarkWindows {
         requires aligned { AreAlignedWith (S.stored store.now).slices
             (with_parts time (parted_of time self.old.spans)) }
         requires serves { M.serves func }
-        requires spare { most_changes time water (holder_in time self.old.spans self.old.marks)
-            ≤ room out.old }
-        ensures follows { (marks : List ℕ) (kept : List Kept) → FollowsMarks marks kept self.old
-            → self.old.forgotten ≤ time → HoldsStretches time marks kept (S.stored store.now)
-            → FollowsMarks (insert_key nat_cmp marks time) kept self.new }
-        ensures changes { (m : Moment) → FollowsMarks m.marks m.kept self.old
-            → self.old.forgotten ≤ time → m.water ≡ water
-            → HoldsStretches time m.marks m.kept (S.stored store.now)
-            → out.new.items ≡ out.old.items
-            ++ changes_of key.now m (with_mark m time) (window, marks_window func) }
-        ensures number { vec_len out.new ≤ vec_len out.old
-            + most_changes time water (holder_in time self.old.spans self.old.marks) }
+        requires spare { most_changes_at time water self.old ≤ room out.old }
+        ensures follows { WhereMarksHeld time (S.stored store.now) self.old
+            (λ marks kept. FollowsMarks (insert_key nat_cmp marks time) kept self.new) }
+        ensures changes { WhereMomentHeld time water (S.stored store.now) self.old
+            (λ m. out.new.items ≡ out.old.items
+            ++ changes_of key.now m (with_mark m time) (window, marks_window func)) }
+        ensures number { vec_len out.new ≤ vec_len out.old + most_changes_at time water self.old }
         ensures tells { Tells (vec_len out.new - vec_len out.old)
             (S.stored store.now).reach out.old out.new steps.old steps.new }
         ensures takes { TakesOne (spanned_of self.old) (spanned_of self.new) }
@@ -232,10 +217,8 @@ impl MarkWindows {
     /// How many intervals a move of the watermark completes.
     pub fn due(&self, window: u32, old: u64, new: u64) -> u64
         ensures number { result ≡ length (due_of old new self.now.spans) }
-        ensures rows { (key : List ℕ) (func : Func) (m : Moment)
-            → FollowsMarks m.marks m.kept self.now
-            → self.now.forgotten ≤ old → m.water ≡ old
-            → result ≡ length (completions key m new (window, marks_window func)) }
+        ensures rows { WhereMarksFollowed old self.now
+            (λ key func m. result ≡ length (completions key m new (window, marks_window func))) }
     {
         let places = due(&self.spans, old, new);
         (places.to - places.from) as u64
@@ -258,13 +241,10 @@ impl MarkWindows {
             (due_of old new self.now.spans) }
         requires serves { M.serves func }
         requires spare { length (due_of old new self.now.spans) ≤ room out.old }
-        ensures changes { (m : Moment) → FollowsMarks m.marks m.kept self.now
-            → self.now.forgotten ≤ old → m.water ≡ old
-            → HoldsStretches old m.marks m.kept (S.stored store.now)
-            → out.new.items ≡ out.old.items
-            ++ completions key.now m new (window, marks_window func) }
-        ensures tells { Tells (length (due_of old new self.now.spans))
-            (S.stored store.now).reach out.old out.new steps.old steps.new }
+        ensures changes { WhereMomentHeld old old (S.stored store.now) self.now (λ m. out.new.items
+            ≡ out.old.items ++ completions key.now m new (window, marks_window func)) }
+        ensures tells { TellsEach (due_of old new self.now.spans)
+            (S.stored store.now) out.old out.new steps.old steps.new }
     {
         let places = due(&self.spans, old, new);
         let teller = Teller { window, key };
@@ -305,8 +285,7 @@ impl MarkWindows {
     /// the others up is paid for by those that leave. No tuple and no mark comes at an earlier time.
     pub fn drop_needless(&mut self, time: u64)
         ensures few { length self.new.marks ≤ 2 * length (marks_left time self.new.marks) }
-        ensures follows { (marks : List ℕ) (kept : List Kept) → FollowsMarks marks kept self.old
-            → FollowsMarks marks kept self.new }
+        ensures follows { FollowOn self.old self.new }
         ensures forgotten { self.new.forgotten ≤ max self.old.forgotten time }
         ensures spare { self.old.spare ≤ self.new.spare }
     {
@@ -319,8 +298,7 @@ impl MarkWindows {
     /// of them. No tuple and no mark comes at an earlier time.
     pub fn drop_settled(&mut self, time: u64)
         ensures kept { IsMarkedAsBefore (marked_open_after time self.old) self.new }
-        ensures follows { (marks : List ℕ) (kept : List Kept) → FollowsMarks marks kept self.old
-            → FollowsMarks marks kept self.new }
+        ensures follows { FollowOn self.old self.new }
     {
         self.spans.retain(|s| time < s.high);
         leave_marks(&mut self.marks, time);

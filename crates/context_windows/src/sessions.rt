@@ -2,16 +2,14 @@
 ghost use Rattle.std.specs.Prelude.{◌≡◌, ◌≤◌, ◌<◌, ◌+◌, ◌-◌, ◌*◌, ◌++◌, ℕ, List, [], length, option_to_list, vec_len};
 ghost use Rattle.stream_base.specs.declared.kept.Kept.{Kept};
 ghost use Rattle.stream_base.specs.Laws.{completions};
-ghost use Rattle.stream_base.specs.Model.Changes.{Moment};
-ghost use Rattle.stream_base.specs.Model.Journal.{put_in_order};
 ghost use Rattle.stream_base.specs.Vectors.{Adds, room};
 ghost use Rattle.window_laws.specs.After.{with_tuple};
 ghost use Rattle.window_spans.specs.Ahead.{end_after, end_of_last_begun, start_after};
 ghost use Rattle.window_spans.specs.Held.{AreAlignedWith};
-ghost use Rattle.window_spans.specs.Spans.{AreApart, asked_of, due_of, put_changes, spans_with, told_at};
-ghost use Rattle.window_spans.specs.Telling.{Tells};
-ghost use Rattle.context_windows.specs.Calls.{DiffersInStood, MayComeAt, MayTake, Promises, TakesOne};
-ghost use Rattle.context_windows.specs.Spanned.{Follows, HasAsked, HoldsSessions, IsAsBefore, IsSessionAt, Remembers, changes_of, gap_at, open_after, window_at};
+ghost use Rattle.window_spans.specs.Spans.{AreApart, asked_of, due_of, put_changes, spans_with};
+ghost use Rattle.context_windows.specs.Calls.{DiffersInStood, MayComeAt, MayTake, Promises, TakesOne, TellsEach};
+ghost use Rattle.context_windows.specs.Spanned.{Follows, HasAsked, IsAsBefore, IsSessionAt, Remembers, changes_of, gap_at, open_after, window_at};
+ghost use Rattle.context_windows.specs.SessionCalls.{FollowTuple, WhereFollowed, WhereFollowedHeld, WhereSessionsHeld, WhereTupleCame, asked_in, told_in};
 
 use crate::windows::{gap_of, window_at};
 use agg_laws::Steps;
@@ -111,14 +109,12 @@ impl Sessions {
     )
         requires comes { MayComeAt defs.now window time }
         requires aligned { AreAlignedWith (S.stored store.now).slices
-            (asked_of (gap_at defs.now window) time water self.old.spans) }
+            (asked_in defs.now window time water self.old) }
         requires serves { M.serves (window_at defs.now window).func }
         ensures kept { DiffersInStood self.old self.new }
         ensures asked { HasAsked (gap_at defs.now window) time water self.new }
-        ensures remembers { (kept : List Kept) → Follows (gap_at defs.now window) kept self.old
-            → self.old.forgotten ≤ time
-            → HoldsSessions (gap_at defs.now window) time kept (S.stored store.now)
-            → Remembers (window_at defs.now window) time water kept self.new }
+        ensures remembers { WhereSessionsHeld defs.now window time (S.stored store.now) self.old
+            (λ kept. Remembers (window_at defs.now window) time water kept self.new) }
         ensures cost { steps.new
             ≤ steps.old + 64 * ((S.stored store.now).reach + 2) * length self.new.stood }
     {
@@ -147,21 +143,14 @@ impl Sessions {
         requires takes { MayTake time self.old.spare }
         requires asked { HasAsked (gap_at defs.now window) time water self.old }
         requires aligned { AreAlignedWith (S.stored store.now).slices
-            (told_at (gap_at defs.now window) time water self.old.spans) }
+            (told_in defs.now window time water self.old) }
         requires serves { M.serves (window_at defs.now window).func }
         requires spare { put_changes (gap_at defs.now window) time water self.old.spans
             ≤ room out.old }
-        ensures follows { (kept : List Kept) (x : Kept)
-            → Follows (gap_at defs.now window) kept self.old
-            → self.old.forgotten ≤ time → x.time ≡ time
-            → Follows (gap_at defs.now window) (put_in_order kept x) self.new }
-        ensures changes { (m : Moment) (x : Kept) → Follows (gap_at defs.now window) m.kept self.old
-            → self.old.forgotten ≤ time → x.time ≡ time → m.water ≡ water
-            → Remembers (window_at defs.now window) time water m.kept self.old
-            → HoldsSessions (gap_at defs.now window) time (put_in_order m.kept x)
-            (S.stored store.now)
-            → out.new.items ≡ out.old.items
-            ++ changes_of key.now m (with_tuple m x) (window, window_at defs.now window) }
+        ensures follows { FollowTuple defs.now window time self.old self.new }
+        ensures changes { WhereTupleCame defs.now window time water (S.stored store.now) self.old
+            (λ def m x. out.new.items
+            ≡ out.old.items ++ changes_of key.now m (with_tuple m x) (window, def)) }
         ensures spans { self.new.spans
             ≡ spans_with (gap_at defs.now window) time self.old.spans }
         ensures adds { Adds (put_changes (gap_at defs.now window) time water self.old.spans)
@@ -169,7 +158,7 @@ impl Sessions {
         ensures owed { length self.old.stood ≤ vec_len out.new - vec_len out.old }
         ensures takes { TakesOne self.old self.new }
         ensures cost { steps.new ≤ steps.old + 64 * ((S.stored store.now).reach + 2)
-            * length (told_at (gap_at defs.now window) time water self.old.spans) }
+            * length (told_in defs.now window time water self.old) }
     {
         let def = window_at(defs, window);
         let gap = gap_of(&def.kind);
@@ -196,10 +185,8 @@ impl Sessions {
     pub fn due(&self, defs: &Defs, window: u32, old: u64, new: u64) -> u64
         requires { IsSessionAt defs.now window }
         ensures number { result ≡ length (due_of old new self.now.spans) }
-        ensures rows { (key : List ℕ) (m : Moment)
-            → Follows (gap_at defs.now window) m.kept self.now
-            → self.now.forgotten ≤ old → m.water ≡ old
-            → result ≡ length (completions key m new (window, window_at defs.now window)) }
+        ensures rows { WhereFollowed defs.now window old self.now
+            (λ def key m. result ≡ length (completions key m new (window, def))) }
     {
         let places = due(&self.spans, old, new);
         (places.to - places.from) as u64
@@ -223,13 +210,10 @@ impl Sessions {
             (due_of old new self.now.spans) }
         requires serves { M.serves (window_at defs.now window).func }
         requires spare { length (due_of old new self.now.spans) ≤ room out.old }
-        ensures changes { (m : Moment) → Follows (gap_at defs.now window) m.kept self.now
-            → self.now.forgotten ≤ old → m.water ≡ old
-            → HoldsSessions (gap_at defs.now window) old m.kept (S.stored store.now)
-            → out.new.items ≡ out.old.items
-            ++ completions key.now m new (window, window_at defs.now window) }
-        ensures tells { Tells (length (due_of old new self.now.spans))
-            (S.stored store.now).reach out.old out.new steps.old steps.new }
+        ensures changes { WhereFollowedHeld defs.now window old (S.stored store.now) self.now
+            (λ def m. out.new.items ≡ out.old.items ++ completions key.now m new (window, def)) }
+        ensures tells { TellsEach (due_of old new self.now.spans)
+            (S.stored store.now) out.old out.new steps.old steps.new }
     {
         let def = window_at(defs, window);
         let places = due(&self.spans, old, new);

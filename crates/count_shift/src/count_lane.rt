@@ -1,13 +1,12 @@
 //! The tuples of a key for its events windows.
-ghost use Rattle.std.specs.Prelude.{◌≡◌, ◌≤◌, ◌<◌, ◌+◌, ◌-◌, ◌*◌, ◌/◌, ◌++◌, ℕ, List, [], length, min, slice_get, Some, OnOk, IfOk, vec_len};
-ghost use Rattle.stream_base.specs.declared.func.Func.{Func};
+ghost use Rattle.std.specs.Prelude.{◌≡◌, ◌≤◌, ◌<◌, ◌+◌, ◌-◌, ◌*◌, ◌++◌, ℕ, List, [], length, min, slice_get, Some, OnOk, IfOk, vec_len};
 ghost use Rattle.stream_base.specs.declared.kept.Kept.{Kept};
 ghost use Rattle.stream_base.specs.Laws.{completions};
 ghost use Rattle.stream_base.specs.Model.Changes.{emissions, retractions};
-ghost use Rattle.stream_base.specs.Model.Journal.{put_in_order};
 ghost use Rattle.stream_base.specs.Vectors.{Adds, room};
 ghost use Rattle.count_shift.specs.Lane.{Follows, HasMoreRoom, HasRoom, IsPaidFor, LosesFirst, TakesIn};
-ghost use Rattle.count_shift.specs.Counting.{IsCount, IsEvents, IsNextPosition, count_of, events, kept_at, later, moment, move_changes, next_filled, put_changes, upper};
+ghost use Rattle.count_shift.specs.Counting.{IsCount, IsEvents, IsNextPosition, count_of, kept_at, later, move_changes, next_filled, put_changes, upper};
+ghost use Rattle.count_shift.specs.Followed.{AtFollowed, FollowsTuple, OfEachFollowed, OfEachNext, WhereTaken, WhereTakenNext};
 
 use crate::events_window::EventsWindow;
 use crate::ranks::{next_filled, reaches_half, upper, upper_after};
@@ -63,11 +62,8 @@ impl CountLane {
         ensures same { HasMoreRoom self.old self.new }
         ensures room { OnOk result (HasRoom self.new) }
         ensures number { IfOk result (λ n. n ≡ put_changes count self.old.kept time water) }
-        ensures changes { (window : ℕ) (func : Func) (key marks : List ℕ) (kept : List Kept) (x : Kept)
-            → x.time ≡ time → Follows count (min time water) kept self.old
-            → IsNextPosition kept x.position → IfOk result (λ n. n
-            ≡ length (emissions key (moment kept marks water)
-            (moment (put_in_order kept x) marks water) (window, events count func))) }
+        ensures changes { OfEachNext count (min time water) self.old water time
+            (λ owner key old new. IfOk result (λ n. n ≡ length (emissions key old new owner))) }
     {
         self.items.reserve(1)?;
         if self.gone + self.items.len() as u64 == u64::MAX {
@@ -108,23 +104,16 @@ impl CountLane {
         ensures stands { slice_get self.new.kept (result.from_rank - self.old.gone)
             ≡ Some (kept_at pos time value) }
         ensures takes { TakesIn (kept_at pos time value) self.old self.new }
-        ensures follows { (kept : List Kept) (from : ℕ) → from ≤ time
-            → Follows (count_of (def.now).kind) from kept self.old
-            → Follows (count_of (def.now).kind) from
-            (put_in_order kept (kept_at pos time value)) self.new }
+        ensures follows { FollowsTuple (count_of (def.now).kind)
+            (kept_at pos time value) self.old self.new }
         ensures next { (next : ℕ) → IsNextPosition self.old.kept pos → pos < next
             → IsNextPosition self.new.kept next }
-        ensures none_gone { (kept : List Kept) (marks : List ℕ)
-            → Follows (count_of (def.now).kind) (min time water) kept self.old
-            → retractions key.now (moment kept marks water)
-            (moment (put_in_order kept (kept_at pos time value)) marks water)
-            (window, def.now) ≡ [] }
-        ensures changes { (kept : List Kept) (marks : List ℕ)
-            → Follows (count_of (def.now).kind) (min time water) kept self.old
-            → IsNextPosition kept pos → out.new.items
-            ≡ out.old.items ++ emissions key.now (moment kept marks water)
-            (moment (put_in_order kept (kept_at pos time value)) marks water)
-            (window, def.now) }
+        ensures none_gone { WhereTaken (count_of (def.now).kind) (min time water) self.old water
+            (kept_at pos time value)
+            (λ old new. retractions key.now old new (window, def.now) ≡ []) }
+        ensures changes { WhereTakenNext (count_of (def.now).kind) (min time water) self.old water
+            (kept_at pos time value) (λ old new. out.new.items
+            ≡ out.old.items ++ emissions key.now old new (window, def.now)) }
         ensures adds { Adds
             (put_changes (count_of (def.now).kind) self.old.kept time water) out.old out.new }
         ensures cost { steps.new
@@ -158,10 +147,8 @@ impl CountLane {
     pub fn due(&self, count: u64, old: u64, new: u64) -> u64
         requires { IsCount count }
         ensures number { result ≡ move_changes count self.now.kept old new }
-        ensures rows { (window : ℕ) (func : Func) (key marks : List ℕ) (kept : List Kept)
-            → Follows count (min old new) kept self.now
-            → result ≡ length (completions key (moment kept marks old) new
-            (window, events count func)) }
+        ensures rows { OfEachFollowed count (min old new) self.now old
+            (λ owner key m. result ≡ length (completions key m new owner)) }
     {
         let stood = upper(&self.items, old) as u64 / count;
         let stand = upper(&self.items, new) as u64 / count;
@@ -193,10 +180,8 @@ impl CountLane {
         requires events { IsEvents (def.now).kind }
         requires spare { move_changes (count_of (def.now).kind) self.now.kept old new
             ≤ room out.old }
-        ensures changes { (kept : List Kept) (marks : List ℕ)
-            → Follows (count_of (def.now).kind) (min old new) kept self.now
-            → out.new.items ≡ out.old.items
-            ++ completions key.now (moment kept marks old) new (window, def.now) }
+        ensures changes { AtFollowed (count_of (def.now).kind) (min old new) self.now old
+            (λ m. out.new.items ≡ out.old.items ++ completions key.now m new (window, def.now)) }
         ensures adds { Adds
             (move_changes (count_of (def.now).kind) self.now.kept old new) out.old out.new }
         ensures cost { steps.new

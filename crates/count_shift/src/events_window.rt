@@ -1,10 +1,10 @@
 //! How instances of one events window are told.
-ghost use Rattle.std.specs.Prelude.{◌≡◌, ◌≤◌, ◌<◌, ◌+◌, ◌-◌, ◌*◌, ◌^◌, ◌++◌, map, length};
+ghost use Rattle.std.specs.Prelude.{◌≡◌, ◌≤◌, ◌<◌, ◌+◌, ◌-◌, ◌*◌, ◌^◌, ◌++◌, length};
 ghost use Rattle.std.specs.List.{remove};
-ghost use Rattle.stream_base.specs.Model.Changes.{row_of, former_of};
+ghost use Rattle.stream_base.specs.Model.Changes.{former_of};
 ghost use Rattle.stream_base.specs.Model.Windows.{ranks};
 ghost use Rattle.stream_base.specs.Vectors.{Adds, room};
-ghost use Rattle.count_shift.specs.Counting.{again_behind, new_behind, numbers, ranks_behind};
+ghost use Rattle.count_shift.specs.Told.{again_in, new_in, row_behind};
 
 use crate::fold::fold_onto;
 use agg_laws::{Monoid, Steps};
@@ -28,8 +28,7 @@ impl EventsWindow<'_> {
     pub fn row<L>(&self, items: &[Kept], i: usize, steps: &mut Steps<L>) -> Row
         requires filled { (i + 1) * self.now.count ≤ length items.now }
         requires counted { self.now.gone + length items.now < 2 ^ 64 }
-        ensures value { result ≡ row_of self.now.window self.now.key.now self.now.func
-            (ranks_behind self.now.gone self.now.count items.now i) }
+        ensures value { result ≡ row_behind self.now items.now i }
         ensures cost { steps.new ≤ steps.old + self.now.count }
     {
         let low = i * self.count;
@@ -77,9 +76,7 @@ impl EventsWindow<'_> {
         requires filled { to * self.now.count ≤ length items.now }
         requires counted { self.now.gone + length items.now < 2 ^ 64 }
         requires spare { to - from ≤ room out.old }
-        ensures told { out.new.items ≡ out.old.items ++ map
-            (new_behind self.now.gone self.now.window self.now.key.now self.now.func self.now.count
-            items.now) (numbers from to) }
+        ensures told { out.new.items ≡ out.old.items ++ new_in self.now items.now from to }
         ensures adds { Adds (to - from) out.old out.new }
         ensures cost { steps.new ≤ steps.old + self.now.count * (to - from) }
     {
@@ -104,9 +101,8 @@ impl EventsWindow<'_> {
         requires filled { to * self.now.count < length items.now }
         requires counted { self.now.gone + length items.now < 2 ^ 64 }
         requires spare { to - from ≤ room out.old }
-        ensures told { out.new.items ≡ out.old.items ++ map
-            (again_behind self.now.gone self.now.window self.now.key.now self.now.func
-            self.now.count (remove items.now rank) items.now) (numbers from to) }
+        ensures told { out.new.items
+            ≡ out.old.items ++ again_in self.now (remove items.now rank) items.now from to }
         ensures adds { Adds (to - from) out.old out.new }
         ensures cost { steps.new ≤ steps.old + 2 * self.now.count * (to - from) }
     {

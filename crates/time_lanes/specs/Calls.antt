@@ -6,6 +6,14 @@ use Rattle.stream_base.specs.declared.limits.TheConstants.{TIME_MAX}
 use Rattle.agg_store.specs.Stored.{Stored}
 use Rattle.time_lanes.specs.Spans.{IsServedOver, IsWater, IsWindowAt, is_served}
 
+-- of the window at a place
+abbrev pub OfWindow : List Def → ℕ → (Def → Type 0) → Type 0
+OfWindow windows window Holds = (def : Def) → IsWindowAt windows window def → Holds def
+
+-- a vector has so many elements more
+abbrev pub GrowsBy : {X Z : Type 0} → ℕ → Vec X Z → Vec X Z → Type 0
+GrowsBy count old new = vec_len new ≡ vec_len old + count
+
 -- partials that show such functions show that of the window at a place
 abbrev pub ShowsWindow : (Func → Type 0) → List Def → ℕ → Type 0
 ShowsWindow serves windows window = (def : Def) → IsWindowAt windows window def → serves def.func

@@ -1,11 +1,11 @@
 -- The folds of overlapping intervals.
-use Rattle.std.specs.Prelude.{◌≡◌, ◌≤◌, ◌<◌, ◌+◌, ◌-◌, ◌*◌, ℕ, ℤ, List, length, slice_index_or}
+use Rattle.std.specs.Prelude.{◌≡◌, ◌≤◌, ◌<◌, ◌+◌, ◌-◌, ◌*◌, ◌^◌, ℕ, ℤ, List, length, slice_index_or}
 use Rattle.stream_base.specs.declared.former.Former.{Former}
 use Rattle.stream_base.specs.declared.func.Func.{Func}
 use Rattle.stream_base.specs.declared.kept.Kept.{Kept}
 use Rattle.stream_base.specs.Laws.{TimesDoNotFall}
 use Rattle.stream_base.specs.Model.Changes.{former_of}
-use Rattle.stream_base.specs.Model.Windows.{interval, within}
+use Rattle.stream_base.specs.Model.Windows.{Instance, interval, within}
 use Rattle.slice_lists.specs.Runs.{IsAligned, runs_within}
 use Rattle.slice_lists.specs.Slices.{values_of}
 use Rattle.agg_store.specs.Stored.{Stored, tuples_of}
@@ -30,11 +30,20 @@ pub record MayShare (span : Span) (slices : List (List Kept)) (complete : Comple
   pub several : 2 ≤ complete.count
   pub close : AreClose span slices complete
 
--- where intervals are close, at most one step is made for each of their slices, and four for each interval
+-- at most one step was made for each slice of some intervals, and four for each interval
+abbrev pub TakesShared : Span → List (List Kept) → Complete → ℕ → ℕ → Type 0
+TakesShared span slices complete steps later =
+    later ≤ steps + length (slices_under span slices complete) + 4 * complete.count
+
+-- so where the intervals are close
 abbrev pub IsShared : Span → List (List Kept) → Complete → ℕ → ℕ → Type 0
 IsShared span slices complete steps later =
-    AreClose span slices complete
-    → later ≤ steps + length (slices_under span slices complete) + 4 * complete.count
+    AreClose span slices complete → TakesShared span slices complete steps later
+
+-- where there is one interval at most, at most one step was made for each of its slices
+abbrev pub TakesAlone : Span → List (List Kept) → Complete → ℕ → ℕ → Type 0
+TakesAlone span slices complete steps later =
+    complete.count ≤ 1 → later ≤ steps + length (slices_under span slices complete) * complete.count
 
 -- the fold of the tuples from one time up to another
 abbrev pub fold_between : {M : Type 0} → (List ℤ → M) → Stored → ℕ → ℕ → M
@@ -48,6 +57,25 @@ pub record IsHead {M : Type 0} (of_values : List ℤ → M) (span : Span) (s : S
   pub least : complete.first * span.slide ≤ low
   pub most : low ≤ complete.first * span.slide + span.length
   pub folded : head ≡ fold_between of_values s low (complete.first * span.slide + span.length)
+
+-- what is folded from the end of the first interval up to the end of the last of so many
+abbrev pub fold_behind : {M : Type 0} → (List ℤ → M) → Span → Stored → Complete → ℕ → M
+fold_behind of_values span s complete count =
+    fold_between of_values s (complete.first * span.slide + span.length)
+    ((complete.first + (count - 1)) * span.slide + span.length)
+
+-- at most one step was made for each slice from the first start up to a time, and from the end of the first interval up to the end of the last of so many, and three for each of these
+abbrev pub TakesFirst : Span → List (List Kept) → Complete → ℕ → ℕ → ℕ → ℕ → Type 0
+TakesFirst span slices complete count low steps later =
+    later ≤ steps + length (runs_within (complete.first * span.slide) low slices)
+    + length (runs_within (complete.first * span.slide + span.length) ((complete.first + (count - 1)) * span.slide + span.length) slices)
+    + 3 * count
+
+-- of each interval whose fold is this
+abbrev pub WhereFolded : {M : Type 0} → (List ℤ → M) → M → (Instance → Type 0) → Type 0
+WhereFolded of_values partial Holds =
+    (kept : List Kept) (low high : ℕ) → partial ≡ of_values (values_of (within low high kept))
+    → length kept < 2 ^ 64 → Holds (interval low high kept)
 
 -- what each of the first intervals shows stands at its place
 abbrev pub AreShown : Func → Span → Stored → Complete → ℕ → List Former → Type 0

@@ -1,5 +1,5 @@
 -- The slices that a lane holds, and the next ones of a store.
-use Rattle.std.specs.Prelude.{◌≡◌, ◌≤◌, ◌<◌, ◌+◌, ◌*◌, ◌⊎◌, ℕ, ℤ, List, [], ◌∷◌, map, max, All}
+use Rattle.std.specs.Prelude.{◌≡◌, ◌≤◌, ◌<◌, ◌+◌, ◌*◌, ◌⊎◌, ℕ, ℤ, List, [], ◌∷◌, drop, length, map, max, min, All}
 use Rattle.stream_base.specs.declared.kept.Kept.{Kept}
 use Rattle.stream_base.specs.declared.limits.TheConstants.{FINAL, TIME_MAX}
 use Rattle.stream_base.specs.Model.Windows.{within}
@@ -36,6 +36,18 @@ pub record LetsGo {M : Type 0} (left : List M) (old new : Holding M) (steps late
 -- it holds exactly the slices from a time on, up to where it goes
 abbrev pub HoldsFrom : {M : Type 0} → (List ℤ → M) → ℕ → Stored → Holding M → Type 0
 HoldsFrom of_values from s h = h.partials ≡ partials_of of_values (runs_within from h.to s.slices)
+
+-- where the slices from a time on are held before, those from another on are held after
+abbrev pub HoldsOn : {M : Type 0} → (List ℤ → M) → Stored → ℕ → ℕ → Holding M → Holding M → Type 0
+HoldsOn of_values s from to old new = HoldsFrom of_values from s old → HoldsFrom of_values to s new
+
+-- the slices that begin in an interval and aren't held yet
+abbrev pub not_held : {M : Type 0} → Stored → ℕ → ℕ → Holding M → List (List Kept)
+not_held s from to held = runs_within (max from held.to) to s.slices
+
+-- the partials that are left where those of the slices go that begin in an interval
+abbrev pub left_without : {M : Type 0} → Stored → ℕ → ℕ → Holding M → List M
+left_without s from to held = drop (length (runs_within from (min to held.to) s.slices)) held.partials
 
 -- the slice is the first that begins in an interval, and the others begin behind its last time
 pub record IsNextIn (slices : List (List Kept)) (from to : ℕ) (slice : Slice) : Type 0 where

@@ -35,6 +35,11 @@ pub record KnowsAll {M : Type 0} (kind : Kind) (water : ℕ) (s : Stored) (lane 
   pub fresh : lane.stale ≡ false
   pub none_missed : runs_within lane.to (last_end_of kind water) s.slices ≡ []
 
+-- where it knows the slices at a watermark, it knows them after at another
+abbrev pub KnowsOn : {M : Type 0} → (List ℤ → M) → Kind → Stored → ℕ → ℕ → Laned M → Laned M → Type 0
+KnowsOn of_values kind s water later old new =
+    Knows of_values kind water s old → Knows of_values kind later s new
+
 -- only room differs
 pub record IsAsBefore {M : Type 0} (old new : Laned M) : Type 0 where
   pub partials : new.partials ≡ old.partials

@@ -1,5 +1,5 @@
 -- What a late tuple finds of the intervals that hold it, and what it changes.
-use Rattle.std.specs.Prelude.{◌≡◌, ◌+◌, ℕ, List, [], ◌++◌, Option, map, All}
+use Rattle.std.specs.Prelude.{◌≡◌, ◌+◌, ℕ, List, [], ◌++◌, Option, length, map, All}
 use Rattle.stream_base.specs.declared.def.Def.{Def}
 use Rattle.stream_base.specs.declared.former.Former.{Former}
 use Rattle.stream_base.specs.declared.kept.Kept.{Kept}
@@ -14,6 +14,10 @@ use Rattle.time_lanes.specs.Told.{complete_starts, former_at}
 -- the starts of a tumbling or sliding window's complete intervals that hold a time
 abbrev pub complete_holding : Kind → ℕ → ℕ → List ℕ
 complete_holding kind time water = complete_starts (length_of kind) (slide_of kind) time water
+
+-- how many they are
+abbrev pub number_holding : Kind → ℕ → ℕ → ℕ
+number_holding kind time water = length (complete_holding kind time water)
 
 -- what stood of the complete intervals that hold a time
 abbrev pub formers_of : Def → ℕ → ℕ → List Kept → List (Option Former)

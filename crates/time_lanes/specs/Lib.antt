@@ -1,11 +1,15 @@
 pub mod Folds
 pub mod Spans
 pub mod Held
+pub mod Due
 pub mod Told
 pub mod Joined
+pub mod Intervals
 pub mod Walks
 pub mod Calls
 pub mod Lane
+pub mod Stays
 pub mod Late
 pub mod Moves
+pub mod Comes
 pub mod Shared

@@ -1,10 +1,12 @@
 -- What the complete intervals that hold a late tuple share.
 use Rattle.std.specs.Prelude.{◌≤◌, ◌+◌, ◌-◌, ◌*◌, ℕ, List, length, slice_index_or}
+use Rattle.stream_base.specs.declared.def.Def.{Def}
 use Rattle.stream_base.specs.declared.kept.Kept.{Kept}
 use Rattle.stream_base.specs.declared.kind.Kind.{Kind}
 use Rattle.slice_lists.specs.Runs.{runs_within}
 use Rattle.stream_base.specs.Kinds.{length_of}
 use Rattle.agg_store.specs.Stored.{Stored}
+use Rattle.time_lanes.specs.Calls.{OfWindow}
 use Rattle.time_lanes.specs.Late.{complete_holding}
 
 -- the slices that begin in a window's complete intervals that hold a time, from the start of the first one up to the end of the last
@@ -23,3 +25,8 @@ abbrev pub IsSharedAt : Kind → ℕ → ℕ → Stored → ℕ → ℕ → Type
 IsSharedAt kind time water s steps later =
     AreFewAt kind time water s
     → later ≤ steps + length (slices_holding kind time water s) + 4 * length (complete_holding kind time water)
+
+-- the same of the window at a place
+abbrev pub SharesAt : List Def → ℕ → ℕ → ℕ → Stored → ℕ → ℕ → Type 0
+SharesAt windows window time water s steps later =
+    OfWindow windows window (λ w. IsSharedAt w.kind time water s steps later)

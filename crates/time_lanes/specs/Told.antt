@@ -1,5 +1,5 @@
 -- How the intervals of a window are told.
-use Rattle.std.specs.Prelude.{◌+◌, ◌-◌, ◌*◌, ◌/◌, ℕ, List, [], ◌∷◌, Option, None, Some, filter, map, nat_le, nat_lt, if◌then◌else◌}
+use Rattle.std.specs.Prelude.{◌≡◌, ◌+◌, ◌-◌, ◌*◌, ◌/◌, ℕ, List, [], ◌∷◌, Option, None, Some, filter, map, nat_le, nat_lt, if◌then◌else◌}
 use Rattle.std.specs.List.{range_with_len}
 use Rattle.stream_base.specs.declared.change.Change.{Change}
 use Rattle.stream_base.specs.declared.change.Change.TheVariants.{Again, New}
@@ -9,6 +9,7 @@ use Rattle.stream_base.specs.declared.kept.Kept.{Kept}
 use Rattle.stream_base.specs.declared.row.Row.{Row}
 use Rattle.stream_base.specs.Model.Changes.{former_of, row_of}
 use Rattle.stream_base.specs.Model.Windows.{Instance, interval, is_selecting, starts_holding}
+use Rattle.time_lanes.specs.declared.owner.Owner.{Owner}
 
 -- the starts of the complete intervals that hold a time
 abbrev pub complete_starts : ℕ → ℕ → ℕ → ℕ → List ℕ
@@ -50,3 +51,9 @@ abbrev pub told_late : (ℕ → Option Former → Change) → List ℕ → List 
 told_late told [] formers = []
 told_late told (low ∷ lows) [] = []
 told_late told (low ∷ lows) (former ∷ formers) = told low former ∷ told_late told lows formers
+
+-- a row is that of an interval, whatever its tuples are, where this is what it shows
+abbrev pub ShowsInterval : Owner → ℕ → ℕ → Former → Row → Type 0
+ShowsInterval owner low high shown row =
+    (kept : List Kept) → shown ≡ former_of owner.func (interval low high kept)
+    → row ≡ row_of owner.window owner.key.now owner.func (interval low high kept)

@@ -1,14 +1,12 @@
 //! The walk over the intervals that a move of the watermark completes.
-ghost use Rattle.std.specs.Prelude.{◌≡◌, ◌≤◌, ◌<◌, ◌+◌, ◌*◌, ◌^◌, ◌++◌, ◌∷◌, [], length, map, max};
+ghost use Rattle.std.specs.Prelude.{◌≡◌, ◌≤◌, ◌+◌, ◌*◌, ◌++◌, ◌∷◌, [], length, max};
 ghost use Rattle.stream_base.specs.declared.limits.TheConstants.{FINAL};
 ghost use Rattle.stream_base.specs.Vectors.{Adds, room};
-ghost use Rattle.slice_lists.specs.Runs.{runs_within};
-ghost use Rattle.window_laws.specs.Walk.{due_from, next_start};
-ghost use Rattle.agg_store.specs.Stored.{tuples_of};
-ghost use Rattle.time_lanes.specs.Held.{HoldsFrom};
-ghost use Rattle.time_lanes.specs.Told.{new_at};
+ghost use Rattle.window_laws.specs.Walk.{next_start};
 ghost use Rattle.time_lanes.specs.Spans.{last_end};
 ghost use Rattle.time_lanes.specs.Walks.{MayWalk, StartsAt};
+ghost use Rattle.time_lanes.specs.Held.{HoldsOn};
+ghost use Rattle.time_lanes.specs.Due.{PaysOnward, TakesRoom, WhereHeld, ahead, due_in, missing, new_row, rows_from};
 
 use crate::held::Held;
 use crate::next::next_due;
@@ -33,37 +31,20 @@ pub fn tell_due<M: Partial, Q: AggQueue<M>, S: AggStore<M>, L>(
 ) -> u64
     requires walk { MayWalk span.now (S.stored store.now).slices from new }
     requires serves { M.serves owner.func }
-    requires room { length (runs_within (max from (held.old).to)
-        (last_end span.now.length span.now.slide new) (S.stored store.now).slices)
+    requires room { length (ahead span.now (S.stored store.now) new from held.old)
         ≤ (held.old).spare }
-    requires spare { length
-        (due_from span.now.length span.now.slide (tuples_of (S.stored store.now)) from new)
-        ≤ room out.old }
-    ensures told { HoldsFrom M.of_values from (S.stored store.now) held.old
-        → (held.old).to ≤ from + span.now.length
-        → out.new.items ≡ out.old.items
-        ++ map (new_at owner.entry.window owner.entry.key.now owner.entry.func span.now.length
-        (tuples_of (S.stored store.now)))
-        (due_from span.now.length span.now.slide (tuples_of (S.stored store.now)) from new) }
-    ensures held { HoldsFrom M.of_values from (S.stored store.now) held.old
-        → HoldsFrom M.of_values result (S.stored store.now) held.new }
+    requires spare { length (due_in span.now (S.stored store.now) from new) ≤ room out.old }
+    ensures told { WhereHeld M.of_values span.now (S.stored store.now) from held.old (out.new.items
+        ≡ out.old.items ++ rows_from owner.entry span.now (S.stored store.now) from new) }
+    ensures held { HoldsOn M.of_values (S.stored store.now) from result held.old held.new }
     ensures onward { from ≤ result }
     ensures within { result ≤ max from (next_start span.now.length span.now.slide new) }
     ensures to { (held.new).to
         ≤ max (held.old).to (last_end span.now.length span.now.slide new) }
-    ensures adds { Adds (length (due_from span.now.length span.now.slide
-        (tuples_of (S.stored store.now)) from new)) out.old out.new }
-    ensures room { (held.old).spare + length (runs_within (max result (held.new).to)
-        (last_end span.now.length span.now.slide new) (S.stored store.now).slices)
-        ≤ (held.new).spare + length (runs_within (max from (held.old).to)
-        (last_end span.now.length span.now.slide new) (S.stored store.now).slices) }
-    ensures cost { steps.new + (held.new).credit + 10 * length
-        (runs_within (max result (held.new).to)
-        (last_end span.now.length span.now.slide new) (S.stored store.now).slices)
-        ≤ steps.old + (held.old).credit + 10 * length (runs_within (max from (held.old).to)
-        (last_end span.now.length span.now.slide new) (S.stored store.now).slices)
-        + length (due_from span.now.length span.now.slide (tuples_of (S.stored store.now))
-        from new) }
+    ensures adds { Adds (length (due_in span.now (S.stored store.now) from new)) out.old out.new }
+    ensures room { TakesRoom span.now (S.stored store.now) new from result held.old held.new }
+    ensures cost { PaysOnward span.now
+        (S.stored store.now) new from result held.old held.new steps.old steps.new }
 {
     let mut start = from;
     while let Some(low) = next_due(store, span, start, new) {
@@ -86,23 +67,18 @@ fn tell_one<M: Partial, Q: AggQueue<M>, S: AggStore<M>, L>(
     requires start { StartsAt span.now (S.stored store.now).slices low }
     requires serves { M.serves owner.func }
     requires end { low + span.now.length ≤ FINAL }
-    requires room { length (runs_within (max low (held.old).to) (low + span.now.length)
-        (S.stored store.now).slices) ≤ (held.old).spare }
+    requires room { length (missing span.now (S.stored store.now) low held.old) ≤ (held.old).spare }
     requires spare { 1 ≤ room out.old }
-    ensures told { HoldsFrom M.of_values low (S.stored store.now) held.old
-        → (held.old).to ≤ low + span.now.length
-        → out.new.items ≡ out.old.items
-        ++ new_at owner.entry.window owner.entry.key.now owner.entry.func span.now.length
-        (tuples_of (S.stored store.now)) low ∷ [] }
-    ensures held { HoldsFrom M.of_values low (S.stored store.now) held.old
-        → HoldsFrom M.of_values (low + span.now.slide) (S.stored store.now) held.new }
+    ensures told { WhereHeld M.of_values span.now (S.stored store.now) low held.old (out.new.items
+        ≡ out.old.items ++ new_row owner.entry span.now (S.stored store.now) low ∷ []) }
+    ensures held { HoldsOn M.of_values (S.stored store.now) low
+        (low + span.now.slide) held.old held.new }
     ensures to { (held.new).to ≡ max (held.old).to (low + span.now.length) }
     ensures adds { Adds 1 out.old out.new }
-    ensures room { (held.old).spare ≤ (held.new).spare + length
-        (runs_within (max low (held.old).to) (low + span.now.length) (S.stored store.now).slices) }
-    ensures cost { steps.new + (held.new).credit ≤ steps.old + (held.old).credit + 10 * length
-        (runs_within (max low (held.old).to) (low + span.now.length)
-        (S.stored store.now).slices) + 1 }
+    ensures room { (held.old).spare
+        ≤ (held.new).spare + length (missing span.now (S.stored store.now) low held.old) }
+    ensures cost { steps.new + (held.new).credit ≤ steps.old + (held.old).credit
+        + 10 * length (missing span.now (S.stored store.now) low held.old) + 1 }
 {
     let end = low + span.length;
     held.pull(store, low, end, steps);
@@ -115,9 +91,7 @@ fn tell_one<M: Partial, Q: AggQueue<M>, S: AggStore<M>, L>(
 /// How many intervals are due from a start on.
 pub fn count_due<M: Partial, S: AggStore<M>>(store: &S, span: &Span, from: u64, new: u64) -> u64
     requires { MayWalk span.now (S.stored store.now).slices from new }
-    ensures { result
-        ≡ length (due_from span.now.length span.now.slide (tuples_of (S.stored store.now))
-        from new) }
+    ensures { result ≡ length (due_in span.now (S.stored store.now) from new) }
 {
     let mut count = 0;
     let mut start = from;

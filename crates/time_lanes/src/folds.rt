@@ -1,10 +1,7 @@
 //! The folds of overlapping intervals, from parts that they share.
-ghost use Rattle.std.specs.Prelude.{◌≡◌, ◌≤◌, ◌<◌, ◌+◌, ◌-◌, ◌*◌, ◌↔◌, ℕ, true, length};
-ghost use Rattle.stream_base.specs.Model.Windows.{within};
-ghost use Rattle.slice_lists.specs.Runs.{runs_within};
-ghost use Rattle.slice_lists.specs.Slices.{values_of};
-ghost use Rattle.agg_store.specs.Stored.{IsStore, tuples_of};
-ghost use Rattle.time_lanes.specs.Folds.{AreShown, IsHead, MayShare, fold_between, slices_under};
+ghost use Rattle.std.specs.Prelude.{◌≡◌, ◌≤◌, ◌↔◌, true, length};
+ghost use Rattle.agg_store.specs.Stored.{IsStore};
+ghost use Rattle.time_lanes.specs.Folds.{AreShown, IsHead, MayShare, TakesFirst, TakesShared, fold_behind};
 ghost use Rattle.time_lanes.specs.Walks.{MayFold};
 
 use crate::late::Complete;
@@ -60,9 +57,7 @@ pub fn show_together<M: Partial, S: AggStore<M>, L>(
     requires serves { M.serves func }
     requires places { complete.count ≤ length shown.old }
     ensures shown { AreShown func span.now (S.stored store.now) complete complete.count shown.new }
-    ensures cost { steps.new ≤ steps.old
-        + length (slices_under span.now (S.stored store.now).slices complete)
-        + 4 * complete.count }
+    ensures cost { TakesShared span.now (S.stored store.now).slices complete steps.old steps.new }
 {
     let low = complete.first * span.slide + span.length;
     let none = M::unit();
@@ -90,15 +85,9 @@ fn show_first<M: Partial, S: AggStore<M>, L>(
     requires head { IsHead M.of_values span.now (S.stored store.now) complete count low head.now }
     requires places { count ≤ length shown.old }
     ensures shown { AreShown func span.now (S.stored store.now) complete count shown.new }
-    ensures tail { result ≡ fold_between M.of_values (S.stored store.now)
-        (complete.first * span.now.slide + span.now.length)
-        ((complete.first + (count - 1)) * span.now.slide + span.now.length) }
-    ensures cost { steps.new ≤ steps.old
-        + length (runs_within (complete.first * span.now.slide) low (S.stored store.now).slices)
-        + length (runs_within (complete.first * span.now.slide + span.now.length)
-        ((complete.first + (count - 1)) * span.now.slide + span.now.length)
-        (S.stored store.now).slices)
-        + 3 * count }
+    ensures tail { result ≡ fold_behind M.of_values span.now (S.stored store.now) complete count }
+    ensures cost { TakesFirst span.now
+        (S.stored store.now).slices complete count low steps.old steps.new }
 {
     if count == 0 {
         return M::unit();

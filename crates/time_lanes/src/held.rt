@@ -1,9 +1,9 @@
 //! The slices that a lane holds.
-ghost use Rattle.std.specs.Prelude.{◌≡◌, ◌≤◌, ◌+◌, ◌*◌, ◌++◌, [], ◌∷◌, OnOk, drop, length, max, min};
+ghost use Rattle.std.specs.Prelude.{◌≡◌, ◌≤◌, ◌+◌, ◌*◌, ◌++◌, [], ◌∷◌, OnOk, drop, length, max};
 ghost use Rattle.agg_laws.specs.Laws.{total};
-ghost use Rattle.slice_lists.specs.Runs.{AreInOrder, runs_within};
+ghost use Rattle.slice_lists.specs.Runs.{AreInOrder};
 ghost use Rattle.agg_store.specs.Stored.{IsStore};
-ghost use Rattle.time_lanes.specs.Held.{HasMoreRoom, HoldsFrom, LetsGo, partials_of};
+ghost use Rattle.time_lanes.specs.Held.{HasMoreRoom, HoldsOn, LetsGo, left_without, not_held, partials_of};
 
 use crate::next::next_slice;
 use agg_laws::{AggQueue, Steps};
@@ -92,19 +92,15 @@ impl<M: Partial, Q: AggQueue<M>> Held<M, Q> {
 
     /// Takes up the slices from a time on, of those that aren't yet held, up to another.
     pub fn pull<S: AggStore<M>, L>(&mut self, store: &S, from: u64, to: u64, steps: &mut Steps<L>)
-        requires { length (runs_within (max from (self.old).to) to (S.stored store.now).slices)
-            ≤ (self.old).spare }
+        requires { length (not_held (S.stored store.now) from to self.old) ≤ (self.old).spare }
         ensures partials { (self.new).partials ≡ (self.old).partials
-            ++ partials_of M.of_values
-            (runs_within (max from (self.old).to) to (S.stored store.now).slices) }
-        ensures held { HoldsFrom M.of_values from (S.stored store.now) self.old
-            → HoldsFrom M.of_values from (S.stored store.now) self.new }
+            ++ partials_of M.of_values (not_held (S.stored store.now) from to self.old) }
+        ensures held { HoldsOn M.of_values (S.stored store.now) from from self.old self.new }
         ensures to { (self.new).to ≡ max (self.old).to to }
-        ensures spare { (self.new).spare
-            + length (runs_within (max from (self.old).to) to (S.stored store.now).slices)
+        ensures spare { (self.new).spare + length (not_held (S.stored store.now) from to self.old)
             ≡ (self.old).spare }
         ensures cost { steps.new + (self.new).credit ≤ steps.old + (self.old).credit
-            + 10 * length (runs_within (max from (self.old).to) to (S.stored store.now).slices) }
+            + 10 * length (not_held (S.stored store.now) from to self.old) }
         ensures holds { IsStore (S.stored store.now) }
     {
         let mut at = from.max(self.to);
@@ -118,11 +114,10 @@ impl<M: Partial, Q: AggQueue<M>> Held<M, Q> {
 
     /// Lets the slices go that begin from a time on, up to another.
     pub fn shed<S: AggStore<M>, L>(&mut self, store: &S, from: u64, to: u64, steps: &mut Steps<L>)
-        ensures lets_go { LetsGo
-            (drop (length (runs_within from (min to (self.old).to) (S.stored store.now).slices))
-            (self.old).partials) self.old self.new steps.old steps.new }
-        ensures held { from ≤ to → HoldsFrom M.of_values from (S.stored store.now) self.old
-            → HoldsFrom M.of_values to (S.stored store.now) self.new }
+        ensures lets_go { LetsGo (left_without (S.stored store.now) from to self.old) self.old
+            self.new steps.old steps.new }
+        ensures held { from ≤ to
+            → HoldsOn M.of_values (S.stored store.now) from to self.old self.new }
         ensures to { (self.new).to ≡ (self.old).to }
         ensures ordered { AreInOrder (S.stored store.now).slices }
     {

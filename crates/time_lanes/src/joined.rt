@@ -1,11 +1,11 @@
 //! The complete intervals that hold a late tuple, as they show with it, where the order of values
 //! makes no difference: no slice is looked at.
-ghost use Rattle.std.specs.Prelude.{◌≡◌, ◌≤◌, ◌<◌, ◌+◌, ◌*◌, ◌++◌, [], ◌∷◌, ℕ, true, length};
+ghost use Rattle.std.specs.Prelude.{◌≡◌, ◌≤◌, ◌<◌, ◌+◌, ◌*◌, ◌++◌, [], ◌∷◌, true, length, ℕ};
 ghost use Rattle.stream_base.specs.declared.limits.TheConstants.{TIME_MAX};
 ghost use Rattle.stream_base.specs.Model.Functions.{shown_of};
 ghost use Rattle.stream_base.specs.Vectors.{Adds, room};
-ghost use Rattle.time_lanes.specs.Joined.{is_order_free, joined_at, joined_change, shown_with};
-ghost use Rattle.time_lanes.specs.Told.{starts_from, told_late};
+ghost use Rattle.time_lanes.specs.Joined.{is_order_free, joined_change, shown_with};
+ghost use Rattle.time_lanes.specs.Intervals.{told_joined};
 
 use crate::late::Complete;
 use crate::owner::Owner;
@@ -36,10 +36,8 @@ pub fn append_joined(
         → (complete.first + k) * span.now.slide ≤ TIME_MAX }
     requires formers { complete.count ≤ length formers.now }
     requires spare { complete.count ≤ room out.old }
-    ensures told { out.new.items ≡ out.old.items
-        ++ told_late (joined_at owner.entry.window owner.entry.key.now owner.entry.func
-        span.now.length value)
-        (starts_from span.now.slide complete.first complete.count) formers.now }
+    ensures told { out.new.items
+        ≡ out.old.items ++ told_joined owner.entry span.now value complete formers.now }
     ensures adds { Adds complete.count out.old out.new }
 {
     for k in 0..complete.count {

@@ -1,8 +1,5 @@
 //! The lane of one window.
-ghost use Rattle.std.specs.Prelude.{◌≡◌, ◌≤◌, ◌<◌, ◌+◌, ◌-◌, ◌*◌, ◌++◌, ◌||◌, ℕ, List, [], false, true, length, nat_lt, OnOk, IfOk, Option, vec_len, vec_capacity};
-ghost use Rattle.stream_base.specs.declared.def.Def.{Def};
-ghost use Rattle.stream_base.specs.declared.former.Former.{Former};
-ghost use Rattle.stream_base.specs.declared.kept.Kept.{Kept};
+ghost use Rattle.std.specs.Prelude.{◌≡◌, ◌≤◌, ◌+◌, ◌*◌, ◌++◌, ◌||◌, [], true, length, nat_lt, OnOk, IfOk, vec_capacity, ℕ};
 ghost use Rattle.stream_base.specs.declared.kind.Kind.{Kind};
 ghost use Rattle.stream_base.specs.declared.limits.TheConstants.{FINAL, TIME_MAX};
 ghost use Rattle.stream_base.specs.Laws.{completions};
@@ -12,14 +9,16 @@ ghost use Rattle.window_laws.specs.After.{with_tuple};
 ghost use Rattle.window_laws.specs.Due.{first_open};
 ghost use Rattle.window_laws.specs.Settled.{last_end_of as last_end_holding_of};
 ghost use Rattle.window_laws.specs.Walk.{next_start_of};
-ghost use Rattle.agg_store.specs.Stored.{IsSliced, Stored, tuples_of};
-ghost use Rattle.time_lanes.specs.Calls.{AppendsWithin, IsServedUnder, MayComeTo, MayFollow, MayHold, ShowsWindow};
-ghost use Rattle.time_lanes.specs.Lane.{HasMoreRoom, HoldsTheSame, IsRefreshed, IsSameUpTo, Knows, KnowsAll};
-ghost use Rattle.time_lanes.specs.Late.{AreApartAt, IsLate, complete_holding, formers_of};
-ghost use Rattle.time_lanes.specs.Shared.{IsSharedAt};
-ghost use Rattle.time_lanes.specs.Moves.{MayMove, completed_starts, moment, slices_between, slices_due, slices_in_last, slices_until};
+ghost use Rattle.agg_store.specs.Stored.{IsSliced, Stored};
+ghost use Rattle.time_lanes.specs.Calls.{AppendsWithin, GrowsBy, IsServedUnder, MayComeTo, MayFollow, MayHold, OfWindow, ShowsWindow};
+ghost use Rattle.time_lanes.specs.Lane.{HasMoreRoom, HoldsTheSame, IsRefreshed, Knows, KnowsAll, KnowsOn};
+ghost use Rattle.time_lanes.specs.Late.{formers_of, number_holding};
 ghost use Rattle.time_lanes.specs.Joined.{is_order_free};
-ghost use Rattle.time_lanes.specs.Spans.{IsWindowAt, is_served, last_end_of};
+ghost use Rattle.time_lanes.specs.Spans.{is_served, last_end_of};
+ghost use Rattle.time_lanes.specs.Moves.{AtMoments, ByCompleted, ByOpen, ByTouched, HasRoomFor, WhereMayMove, row_count};
+ghost use Rattle.time_lanes.specs.Comes.{OfEachTuple, WhereApart, WhereLate};
+ghost use Rattle.time_lanes.specs.Shared.{SharesAt};
+ghost use Rattle.time_lanes.specs.Stays.{WhereSameUpTo};
 
 use crate::due::{count_due, tell_due};
 use crate::held::Held;
@@ -89,10 +88,10 @@ impl<M: Partial, Q: AggQueue<M>> Lane<M, Q> {
     ) -> Result<u64, NoMemory>
         requires { MayFollow defs.now.windows window (S.stored store.now) old new }
         ensures same { HasMoreRoom self.old self.new }
-        ensures room { (def : Def) → IsWindowAt defs.now.windows window def → OnOk result
-            (length (slices_due def.kind self.new (S.stored store.now) old new) ≤ self.new.spare) }
-        ensures number { (def : Def) → IsWindowAt defs.now.windows window def → IfOk result
-            (λ n. n ≡ length (completed_starts def.kind (tuples_of (S.stored store.now)) old new)) }
+        ensures room { OfWindow defs.now.windows window
+            (λ w. OnOk result (HasRoomFor w.kind (S.stored store.now) old new self.new)) }
+        ensures number { OfWindow defs.now.windows window
+            (λ w. IfOk result (λ n. n ≡ row_count w.kind (S.stored store.now) old new)) }
     {
         let Served { span, .. } = serve(defs, window);
         let start = span.next_start(old);
@@ -129,41 +128,28 @@ impl<M: Partial, Q: AggQueue<M>> Lane<M, Q> {
         requires follows { MayFollow defs.now.windows window (S.stored store.now) old new }
         requires order { old ≤ new }
         requires serves { ShowsWindow M.serves defs.now.windows window }
-        requires room { (def : Def) → IsWindowAt defs.now.windows window def
-            → length (slices_due def.kind self.old (S.stored store.now) old new) ≤ self.old.spare }
-        requires spare { (def : Def) → IsWindowAt defs.now.windows window def
-            → length (completed_starts def.kind (tuples_of (S.stored store.now)) old new)
-            ≤ room out.old }
-        ensures changes { (def : Def) (gone : List Kept) (marks : List ℕ)
-            → IsWindowAt defs.now.windows window def
-            → MayMove M.of_values def.kind old gone (S.stored store.now) self.old
-            → out.new.items ≡ out.old.items ++ completions key.now
-            (moment (gone ++ tuples_of (S.stored store.now)) marks old) new (window, def) }
-        ensures knows { (def : Def) → IsWindowAt defs.now.windows window def
-            → Knows M.of_values def.kind old (S.stored store.now) self.old
-            → Knows M.of_values def.kind new (S.stored store.now) self.new }
-        ensures knows_all { (def : Def) → IsWindowAt defs.now.windows window def
-            → KnowsAll def.kind new (S.stored store.now) self.new }
-        ensures number { (def : Def) → IsWindowAt defs.now.windows window def → vec_len out.new
-            ≡ vec_len out.old
-            + length (completed_starts def.kind (tuples_of (S.stored store.now)) old new) }
+        requires room { OfWindow defs.now.windows window
+            (λ w. HasRoomFor w.kind (S.stored store.now) old new self.old) }
+        requires spare { OfWindow defs.now.windows window
+            (λ w. row_count w.kind (S.stored store.now) old new ≤ room out.old) }
+        ensures changes { WhereMayMove M.of_values defs.now.windows window
+            (S.stored store.now) old self.old
+            (λ def m. out.new.items ≡ out.old.items ++ completions key.now m new (window, def)) }
+        ensures knows { OfWindow defs.now.windows window
+            (λ w. KnowsOn M.of_values w.kind (S.stored store.now) old new self.old self.new) }
+        ensures knows_all { OfWindow defs.now.windows window
+            (λ w. KnowsAll w.kind new (S.stored store.now) self.new) }
+        ensures number { OfWindow defs.now.windows window
+            (λ w. GrowsBy (row_count w.kind (S.stored store.now) old new) out.old out.new) }
         ensures capacity { vec_capacity out.new ≡ vec_capacity out.old }
-        ensures cost { (def : Def) → IsWindowAt defs.now.windows window def
-            → Knows M.of_values def.kind old (S.stored store.now) self.old
-            → KnowsAll def.kind old (S.stored store.now) self.old
-            → steps.new + self.new.credit ≤ steps.old + self.old.credit
-            + 10 * length (slices_between def.kind (S.stored store.now) old new)
-            + length (completed_starts def.kind (tuples_of (S.stored store.now)) old new) }
-        ensures cost_touched { (def : Def) → IsWindowAt defs.now.windows window def
-            → Knows M.of_values def.kind old (S.stored store.now) self.old
-            → steps.new + self.new.credit ≤ steps.old + self.old.credit
-            + 10 * (length (slices_between def.kind (S.stored store.now) old new)
-            + length (slices_in_last def.kind (S.stored store.now) old))
-            + length (completed_starts def.kind (tuples_of (S.stored store.now)) old new) }
-        ensures work { (def : Def) → IsWindowAt defs.now.windows window def
-            → Knows M.of_values def.kind old (S.stored store.now) self.old → steps.new ≤ steps.old
-            + 10 * length (slices_until def.kind (S.stored store.now) old new)
-            + length (completed_starts def.kind (tuples_of (S.stored store.now)) old new) }
+        ensures cost { ByCompleted M.of_values defs.now.windows window
+            (S.stored store.now) old new self.old (λ slices rows. steps.new + self.new.credit
+            ≤ steps.old + self.old.credit + 10 * slices + rows) }
+        ensures cost_touched { ByTouched M.of_values defs.now.windows window
+            (S.stored store.now) old new self.old (λ slices rows. steps.new + self.new.credit
+            ≤ steps.old + self.old.credit + 10 * slices + rows) }
+        ensures work { ByOpen M.of_values defs.now.windows window (S.stored store.now) old new
+            self.old (λ slices rows. steps.new ≤ steps.old + 10 * slices + rows) }
     {
         let Served { def, span } = serve(defs, window);
         let owner = Owner {
@@ -194,12 +180,10 @@ impl<M: Partial, Q: AggQueue<M>> Lane<M, Q> {
     /// holds it.
     pub fn late_count(&self, defs: &Defs, window: u32, time: u64, water: u64) -> u64
         requires { MayComeTo defs.now.windows window time water }
-        ensures number { (def : Def) → IsWindowAt defs.now.windows window def
-            → result ≡ length (complete_holding def.kind time water) }
-        ensures changes { (def : Def) (key : List ℕ) (kept : List Kept) (marks : List ℕ) (x : Kept)
-            → IsWindowAt defs.now.windows window def → x.time ≡ time → result
-            ≡ length (emissions key (moment kept marks water)
-            (with_tuple (moment kept marks water) x) (window, def)) }
+        ensures number { OfWindow defs.now.windows window
+            (λ w. result ≡ number_holding w.kind time water) }
+        ensures changes { OfEachTuple defs.now.windows window time water
+            (λ def key m x. result ≡ length (emissions key m (with_tuple m x) (window, def))) }
     {
         let def = window_at(defs, window);
         complete_at(&Span::of(&def.kind), time, water).count
@@ -221,18 +205,16 @@ impl<M: Partial, Q: AggQueue<M>> Lane<M, Q> {
         requires comes { MayComeTo defs.now.windows window time water }
         requires sliced { IsSliced defs.now.windows (S.stored store.now) }
         requires serves { ShowsWindow M.serves defs.now.windows window }
-        requires spare { (def : Def) → IsWindowAt defs.now.windows window def
-            → length (complete_holding def.kind time water)
-            ≤ room into.old }
-        ensures formers { (def : Def) (gone : List Kept) → IsWindowAt defs.now.windows window def
-            → AreApartAt def.kind time gone → into.new.items
-            ≡ into.old.items ++ formers_of def time water (gone ++ tuples_of (S.stored store.now)) }
-        ensures number { (def : Def) → IsWindowAt defs.now.windows window def → vec_len into.new
-            ≡ vec_len into.old + length (complete_holding def.kind time water) }
+        requires spare { OfWindow defs.now.windows window
+            (λ w. number_holding w.kind time water ≤ room into.old) }
+        ensures formers { WhereApart defs.now.windows window (S.stored store.now) time
+            (λ def kept. into.new.items ≡ into.old.items ++ formers_of def time water kept) }
+        ensures number { OfWindow defs.now.windows window
+            (λ w. GrowsBy (number_holding w.kind time water) into.old into.new) }
         ensures work { AppendsWithin (64 * ((S.stored store.now).reach + 2)) into.old into.new
             steps.old steps.new }
-        ensures shared { (def : Def) → IsWindowAt defs.now.windows window def
-            → IsSharedAt def.kind time water (S.stored store.now) steps.old steps.new }
+        ensures shared { SharesAt defs.now.windows window time water
+            (S.stored store.now) steps.old steps.new }
     {
         let Served { def, span } = serve(defs, window);
         let found = complete_at(&span, time, water);
@@ -260,24 +242,21 @@ impl<M: Partial, Q: AggQueue<M>> Lane<M, Q> {
         requires comes { MayComeTo defs.now.windows window time water }
         requires sliced { IsSliced defs.now.windows (S.stored store.now) }
         requires serves { ShowsWindow M.serves defs.now.windows window }
-        requires formers { (def : Def) → IsWindowAt defs.now.windows window def
-            → length (complete_holding def.kind time water) ≤ length formers.now }
-        requires spare { (def : Def) → IsWindowAt defs.now.windows window def
-            → length (complete_holding def.kind time water)
-            ≤ room out.old }
-        ensures changes { (def : Def) (gone before : List Kept) (marks : List ℕ) (x : Kept)
-            → IsWindowAt defs.now.windows window def → x.value ≡ value
-            → IsLate def time water gone before x formers.now (S.stored store.now) → out.new.items
-            ≡ out.old.items ++ emissions key.now (moment (gone ++ before) marks water)
-            (with_tuple (moment (gone ++ before) marks water) x) (window, def) }
-        ensures number { (def : Def) → IsWindowAt defs.now.windows window def → vec_len out.new
-            ≡ vec_len out.old + length (complete_holding def.kind time water) }
+        requires formers { OfWindow defs.now.windows window
+            (λ w. number_holding w.kind time water ≤ length formers.now) }
+        requires spare { OfWindow defs.now.windows window
+            (λ w. number_holding w.kind time water ≤ room out.old) }
+        ensures changes { WhereLate defs.now.windows window
+            (S.stored store.now) time value water formers.now (λ def m x. out.new.items
+            ≡ out.old.items ++ emissions key.now m (with_tuple m x) (window, def)) }
+        ensures number { OfWindow defs.now.windows window
+            (λ w. GrowsBy (number_holding w.kind time water) out.old out.new) }
         ensures work { AppendsWithin (64 * ((S.stored store.now).reach + 2)) out.old out.new
             steps.old steps.new }
-        ensures shared { (def : Def) → IsWindowAt defs.now.windows window def
-            → IsSharedAt def.kind time water (S.stored store.now) steps.old steps.new }
-        ensures order_free { (def : Def) → IsWindowAt defs.now.windows window def
-            → is_order_free def.func ≡ true → steps.new ≡ steps.old }
+        ensures shared { SharesAt defs.now.windows window time water
+            (S.stored store.now) steps.old steps.new }
+        ensures order_free { OfWindow defs.now.windows window
+            (λ w. is_order_free w.func ≡ true → steps.new ≡ steps.old) }
     {
         let Served { def, span } = serve(defs, window);
         let owner = Owner {
@@ -299,8 +278,8 @@ impl<M: Partial, Q: AggQueue<M>> Lane<M, Q> {
     /// where there is none: a move of the watermark to before it completes nothing.
     pub fn next_end<S: AggStore<M>>(&self, defs: &Defs, window: u32, store: &S, water: u64) -> u64
         requires { IsServedUnder defs.now.windows window (S.stored store.now) water }
-        ensures { (def : Def) (marks : List ℕ) → IsWindowAt defs.now.windows window def
-            → result ≡ first_open (moment (tuples_of (S.stored store.now)) marks water) def }
+        ensures { AtMoments defs.now.windows window (S.stored store.now) water
+            (λ def m. result ≡ first_open m def) }
     {
         let Served { span, .. } = serve(defs, window);
         end_from(store, &span, span.next_start(water))
@@ -310,8 +289,7 @@ impl<M: Partial, Q: AggQueue<M>> Lane<M, Q> {
     pub fn next_start(&self, defs: &Defs, window: u32, time: u64) -> u64
         requires served { is_served defs.now.windows window ≡ true }
         requires time { time ≤ FINAL }
-        ensures { (def : Def) → IsWindowAt defs.now.windows window def
-            → result ≡ next_start_of def.kind time }
+        ensures { OfWindow defs.now.windows window (λ w. result ≡ next_start_of w.kind time) }
     {
         let def = window_at(defs, window);
         Span::of(&def.kind).next_start(time)
@@ -320,8 +298,8 @@ impl<M: Partial, Q: AggQueue<M>> Lane<M, Q> {
     /// The end of the last interval that holds a time: tuples at it lie in none that ends later.
     pub fn last_end_holding(&self, defs: &Defs, window: u32, time: u64) -> u64
         requires { MayHold defs.now.windows window time }
-        ensures end { (def : Def) → IsWindowAt defs.now.windows window def
-            → result ≡ last_end_holding_of def.kind time }
+        ensures end { OfWindow defs.now.windows window
+            (λ w. result ≡ last_end_holding_of w.kind time) }
         ensures within { result ≤ TIME_MAX + TIME_MAX }
     {
         let def = window_at(defs, window);
@@ -333,13 +311,12 @@ impl<M: Partial, Q: AggQueue<M>> Lane<M, Q> {
     pub fn touched(&mut self, time: u64)
         ensures stale { self.new.stale ≡ (self.old.stale || nat_lt time self.old.to) }
         ensures same { HoldsTheSame self.old self.new }
-        ensures knows { (kind : Kind) (water : ℕ) (old new : Stored)
-            → IsSameUpTo kind time old new → Knows M.of_values kind water old self.old
-            → Knows M.of_values kind water new self.new }
-        ensures knows_all { (kind : Kind) (water : ℕ) (old new : Stored)
-            → IsSameUpTo kind time old new → last_end_of kind water ≤ time
+        ensures knows { WhereSameUpTo time
+            (λ kind water old new. Knows M.of_values kind water old self.old
+            → Knows M.of_values kind water new self.new) }
+        ensures knows_all { WhereSameUpTo time (λ kind water old new. last_end_of kind water ≤ time
             → Knows M.of_values kind water old self.old → KnowsAll kind water old self.old
-            → KnowsAll kind water new self.new }
+            → KnowsAll kind water new self.new) }
     {
         self.stale = self.stale || time < self.held.to();
     }

@@ -1,14 +1,13 @@
 //! The complete intervals that hold a time: what stood of them, and what a late tuple changes.
-ghost use Rattle.std.specs.Prelude.{◌≡◌, ◌≤◌, ◌<◌, ◌+◌, ◌*◌, ◌^◌, ◌++◌, ℕ, length, map};
+ghost use Rattle.std.specs.Prelude.{◌≡◌, ◌≤◌, ◌<◌, ◌+◌, ◌*◌, ◌++◌, length, ℕ};
 ghost use Rattle.stream_base.specs.declared.limits.TheConstants.{FINAL, TIME_MAX};
-ghost use Rattle.stream_base.specs.Model.Windows.{within};
 ghost use Rattle.stream_base.specs.Vectors.{Adds, room};
-ghost use Rattle.slice_lists.specs.Slices.{values_of};
 ghost use Rattle.slice_lists.specs.Runs.{runs_within};
-ghost use Rattle.agg_store.specs.Stored.{IsStore, tuples_of};
-ghost use Rattle.time_lanes.specs.Folds.{IsShared, MayShare, slices_under};
-ghost use Rattle.time_lanes.specs.Told.{again_or_new, complete_starts, ended, former_at, starts_from, told_at, told_late};
+ghost use Rattle.agg_store.specs.Stored.{IsStore};
+ghost use Rattle.time_lanes.specs.Folds.{IsShared, MayShare, TakesAlone, TakesShared, fold_between};
+ghost use Rattle.time_lanes.specs.Told.{again_or_new, complete_starts, ended};
 ghost use Rattle.time_lanes.specs.Walks.{MayFold, StartsAt};
+ghost use Rattle.time_lanes.specs.Intervals.{formers_in, starts_in, told_again};
 
 use crate::folds::{FEW, MOST, may_share, show_together};
 use crate::owner::{Owner, former, show};
@@ -37,7 +36,7 @@ pub fn complete_at(span: &Span, time: u64, water: u64) -> Complete
     requires time { time ≤ TIME_MAX }
     requires water { water ≤ FINAL }
     ensures starts { complete_starts span.now.length span.now.slide time water
-        ≡ starts_from span.now.slide result.first result.count }
+        ≡ starts_in span.now result }
     ensures number { result.count
         ≡ length (complete_starts span.now.length span.now.slide time water) }
     ensures within { (k : ℕ) → k < result.count
@@ -80,9 +79,8 @@ pub fn append_formers<M: Partial, S: AggStore<M>, L>(
     requires intervals { MayFold span.now (S.stored store.now).slices complete }
     requires serves { M.serves func }
     requires spare { complete.count ≤ room into.old }
-    ensures told { into.new.items ≡ into.old.items
-        ++ map (former_at func span.now.length (tuples_of (S.stored store.now)))
-        (starts_from span.now.slide complete.first complete.count) }
+    ensures told { into.new.items
+        ≡ into.old.items ++ formers_in func span.now (S.stored store.now) complete }
     ensures adds { Adds complete.count into.old into.new }
     ensures cost { steps.new ≤ steps.old + 64 * ((S.stored store.now).reach + 2) * complete.count }
     ensures shared { IsShared span.now (S.stored store.now).slices complete steps.old steps.new }
@@ -110,9 +108,8 @@ fn append_some_formers<M: Partial, S: AggStore<M>, L>(
     requires intervals { MayFold span.now (S.stored store.now).slices complete }
     requires serves { M.serves func }
     requires spare { complete.count ≤ room into.old }
-    ensures told { into.new.items ≡ into.old.items
-        ++ map (former_at func span.now.length (tuples_of (S.stored store.now)))
-        (starts_from span.now.slide complete.first complete.count) }
+    ensures told { into.new.items
+        ≡ into.old.items ++ formers_in func span.now (S.stored store.now) complete }
     ensures adds { Adds complete.count into.old into.new }
     ensures cost { steps.new ≤ steps.old + 64 * ((S.stored store.now).reach + 2) * complete.count }
     ensures shared { IsShared span.now (S.stored store.now).slices complete steps.old steps.new }
@@ -136,13 +133,11 @@ fn append_each_former<M: Partial, S: AggStore<M>, L>(
     requires intervals { MayFold span.now (S.stored store.now).slices complete }
     requires serves { M.serves func }
     requires spare { complete.count ≤ room into.old }
-    ensures told { into.new.items ≡ into.old.items
-        ++ map (former_at func span.now.length (tuples_of (S.stored store.now)))
-        (starts_from span.now.slide complete.first complete.count) }
+    ensures told { into.new.items
+        ≡ into.old.items ++ formers_in func span.now (S.stored store.now) complete }
     ensures adds { Adds complete.count into.old into.new }
     ensures cost { steps.new ≤ steps.old + 64 * ((S.stored store.now).reach + 2) * complete.count }
-    ensures alone { complete.count ≤ 1 → steps.new ≤ steps.old
-        + length (slices_under span.now (S.stored store.now).slices complete) * complete.count }
+    ensures alone { TakesAlone span.now (S.stored store.now).slices complete steps.old steps.new }
 {
     for k in 0..complete.count {
         let low = (complete.first + k) * span.slide;
@@ -165,13 +160,10 @@ fn append_shared_formers<M: Partial, S: AggStore<M>, L>(
     requires share { MayShare span.now (S.stored store.now).slices complete }
     requires holds { IsStore (S.stored store.now) }
     requires spare { complete.count ≤ room into.old }
-    ensures told { into.new.items ≡ into.old.items
-        ++ map (former_at func span.now.length (tuples_of (S.stored store.now)))
-        (starts_from span.now.slide complete.first complete.count) }
+    ensures told { into.new.items
+        ≡ into.old.items ++ formers_in func span.now (S.stored store.now) complete }
     ensures adds { Adds complete.count into.old into.new }
-    ensures cost { steps.new ≤ steps.old
-        + length (slices_under span.now (S.stored store.now).slices complete)
-        + 4 * complete.count }
+    ensures cost { TakesShared span.now (S.stored store.now).slices complete steps.old steps.new }
 {
     if complete.count <= FEW as u64 {
         let mut shown = [NOTHING; FEW];
@@ -198,13 +190,10 @@ fn append_shown_formers<M: Partial, S: AggStore<M>, L>(
     requires holds { IsStore (S.stored store.now) }
     requires places { complete.count ≤ length shown.old }
     requires spare { complete.count ≤ room into.old }
-    ensures told { into.new.items ≡ into.old.items
-        ++ map (former_at func span.now.length (tuples_of (S.stored store.now)))
-        (starts_from span.now.slide complete.first complete.count) }
+    ensures told { into.new.items
+        ≡ into.old.items ++ formers_in func span.now (S.stored store.now) complete }
     ensures adds { Adds complete.count into.old into.new }
-    ensures cost { steps.new ≤ steps.old
-        + length (slices_under span.now (S.stored store.now).slices complete)
-        + 4 * complete.count }
+    ensures cost { TakesShared span.now (S.stored store.now).slices complete steps.old steps.new }
 {
     show_together(func, span, store, complete, shown, steps);
     let shown = &shown[..];
@@ -229,9 +218,7 @@ pub fn append_late<M: Partial, S: AggStore<M>, L>(
     requires formers { complete.count ≤ length formers.now }
     requires spare { complete.count ≤ room out.old }
     ensures told { out.new.items ≡ out.old.items
-        ++ told_late (told_at owner.entry.window owner.entry.key.now owner.entry.func
-        span.now.length (tuples_of (S.stored store.now)))
-        (starts_from span.now.slide complete.first complete.count) formers.now }
+        ++ told_again owner.entry span.now (S.stored store.now) complete formers.now }
     ensures adds { Adds complete.count out.old out.new }
     ensures cost { steps.new ≤ steps.old + 64 * ((S.stored store.now).reach + 2) * complete.count }
     ensures shared { IsShared span.now (S.stored store.now).slices complete steps.old steps.new }
@@ -263,9 +250,7 @@ fn append_some_late<M: Partial, S: AggStore<M>, L>(
     requires formers { complete.count ≤ length formers.now }
     requires spare { complete.count ≤ room out.old }
     ensures told { out.new.items ≡ out.old.items
-        ++ told_late (told_at owner.entry.window owner.entry.key.now owner.entry.func
-        span.now.length (tuples_of (S.stored store.now)))
-        (starts_from span.now.slide complete.first complete.count) formers.now }
+        ++ told_again owner.entry span.now (S.stored store.now) complete formers.now }
     ensures adds { Adds complete.count out.old out.new }
     ensures cost { steps.new ≤ steps.old + 64 * ((S.stored store.now).reach + 2) * complete.count }
     ensures shared { IsShared span.now (S.stored store.now).slices complete steps.old steps.new }
@@ -292,13 +277,10 @@ fn append_each_late<M: Partial, S: AggStore<M>, L>(
     requires formers { complete.count ≤ length formers.now }
     requires spare { complete.count ≤ room out.old }
     ensures told { out.new.items ≡ out.old.items
-        ++ told_late (told_at owner.entry.window owner.entry.key.now owner.entry.func
-        span.now.length (tuples_of (S.stored store.now)))
-        (starts_from span.now.slide complete.first complete.count) formers.now }
+        ++ told_again owner.entry span.now (S.stored store.now) complete formers.now }
     ensures adds { Adds complete.count out.old out.new }
     ensures cost { steps.new ≤ steps.old + 64 * ((S.stored store.now).reach + 2) * complete.count }
-    ensures alone { complete.count ≤ 1 → steps.new ≤ steps.old
-        + length (slices_under span.now (S.stored store.now).slices complete) * complete.count }
+    ensures alone { TakesAlone span.now (S.stored store.now).slices complete steps.old steps.new }
 {
     for k in 0..complete.count {
         let low = (complete.first + k) * span.slide;
@@ -326,13 +308,9 @@ fn append_shared_late<M: Partial, S: AggStore<M>, L>(
     requires holds { IsStore (S.stored store.now) }
     requires spare { complete.count ≤ room out.old }
     ensures told { out.new.items ≡ out.old.items
-        ++ told_late (told_at owner.entry.window owner.entry.key.now owner.entry.func
-        span.now.length (tuples_of (S.stored store.now)))
-        (starts_from span.now.slide complete.first complete.count) formers.now }
+        ++ told_again owner.entry span.now (S.stored store.now) complete formers.now }
     ensures adds { Adds complete.count out.old out.new }
-    ensures cost { steps.new ≤ steps.old
-        + length (slices_under span.now (S.stored store.now).slices complete)
-        + 4 * complete.count }
+    ensures cost { TakesShared span.now (S.stored store.now).slices complete steps.old steps.new }
 {
     if complete.count <= FEW as u64 {
         let mut shown = [NOTHING; FEW];
@@ -366,13 +344,9 @@ fn append_shown_late<M: Partial, S: AggStore<M>, L>(
     requires places { complete.count ≤ length shown.old }
     requires spare { complete.count ≤ room out.old }
     ensures told { out.new.items ≡ out.old.items
-        ++ told_late (told_at owner.entry.window owner.entry.key.now owner.entry.func
-        span.now.length (tuples_of (S.stored store.now)))
-        (starts_from span.now.slide complete.first complete.count) formers.now }
+        ++ told_again owner.entry span.now (S.stored store.now) complete formers.now }
     ensures adds { Adds complete.count out.old out.new }
-    ensures cost { steps.new ≤ steps.old
-        + length (slices_under span.now (S.stored store.now).slices complete)
-        + 4 * complete.count }
+    ensures cost { TakesShared span.now (S.stored store.now).slices complete steps.old steps.new }
 {
     show_together(owner.func, span, store, complete, shown, steps);
     let shown = &shown[..];
@@ -392,8 +366,8 @@ fn fold_interval<M: Partial, S: AggStore<M>, L>(
     steps: &mut Steps<L>,
 ) -> M
     requires { StartsAt span.now (S.stored store.now).slices low }
-    ensures value { result ≡ M.of_values
-        (values_of (within low (low + span.now.length) (tuples_of (S.stored store.now)))) }
+    ensures value { result
+        ≡ fold_between M.of_values (S.stored store.now) low (low + span.now.length) }
     ensures one_each { steps.new ≤ steps.old
         + length (runs_within low (low + span.now.length) (S.stored store.now).slices) }
     ensures cost { steps.new ≤ steps.old + 64 * ((S.stored store.now).reach + 2) }

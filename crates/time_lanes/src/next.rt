@@ -1,10 +1,10 @@
 //! The next slice of a store, and the next interval that is due.
 ghost use Rattle.std.specs.Prelude.{◌≡◌, [], IfSome, IfNone, length};
 ghost use Rattle.slice_lists.specs.Runs.{runs_within};
-ghost use Rattle.window_laws.specs.Walk.{due_from};
 ghost use Rattle.agg_store.specs.Stored.{IsStore, tuples_of};
 ghost use Rattle.time_lanes.specs.Held.{IsEndFrom, IsNextDue, IsNextIn};
 ghost use Rattle.time_lanes.specs.Walks.{MayWalk, StartsAt};
+ghost use Rattle.time_lanes.specs.Due.{due_in};
 
 use crate::span::Span;
 use agg_store::AggStore;
@@ -32,8 +32,7 @@ pub fn next_due<M: Partial, S: AggStore<M>>(
     requires { MayWalk span.now (S.stored store.now).slices from new }
     ensures some { IfSome result
         (λ low. IsNextDue span.now.length span.now.slide (S.stored store.now) from new low) }
-    ensures none { IfNone result
-        (due_from span.now.length span.now.slide (tuples_of (S.stored store.now)) from new ≡ []) }
+    ensures none { IfNone result (due_in span.now (S.stored store.now) from new ≡ []) }
     ensures holds { IsStore (S.stored store.now) }
 {
     let slice = store.slice_from(from)?;

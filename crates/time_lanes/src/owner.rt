@@ -1,11 +1,10 @@
 //! What an interval shows, from the fold of its tuples.
-ghost use Rattle.std.specs.Prelude.{◌≡◌, ◌<◌, ◌^◌, ℕ, List, length, pos};
+ghost use Rattle.std.specs.Prelude.{◌≡◌, ◌<◌, ◌^◌, pos, ℕ};
 ghost use Rattle.stream_base.specs.declared.func.Func.{Func};
-ghost use Rattle.stream_base.specs.declared.kept.Kept.{Kept};
-ghost use Rattle.stream_base.specs.Model.Changes.{former_of, row_of};
-ghost use Rattle.stream_base.specs.Model.Windows.{Instance, interval, within};
-ghost use Rattle.slice_lists.specs.Slices.{values_of};
-ghost use Rattle.time_lanes.specs.Told.{former_if};
+ghost use Rattle.stream_base.specs.Model.Changes.{former_of};
+ghost use Rattle.stream_base.specs.Model.Windows.{Instance};
+ghost use Rattle.time_lanes.specs.Told.{ShowsInterval, former_if};
+ghost use Rattle.time_lanes.specs.Folds.{WhereFolded};
 
 use aggregates::Partial;
 use stream_base::{Former, Func, KeyText, Row, Shown};
@@ -21,9 +20,7 @@ pub struct Owner<'a> {
 impl Owner<'_> {
     /// The row of an interval that shows this.
     pub fn row(&self, low: u64, high: u64, shown: Former) -> Row
-        ensures { (kept : List Kept) → shown ≡ former_of self.now.func (interval low high kept)
-            → result ≡ row_of self.now.window self.now.key.now self.now.func
-            (interval low high kept) }
+        ensures { ShowsInterval self.now low high shown result }
     {
         Row {
             window: self.window,
@@ -39,9 +36,7 @@ impl Owner<'_> {
 /// What an interval shows whose tuples come to this.
 pub fn show<M: Partial>(func: Func, partial: &M) -> Former
     requires { M.serves func }
-    ensures { (kept : List Kept) (low high : ℕ)
-        → partial.now ≡ M.of_values (values_of (within low high kept)) → length kept < 2 ^ 64
-        → result ≡ former_of func (interval low high kept) }
+    ensures { WhereFolded M.of_values partial.now (λ i. result ≡ former_of func i) }
 {
     Former {
         number: count_of(partial.show(Func::Count)),

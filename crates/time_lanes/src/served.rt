@@ -1,8 +1,8 @@
 //! The window that a lane serves.
 ghost use Rattle.std.specs.Prelude.{◌≡◌, All, true};
 ghost use Rattle.stream_base.specs.Kinds.{IsKindWithin, is_timed, length_of, slide_of};
-ghost use Rattle.agg_store.specs.Stored.{Stored};
-ghost use Rattle.time_lanes.specs.Spans.{ArePartedAt, IsServedOver, IsWindowAt, is_served};
+ghost use Rattle.time_lanes.specs.Spans.{IsWindowAt, is_served};
+ghost use Rattle.time_lanes.specs.Walks.{PartsStores};
 
 use crate::span::Span;
 use stream_base::{Def, Defs};
@@ -23,8 +23,7 @@ pub fn serve(defs: &Defs, window: u32) -> Served
     ensures within { IsKindWithin result.def.kind }
     ensures length { result.span.length ≡ length_of result.def.kind }
     ensures slide { result.span.slide ≡ slide_of result.def.kind }
-    ensures parted { (s : Stored) → IsServedOver defs.now.windows window s
-        → ArePartedAt result.span.length result.span.slide s.slices }
+    ensures parted { PartsStores defs.now.windows window result.span }
 {
     let def = window_at(defs, window);
     let span = Span::of(&def.kind);
