@@ -5,7 +5,7 @@ ghost use Rattle.stream_base.specs.Laws.{completions};
 ghost use Rattle.stream_base.specs.Model.Changes.{emissions, retractions};
 ghost use Rattle.stream_base.specs.Vectors.{Adds, room};
 ghost use Rattle.count_shift.specs.Lane.{Follows, HasMoreRoom, HasRoom, IsPaidFor, LosesFirst, TakesIn};
-ghost use Rattle.count_shift.specs.Counting.{IsCount, IsEvents, IsNextPosition, count_of, kept_at, later, move_changes, next_filled, put_changes, upper};
+ghost use Rattle.count_shift.specs.Counting.{IsCount, IsEvents, IsNextPosition, count_of, later, move_changes, next_filled, put_changes, upper};
 ghost use Rattle.count_shift.specs.Followed.{AtFollowed, FollowsTuple, OfEachFollowed, OfEachNext, WhereTaken, WhereTakenNext};
 
 use crate::events_window::EventsWindow;
@@ -87,35 +87,30 @@ impl CountLane {
         window: u32,
         def: &Def,
         key: &KeyText,
-        pos: u64,
-        time: u64,
-        value: i64,
+        x: Kept,
         water: u64,
         out: &mut Vec<Change>,
         steps: &mut Steps<L>,
     ) -> Shifted
         requires events { IsEvents (def.now).kind }
         requires room { HasRoom self.old }
-        requires spare { put_changes (count_of (def.now).kind) self.old.kept time water
+        requires spare { put_changes (count_of (def.now).kind) self.old.kept x.time water
             ≤ room out.old }
         ensures rank { (kept : List Kept)
-            → Follows (count_of (def.now).kind) (min time water) kept self.old
-            → result.from_rank ≡ upper kept time }
-        ensures stands { slice_get self.new.kept (result.from_rank - self.old.gone)
-            ≡ Some (kept_at pos time value) }
-        ensures takes { TakesIn (kept_at pos time value) self.old self.new }
-        ensures follows { FollowsTuple (count_of (def.now).kind)
-            (kept_at pos time value) self.old self.new }
-        ensures next { (next : ℕ) → IsNextPosition self.old.kept pos → pos < next
+            → Follows (count_of (def.now).kind) (min x.time water) kept self.old
+            → result.from_rank ≡ upper kept x.time }
+        ensures stands { slice_get self.new.kept (result.from_rank - self.old.gone) ≡ Some x }
+        ensures takes { TakesIn x self.old self.new }
+        ensures follows { FollowsTuple (count_of (def.now).kind) x self.old self.new }
+        ensures next { (next : ℕ) → IsNextPosition self.old.kept x.position → x.position < next
             → IsNextPosition self.new.kept next }
-        ensures none_gone { WhereTaken (count_of (def.now).kind) (min time water) self.old water
-            (kept_at pos time value)
-            (λ old new. retractions key.now old new (window, def.now) ≡ []) }
-        ensures changes { WhereTakenNext (count_of (def.now).kind) (min time water) self.old water
-            (kept_at pos time value) (λ old new. out.new.items
+        ensures none_gone { WhereTaken (count_of (def.now).kind) (min x.time water)
+            self.old water x (λ old new. retractions key.now old new (window, def.now) ≡ []) }
+        ensures changes { WhereTakenNext (count_of (def.now).kind) (min x.time water)
+            self.old water x (λ old new. out.new.items
             ≡ out.old.items ++ emissions key.now old new (window, def.now)) }
         ensures adds { Adds
-            (put_changes (count_of (def.now).kind) self.old.kept time water) out.old out.new }
+            (put_changes (count_of (def.now).kind) self.old.kept x.time water) out.old out.new }
         ensures cost { steps.new
             ≤ steps.old + 2 * count_of (def.now).kind * (vec_len out.new - vec_len out.old) }
     {
@@ -126,15 +121,10 @@ impl CountLane {
             count: count_of(&def.kind) as usize,
             gone: self.gone,
         };
-        let rank = upper(&self.items, time);
+        let rank = upper(&self.items, x.time);
         let reached = upper(&self.items, water);
         let stood = reached / window.count;
-        let stand = upper_after(&self.items, reached, time, water) as usize / window.count;
-        let x = Kept {
-            position: pos,
-            time,
-            value,
-        };
+        let stand = upper_after(&self.items, reached, x.time, water) as usize / window.count;
         self.items.insert(rank, x).unwrap();
         window.append_again(&self.items, rank, rank / window.count, stood, out, steps);
         window.append_new(&self.items, stood, stand, out, steps);

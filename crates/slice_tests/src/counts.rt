@@ -5,7 +5,7 @@ use count_shift::{CountLane, Shifted};
 use std::alloc::Global;
 use std::process::Abort;
 use std::test::Fail;
-use stream_base::{Change, Def, FINAL, Former, Func, KeyText, Kind, NoMemory, Row, Shown};
+use stream_base::{Change, Def, FINAL, Former, Func, Kept, KeyText, Kind, NoMemory, Row, Shown};
 
 // Keeps the steps of a test apart.
 struct Work;
@@ -74,13 +74,16 @@ impl Pairs {
     fn put(&mut self, pos: u64, time: u64, value: i64, water: u64) -> Result<u64, NoMemory> {
         let changes = self.lane.reserve(2, time, water)?;
         self.changes.reserve(changes as usize)?;
+        let x = Kept {
+            position: pos,
+            time,
+            value,
+        };
         let Shifted { from_rank } = self.lane.put(
             0,
             &PAIRS,
             &self.key,
-            pos,
-            time,
-            value,
+            x,
             water,
             &mut self.changes,
             &mut self.steps,

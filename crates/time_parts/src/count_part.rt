@@ -137,8 +137,7 @@ impl<M: Partial> KeyPart<M> for CountPart {
         steps: &mut Steps<L>,
     ) {
         let def = window_at(defs, window);
-        self.lane
-            .put(window, &def, key, x.position, x.time, x.value, water, out, steps);
+        self.lane.put(window, &def, key, x, water, out, steps);
         let settled_by = water.saturating_sub(defs.lateness());
         self.lane.drop_settled(count_of(&def.kind), settled_by);
     }

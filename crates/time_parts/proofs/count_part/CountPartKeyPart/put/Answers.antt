@@ -1,12 +1,9 @@
 -- Each change folds the tuples of an instance as they were and as they are; and those leave that none shifts.
-use Rattle.std.proofs.Common.{◌≡◌, ◌∙◌, ◌≤◌, ◌+◌, ◌-◌, ◌*◌, ap, arith, of_z, rules, subst, sym, to_z, vec_len, w64, zero-le}
-use Rattle.std.proofs.lemmas.Int.{to_z-of_z}
-use Rattle.std.specs.Prelude.{◌++◌, min}
+use Rattle.std.proofs.Common.{◌≡◌, ◌∙◌, ◌≤◌, ◌+◌, ◌-◌, ◌*◌, ap, arith, subst, sym, vec_len, zero-le}
+use Rattle.std.specs.Prelude.{min}
 use Rattle.stream_base.specs.declared.def.Def.{Def}
-use Rattle.stream_base.specs.Model.Changes.{emissions, retractions}
 use Rattle.window_laws.specs.After.{with_tuple}
 use Rattle.count_shift.specs.Counting.{count_of}
-use Rattle.key_windows.specs.Calls.{kept_at}
 use Rattle.key_parts.specs.Calls.{window_at}
 use Rattle.key_parts.specs.Work.{change_work}
 use Rattle.time_parts.specs.Counted.{Counts}
@@ -22,8 +19,7 @@ counts_of g c = ap (λ (w : Def). count_of w.kind) c.window_at-def.ensures.stand
 pub returns-clause-stands : goal.returns-clause-stands
 returns-clause-stands g c = λ m n before more t.
     let d = c.args.defs.now in
-    let x = kept_at c.args.x.position c.args.x.time (to_z w64 (of_z w64 c.args.x.value)) in
-    subst (λ v. Counts d c.args.window (with_tuple m (kept_at c.args.x.position c.args.x.time v)) c.drop_settled.new.self) (to_z-of_z w64 c.args.x.value (search rules))
+    let x = c.args.x in
     (counts_without d c.args.window (with_tuple m x) c.put.new.self c.drop_settled.new.self c.count_of.result c.saturating_sub-settled_by.result (c.count_of.ensures.value ∙ counts_of g c)
     (omega (arith, c.saturating_sub-settled_by.ensures, c.lateness.ensures.value, t.water_is)) c.drop_settled.ensures.follows
     (counts_put d c.args.window m x c.self.inside.lane c.put.new.self (count_of c.window_at-def.result.kind) (counts_of g c) t.step.in_time c.put.ensures.follows (subst (Counts d c.args.window m) (sym c.self.view_is) t.stood)))
@@ -32,9 +28,8 @@ pub returns-clause-changes : goal.returns-clause-changes
 returns-clause-changes g c = λ m n before more t.
     let d = c.args.defs.now in
     let w = window_at d c.args.window in
-    let x = kept_at c.args.x.position c.args.x.time (to_z w64 (of_z w64 c.args.x.value)) in
+    let x = c.args.x in
     let follows = follows_from d c.args.window m c.self.inside.lane c.args.self.now (count_of c.window_at-def.result.kind) (min c.args.x.time c.args.water) c.self.view_is (counts_of g c) (omega (arith, t.step.in_time, t.water_is)) t.stood in
-    subst (λ v. c.put.new.out.items ≡ c.args.out.now.items ++ (retractions c.args.key.now m (with_tuple m (kept_at c.args.x.position c.args.x.time v)) (c.args.window, w) ++ emissions c.args.key.now m (with_tuple m (kept_at c.args.x.position c.args.x.time v)) (c.args.window, w))) (to_z-of_z w64 c.args.x.value (search rules))
     (told_by_put c.args.window c.args.key.now w c.window_at-def.result m x c.args.water c.args.out.now.items c.put.new.out.items t.water_is c.window_at-def.ensures.stands
     (c.put.ensures.none_gone m.kept m.marks follows) (c.put.ensures.changes m.kept m.marks follows (next_of_lists m c.args.x.position t.step.lists)))
 
