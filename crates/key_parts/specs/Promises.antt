@@ -10,7 +10,7 @@ use Rattle.window_laws.specs.After.{at_water, with_mark, with_tuple}
 use Rattle.window_laws.specs.Settled.{without_first}
 use Rattle.agg_store.specs.Stored.{Stored}
 use Rattle.key_windows.specs.Calls.{IsWater}
-use Rattle.key_parts.specs.Calls.{LosesSettled, Prepares, Standing, StandsAt, TakesMark, TakesTuple, window_kind, window_at}
+use Rattle.key_parts.specs.Calls.{LosesSettled, Prepares, Standing, StandsAt, TakesMark, TakesTuple, window_at, window_kind}
 use Rattle.key_parts.specs.Moves.{SettlesUpTo}
 use Rattle.key_parts.specs.Work.{CostsAtMost, most_moved, paid_work}
 
@@ -23,18 +23,18 @@ window_changes d window key old new =
 abbrev pub window_completions : Definitions → ℕ → List ℕ → Moment → ℕ → List Change
 window_completions d window key m new = completions key m new (window, window_at d window)
 
--- whether a part has missed something of the window at a place by a watermark, with this store
-abbrev pub Missing : Type 0 → Type 1
-Missing P = Definitions → ℕ → ℕ → Stored → P → Type 0
+-- at a watermark, with this store, the part of the window at a place has missed nothing
+abbrev pub BeingAhead : Type 0 → Type 1
+BeingAhead P = Definitions → ℕ → ℕ → Stored → P → Type 0
 
 -- a call makes room for a tuple or a mark at a time under a watermark, as many changes as it answers for
-abbrev pub PreparesEntry : {P E : Type 0} → Standing P → Missing P → (P → ℕ) → (Definitions → ℕ → ℕ → ℕ → P → Type 0) → (Definitions → ℕ → ℕ → ℕ → P → ℕ)
+abbrev pub PreparesEntry : {P E : Type 0} → Standing P → BeingAhead P → (P → ℕ) → (Definitions → ℕ → ℕ → ℕ → P → Type 0) → (Definitions → ℕ → ℕ → ℕ → P → ℕ)
     → Definitions → ℕ → ℕ → ℕ → P → P → Result ℕ E → Type 0
 PreparesEntry stands is_ahead credit_of is_ready room_for d window time water old new answer =
     Prepares (stands d window) (is_ahead d window) credit_of (is_ready d window time water) (room_for d window time water) old new answer
 
 -- a call makes room for a move from one watermark to another, with this store
-abbrev pub PreparesMove : {P E : Type 0} → Standing P → Missing P → (P → ℕ) → (Definitions → ℕ → Stored → ℕ → ℕ → P → Type 0) → (Definitions → ℕ → Stored → ℕ → ℕ → P → ℕ)
+abbrev pub PreparesMove : {P E : Type 0} → Standing P → BeingAhead P → (P → ℕ) → (Definitions → ℕ → Stored → ℕ → ℕ → P → Type 0) → (Definitions → ℕ → Stored → ℕ → ℕ → P → ℕ)
     → Definitions → ℕ → Stored → ℕ → ℕ → P → P → Result ℕ E → Type 0
 PreparesMove stands is_ahead credit_of can_move room_for d window s old new part part_then answer =
     Prepares (stands d window) (is_ahead d window) credit_of (can_move d window s old new) (room_for d window s old new) part part_then answer
@@ -43,6 +43,10 @@ module _ {P : Type 0} (stands : Standing P) (d : Definitions) (window : ℕ) whe
   -- this holds of each key for which a part stands at a watermark, with this store
   abbrev pub ForKey : ℕ → Stored → P → (Moment → ℕ → Type 0) → Type 0
   ForKey water s part holds = (m : Moment) (n : ℕ) → StandsAt stands d window water s part m n → holds m n
+
+  -- a part was asked: it has kept what stands of the instances that a tuple at a time changes, of each key for which it stood
+  abbrev pub WasAsked : (Definitions → ℕ → Moment → ℕ → P → Type 0) → ℕ → ℕ → Stored → P → P → Type 0
+  WasAsked is_asked time water s old new = ForKey water s old (λ m n. is_asked d window m time new)
 
   -- a tuple comes to a part that has kept what it changes of some key
   abbrev pub TupleComes : (Definitions → ℕ → Moment → ℕ → P → Type 0) → ℕ → Kept → Stored → P → Type 0
@@ -65,7 +69,7 @@ module _ {P : Type 0} (stands : Standing P) (d : Definitions) (window : ℕ) whe
       ForTuple is_asked water x s old (λ m n before more. longer.items ≡ out.items ++ window_changes d window key m (with_tuple m x))
 
   -- a part that had missed nothing hasn't by a tuple either, which isn't before what is complete
-  abbrev pub AheadOfTuple : (Definitions → ℕ → Moment → ℕ → P → Type 0) → (Definitions → ℕ → ℕ → ℕ) → Missing P → ℕ → Kept → Stored → P → P → Type 0
+  abbrev pub AheadOfTuple : (Definitions → ℕ → Moment → ℕ → P → Type 0) → (Definitions → ℕ → ℕ → ℕ) → BeingAhead P → ℕ → Kept → Stored → P → P → Type 0
   AheadOfTuple is_asked complete_by is_ahead water x s old new =
       ForTuple is_asked water x s old (λ m n before more. complete_by d window water ≤ x.time → is_ahead d window water before old → is_ahead d window water s new)
 
@@ -90,7 +94,7 @@ module _ {P : Type 0} (stands : Standing P) (d : Definitions) (window : ℕ) whe
       ForMark water time s old (λ m n before. longer.items ≡ out.items ++ window_changes d window key m (with_mark m time))
 
   -- a part that had missed nothing hasn't by a mark either, which isn't before what is complete
-  abbrev pub AheadOfMark : (Definitions → ℕ → ℕ → ℕ) → Missing P → ℕ → ℕ → Stored → P → P → Type 0
+  abbrev pub AheadOfMark : (Definitions → ℕ → ℕ → ℕ) → BeingAhead P → ℕ → ℕ → Stored → P → P → Type 0
   AheadOfMark complete_by is_ahead water time s old new =
       ForMark water time s old (λ m n before. complete_by d window water ≤ time → is_ahead d window water before old → is_ahead d window water s new)
 
@@ -104,11 +108,11 @@ module _ {P : Type 0} (stands : Standing P) (d : Definitions) (window : ℕ) whe
       ForKey old s part (λ m n. longer.items ≡ out.items ++ window_completions d window key m new)
 
   -- a part that was moved has missed nothing by the new watermark
-  abbrev pub AheadMoved : Missing P → ℕ → ℕ → Stored → P → P → Type 0
+  abbrev pub AheadMoved : BeingAhead P → ℕ → ℕ → Stored → P → P → Type 0
   AheadMoved is_ahead old new s part part_then = ForKey old s part (λ m n. is_ahead d window new s part_then)
 
   -- the most that a move takes on credit which appends so many rows, of a part that has missed nothing: what it takes up in this store
-  abbrev pub PaysAhead : Missing P → (P → ℕ) → (Definitions → ℕ → Stored → ℕ → ℕ → ℕ) → ℕ → ℕ → Stored → P → P → ℕ → ℕ → ℕ → Type 0
+  abbrev pub PaysAhead : BeingAhead P → (P → ℕ) → (Definitions → ℕ → Stored → ℕ → ℕ → ℕ) → ℕ → ℕ → Stored → P → P → ℕ → ℕ → ℕ → Type 0
   PaysAhead is_ahead credit_of taken_up old new s part part_then rows steps steps_then =
       ForKey old s part (λ m n. is_ahead d window old s part → CostsAtMost (paid_work (window_kind d window) s.reach (taken_up d window s old new) rows) steps steps_then (credit_of part) (credit_of part_then))
 
@@ -154,6 +158,6 @@ module _ {P : Type 0} (stands : Standing P) (d : Definitions) (window : ℕ) whe
       ForLoss water old (λ m n time before more after. time ≤ settles_at d window water old → stands d window m more after new)
 
   -- a part that had missed nothing has missed nothing then
-  abbrev pub AheadAfterLoss : Missing P → ℕ → P → P → Type 0
+  abbrev pub AheadAfterLoss : BeingAhead P → ℕ → P → P → Type 0
   AheadAfterLoss is_ahead water old new =
       ForLoss water old (λ m n time before more after. is_ahead d window water before old → is_ahead d window water after new)

@@ -5,7 +5,7 @@ ghost use Rattle.stream_base.specs.Vectors.{room};
 ghost use Rattle.agg_store.specs.Stored.{Stored};
 ghost use Rattle.key_windows.specs.Calls.{IsAccepted, moment};
 ghost use Rattle.key_parts.specs.Calls.{MayCome, MayLeadTo, MayMove, MayTell, MissesNoMore, StandsAsBefore, StandsAt, StandsForSome, StandsOnUnder, window_kind};
-ghost use Rattle.key_parts.specs.Promises.{AddsByMark, AddsByMove, AddsByTuple, AheadAfterLoss, AheadMoved, AheadOfMark, AheadOfTuple, ForKey, MarkComes, NoneCompleteBefore, PaysAhead, PaysBehind, PreparesEntry, PreparesMove, SettlesTo, SettlesToEach, SomeCompleteAt, StandsAfterLoss, StandsMoved, StandsWithMark, StandsWithTuple, StepsAtMost, TupleComes};
+ghost use Rattle.key_parts.specs.Promises.{AddsByMark, AddsByMove, AddsByTuple, AheadAfterLoss, AheadMoved, AheadOfMark, AheadOfTuple, MarkComes, NoneCompleteBefore, PaysAhead, PaysBehind, PreparesEntry, PreparesMove, SettlesTo, SettlesToEach, SomeCompleteAt, StandsAfterLoss, StandsMoved, StandsWithMark, StandsWithTuple, StepsAtMost, TupleComes, WasAsked};
 ghost use Rattle.key_parts.specs.Work.{AddsAtMost, SpendsOn, added, change_work, fold_work};
 
 use agg_laws::Steps;
@@ -119,8 +119,8 @@ pub trait KeyPart<M: Partial>: Drop {
         requires accepted { IsAccepted defs.now time water }
         requires ready { is_ready defs.now window time water self.old }
         ensures stays { StandsAsBefore (stands defs.now window) self.old self.new }
-        ensures asked { ForKey stands defs.now window water (S.stored store.now) self.old
-            (λ m n. is_asked defs.now window m time self.new) }
+        ensures asked { WasAsked stands defs.now window is_asked time water (S.stored store.now)
+            self.old self.new }
         ensures ready { is_ready defs.now window time water self.new }
         ensures room { put_room defs.now window time water self.new
             ≡ put_room defs.now window time water self.old }

@@ -6,10 +6,7 @@ use Rattle.stream_base.specs.Model.Changes.{Moment}
 use Rattle.window_laws.specs.After.{at_water, with_mark, with_tuple}
 use Rattle.agg_store.specs.Stored.{Stored}
 use Rattle.key_parts.specs.Calls.{LosesSettled, Standing, StandsAt, TakesMark, TakesTuple}
-
--- at a watermark the part of the window at a place has missed nothing, with a store
-abbrev pub BeingAhead : Type 0 → Type 1
-BeingAhead P = Definitions → ℕ → ℕ → Stored → P → Type 0
+use Rattle.key_parts.specs.Promises.{BeingAhead}
 
 module _ {P : Type 0} (stands : Standing P) (d : Definitions) where
   -- room was made: the part stands for the same, and is ready

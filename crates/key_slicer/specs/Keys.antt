@@ -8,7 +8,7 @@ use Rattle.stream_base.specs.Model.Slices.{is_settled, unsettled}
 use Rattle.agg_store.specs.Stored.{tuples_of}
 use Rattle.key_windows.specs.Calls.{IsWater, moment}
 use Rattle.key_parts.specs.Calls.{Standing}
-use Rattle.key_parts.specs.Promises.{Missing}
+use Rattle.key_parts.specs.Promises.{BeingAhead}
 use Rattle.held_laws.specs.Settling.{NoneSettled}
 use Rattle.key_slicer.specs.declared.key_state.KeyState.{KeyState}
 use Rattle.key_slicer.specs.Parts.{AllAhead}
@@ -59,5 +59,5 @@ module _ {M T P : Type 0} (stands : Standing P) (d : Definitions) where
       → (water < due) × (is_settled d (moment kept marks due) x ≡ true)
 
 -- no part of a key has missed anything at a watermark
-abbrev pub KeyAhead : {M T P : Type 0} → Missing P → Definitions → ℕ → KeyState M T P → Type 0
+abbrev pub KeyAhead : {M T P : Type 0} → BeingAhead P → Definitions → ℕ → KeyState M T P → Type 0
 KeyAhead is_ahead d water k = AllAhead is_ahead d water k.store k.parts.list.items

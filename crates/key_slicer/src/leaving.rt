@@ -28,7 +28,7 @@ impl<M: Partial, T: AggTree<M>, P: KeyPart<M>> KeyState<M, T, P> {
             ≤ all_credit P.credit self.old.parts.list.items }
         ensures ahead { KeyAhead P.is_ahead defs.now water self.old → KeyAhead P.is_ahead defs.now
             water self.new }
-        ensures marks { HasFewSettledMarks P.settles_at defs.now water self.old.parts.list.items
+        ensures marks { HasFewSettledMarks P.settles_at defs.now water self.old.parts
             self.new.store }
         ensures lean { EachPart (λ i part. P.is_lean defs.now i water part)
             self.new.parts.list.items }
@@ -50,7 +50,7 @@ impl<M: Partial, T: AggTree<M>, P: KeyPart<M>> KeyState<M, T, P> {
             ≤ all_credit P.credit self.old.parts.list.items }
         ensures ahead { KeyAhead P.is_ahead defs.now water self.old → KeyAhead P.is_ahead defs.now
             water self.new }
-        ensures marks { HasFewSettledMarks P.settles_at defs.now water self.old.parts.list.items
+        ensures marks { HasFewSettledMarks P.settles_at defs.now water self.old.parts
             self.new.store }
     {
         let time = self.parts.first_unsettled(defs, water);

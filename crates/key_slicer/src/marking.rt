@@ -3,9 +3,9 @@ ghost use Rattle.std.specs.Prelude.{◌≤◌, ◌*◌};
 ghost use Rattle.stream_base.specs.Vectors.{room};
 ghost use Rattle.agg_store.specs.Stored.{Stored};
 ghost use Rattle.key_parts.specs.Calls.{MayCome};
-ghost use Rattle.key_parts.specs.Work.{AddsAtMost, SpendsOn, added, fold_work};
-ghost use Rattle.key_slicer.specs.Parts.{AllStandAt, all_credit};
-ghost use Rattle.key_slicer.specs.Promises.{AllAddByMark, AllAheadOfMark, AllPrepareEntry, AllReady, AllStandWithMark, MarkComesToAll, entry_rooms};
+ghost use Rattle.key_parts.specs.Work.{AddsAtMost, added, fold_work};
+ghost use Rattle.key_slicer.specs.Parts.{AllStandAt};
+ghost use Rattle.key_slicer.specs.Promises.{AllAddByMark, AllAheadOfMark, AllPrepareEntry, AllReady, AllSpend, AllStandWithMark, MarkComesToAll, entry_rooms};
 
 use crate::parts::{Parts, sum_of, window_count};
 use agg_laws::{AggTree, Steps};
@@ -20,7 +20,7 @@ impl<M: Partial, P: KeyPart<M>> Parts<M, P> {
         requires { (s : Stored)
             × MayCome (AllStandAt P.stands defs.now) time water s self.old.list.items }
         ensures { AllPrepareEntry P.stands P.is_ahead P.credit P.is_ready P.mark_room defs.now
-            time water self.old.list.items self.new.list.items result }
+            time water self.old self.new result }
     {
         let mut room: u64 = 0;
         for window in 0..window_count(defs) {
@@ -41,20 +41,18 @@ impl<M: Partial, P: KeyPart<M>> Parts<M, P> {
         out: &mut Vec<Change>,
         steps: &mut Steps<L>,
     )
-        requires takes { MarkComesToAll P.stands defs.now water time store.now self.old.list.items }
-        requires ready { AllReady P.is_ready defs.now time water self.old.list.items }
-        requires spare { entry_rooms P.mark_room defs.now time water self.old.list.items
-            ≤ room out.old }
-        ensures stands { AllStandWithMark P.stands defs.now water time store.now
-            self.old.list.items self.new.list.items }
-        ensures changes { AllAddByMark P.stands defs.now water time store.now self.old.list.items
-            key.now out.old out.new }
-        ensures adds { AddsAtMost (entry_rooms P.mark_room defs.now time water self.old.list.items)
+        requires takes { MarkComesToAll P.stands defs.now water time store.now self.old }
+        requires ready { AllReady P.is_ready defs.now time water self.old }
+        requires spare { entry_rooms P.mark_room defs.now time water self.old ≤ room out.old }
+        ensures stands { AllStandWithMark P.stands defs.now water time store.now self.old self.new }
+        ensures changes { AllAddByMark P.stands defs.now water time store.now self.old key.now
             out.old out.new }
-        ensures cost { SpendsOn (all_credit P.credit) (fold_work store.now.reach
-            * added out.old out.new) self.old.list.items self.new.list.items steps.old steps.new }
+        ensures adds { AddsAtMost (entry_rooms P.mark_room defs.now time water self.old)
+            out.old out.new }
+        ensures cost { AllSpend P.credit (fold_work store.now.reach * added out.old out.new)
+            self.old self.new steps.old steps.new }
         ensures ahead { AllAheadOfMark P.stands defs.now P.is_ahead water time store.now
-            self.old.list.items self.new.list.items }
+            self.old self.new }
     {
         for window in 0..window_count(defs) {
             self.list[window as usize].mark(defs, window, store, key, time, water, out, steps);

@@ -24,7 +24,7 @@ impl<M: Partial, P: KeyPart<M>> Parts<M, P> {
     ) -> Result<u64, NoMemory>
         requires { MayMove (AllStandAt P.stands defs.now) old new store.now self.old.list.items }
         ensures { AllPrepareMove P.stands P.is_ahead P.credit P.can_move P.move_room defs.now
-            store.now old new self.old.list.items self.new.list.items result }
+            store.now old new self.old self.new result }
     {
         let mut room: u64 = 0;
         for window in 0..window_count(defs) {
@@ -47,23 +47,21 @@ impl<M: Partial, P: KeyPart<M>> Parts<M, P> {
     )
         requires moves { MayMove (AllStandAt P.stands defs.now) old new store.now
             self.old.list.items }
-        requires ready { AllCanMove P.can_move defs.now store.now old new self.old.list.items }
-        requires spare { move_rooms P.move_room defs.now store.now old new self.old.list.items
-            ≤ room out.old }
-        ensures stands { AllStandMoved P.stands defs.now old new store.now
-            self.old.list.items self.new.list.items }
-        ensures changes { AllAddByMove P.stands defs.now old new store.now self.old.list.items
-            key.now out.old out.new }
-        ensures adds { AddsAtMost (move_rooms P.move_room defs.now store.now old new
-            self.old.list.items) out.old out.new }
+        requires ready { AllCanMove P.can_move defs.now store.now old new self.old }
+        requires spare { move_rooms P.move_room defs.now store.now old new self.old ≤ room out.old }
+        ensures stands { AllStandMoved P.stands defs.now old new store.now self.old self.new }
+        ensures changes { AllAddByMove P.stands defs.now old new store.now self.old key.now
+            out.old out.new }
+        ensures adds { AddsAtMost (move_rooms P.move_room defs.now store.now old new self.old)
+            out.old out.new }
         ensures ahead { AllAheadMoved P.stands defs.now P.is_ahead old new store.now
-            self.old.list.items self.new.list.items }
+            self.old self.new }
         ensures work_ahead { AllPayAhead P.stands defs.now P.is_ahead P.credit P.taken_up old new
-            store.now key.now self.old.list.items self.new.list.items steps.old steps.new }
+            store.now key.now self.old self.new steps.old steps.new }
         ensures work { AllPayBehind P.stands defs.now P.credit P.taken_up P.missed old new store.now
-            key.now self.old.list.items self.new.list.items steps.old steps.new }
-        ensures bound { AllStepAtMost P.stands defs.now old new store.now self.old.list.items
-            key.now steps.old steps.new }
+            key.now self.old self.new steps.old steps.new }
+        ensures bound { AllStepAtMost P.stands defs.now old new store.now self.old key.now
+            steps.old steps.new }
     {
         for window in 0..window_count(defs) {
             self.list[window as usize].water(defs, window, store, key, old, new, out, steps);
@@ -75,10 +73,8 @@ impl<M: Partial, P: KeyPart<M>> Parts<M, P> {
     pub fn next_due<T: AggTree<M>>(&self, defs: &Defs, store: &SliceStore<M, T>, water: u64) -> u64
         requires { StandsForSome (AllStandAt P.stands defs.now) water store.now
             self.now.list.items }
-        ensures none_before { NoneCompleteInAll P.stands defs.now water store.now
-            self.now.list.items result }
-        ensures some_at { SomeCompleteInAll P.stands defs.now water store.now self.now.list.items
-            result }
+        ensures none_before { NoneCompleteInAll P.stands defs.now water store.now self.now result }
+        ensures some_at { SomeCompleteInAll P.stands defs.now water store.now self.now result }
     {
         let mut due = u64::MAX;
         for window in 0..window_count(defs) {

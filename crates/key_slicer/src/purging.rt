@@ -16,8 +16,8 @@ impl<M: Partial, P: KeyPart<M>> Parts<M, P> {
     // of the watermark minus the lateness and of the times of the windows.
     pub fn first_unsettled(&self, defs: &Defs, water: u64) -> u64
         requires { MayLeadTo (AllStandAt P.stands defs.now) water self.now.list.items }
-        ensures least { IsLeastSettled P.settles_at defs.now water self.now.list.items result }
-        ensures settles { AllSettle P.stands defs.now P.settles_at water self.now.list.items }
+        ensures least { IsLeastSettled P.settles_at defs.now water self.now result }
+        ensures settles { AllSettle P.stands defs.now P.settles_at water self.now }
     {
         let mut time = water.saturating_sub(defs.lateness());
         for window in 0..window_count(defs) {
@@ -32,10 +32,10 @@ impl<M: Partial, P: KeyPart<M>> Parts<M, P> {
         requires { MayTell (AllStandAt P.stands defs.now) time self.now.list.items }
         ensures later { time < result }
         ensures before { (water least : ℕ) → water < result → IsLeastSettled P.settles_at defs.now
-            water self.now.list.items least → least ≤ time }
+            water self.now least → least ≤ time }
         ensures by_then { (water least : ℕ) → result ≤ water → IsLeastSettled P.settles_at defs.now
-            water self.now.list.items least → time < least }
-        ensures settles { AllSettleUnderEach P.stands defs.now P.settles_at self.now.list.items }
+            water self.now least → time < least }
+        ensures settles { AllSettleUnderEach P.stands defs.now P.settles_at self.now }
     {
         let mut due = time + 1 + defs.lateness();
         for window in 0..window_count(defs) {
@@ -48,12 +48,10 @@ impl<M: Partial, P: KeyPart<M>> Parts<M, P> {
     // have left the store.
     pub fn drop_settled(&mut self, defs: &Defs, water: u64)
         requires as_many { length self.old.list.items ≡ length (defs.now).windows }
-        ensures stands { AllStandAfterLoss P.stands defs.now P.settles_at water
-            self.old.list.items self.new.list.items }
+        ensures stands { AllStandAfterLoss P.stands defs.now P.settles_at water self.old self.new }
         ensures credit { all_credit P.credit self.new.list.items
             ≤ all_credit P.credit self.old.list.items }
-        ensures ahead { AllAheadAfterLoss P.stands defs.now P.is_ahead water
-            self.old.list.items self.new.list.items }
+        ensures ahead { AllAheadAfterLoss P.stands defs.now P.is_ahead water self.old self.new }
     {
         for window in 0..window_count(defs) {
             self.list[window as usize].drop_settled(defs, window, water);

@@ -1,13 +1,14 @@
 -- What the calls of an engine promise, of all lists for which its state stands.
-use Rattle.std.specs.Prelude.{◌≡◌, ◌≤◌, ◌<◌, ◌+◌, ℕ, List, [], length}
+use Rattle.std.specs.Prelude.{◌≡◌, ◌≤◌, ◌<◌, ◌+◌, ℕ, List, [], Vec, length}
 use Rattle.std.specs.BTreeSet.{insert_key}
 use Rattle.std.specs.Ordering.{nat_cmp}
 use Rattle.stream_base.specs.Limits.{Definitions}
+use Rattle.stream_base.specs.declared.change.Change.{Change}
 use Rattle.stream_base.specs.declared.kept.Kept.{Kept}
 use Rattle.stream_base.specs.declared.limits.TheConstants.{FINAL}
 use Rattle.stream_base.specs.Model.Changes.{Moment}
 use Rattle.stream_base.specs.Model.Journal.{put_in_order}
-use Rattle.key_windows.specs.Calls.{BringsMore, Fitting, IsWater, changes_by_move, moment, slices_at}
+use Rattle.key_windows.specs.Calls.{BringsMore, Fitting, IsWater, TakesIn, changes_by_move, moment, slices_at}
 use Rattle.key_windows.specs.Dues.{IsExact}
 
 -- a key's lists under a watermark with a tuple more
@@ -26,6 +27,21 @@ module _ {K : Type 0} (suits : Fitting K) (d : Definitions) where
   -- this holds of all lists for which a state stands under a watermark
   abbrev pub ForLists : ℕ → K → (List Kept → List ℕ → Type 0) → Type 0
   ForLists water state holds = (kept : List Kept) (marks : List ℕ) → suits d kept marks water state → holds kept marks
+
+  -- a tuple is taken in
+  abbrev pub TakesInTuple : {Y : Type 0} → (K → List ℕ) → (K → ℕ) → ℕ → Kept → K → K → Vec Change Y → Vec Change Y → Type 0
+  TakesInTuple key_of next_position water x old new out longer =
+      TakesIn suits d key_of next_position water (after_put water x) (x.position + 1) old new out longer
+
+  -- a mark is taken in
+  abbrev pub TakesInMark : {Y : Type 0} → (K → List ℕ) → (K → ℕ) → ℕ → ℕ → K → K → Vec Change Y → Vec Change Y → Type 0
+  TakesInMark key_of next_position water time old new out longer =
+      TakesIn suits d key_of next_position water (after_mark water time) (next_position old) old new out longer
+
+  -- a move of the watermark is taken in
+  abbrev pub TakesInMove : {Y : Type 0} → (K → List ℕ) → (K → ℕ) → ℕ → ℕ → K → K → Vec Change Y → Vec Change Y → Type 0
+  TakesInMove key_of next_position water to old new out longer =
+      TakesIn suits d key_of next_position water (after_move to) (next_position old) old new out longer
 
   -- a tuple takes at most as many steps as are said of the key before and after it
   abbrev pub PutWithin : (Definitions → Moment → Moment → ℕ → K → ℕ) → ℕ → Kept → K → ℕ → ℕ → Type 0

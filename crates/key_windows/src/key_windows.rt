@@ -2,10 +2,10 @@
 ghost use Rattle.std.specs.Prelude.{◌≡◌, ◌≤◌, ◌<◌, ◌+◌, [], ℕ, List, true, IfOk, vec_len};
 ghost use Rattle.stream_base.specs.declared.kept.Kept.{Kept};
 ghost use Rattle.stream_base.specs.declared.limits.TheConstants.{JOURNAL_MAX};
-ghost use Rattle.key_windows.specs.Calls.{IsWater, MakesRoom, MayReserve, MayTakeIn, StandsUnder, StaysAhead, TakesIn};
+ghost use Rattle.key_windows.specs.Calls.{IsWater, MakesRoom, MayReserve, MayTakeIn, StandsUnder, StaysAhead};
 ghost use Rattle.key_windows.specs.Calls.Call.{Mark, Move, Put};
 ghost use Rattle.key_windows.specs.Dues.{LeavesDue, LeavesExact};
-ghost use Rattle.key_windows.specs.Promises.{CountsSlices, IsExactlyDue, MarkIsBounded, MarkWithin, MoveIsBounded, MovePaysAhead, MovePaysBehind, NothingDueBefore, PutIsBounded, PutWithin, SomethingDueAt, WaitsBefore, after_mark, after_move, after_put};
+ghost use Rattle.key_windows.specs.Promises.{CountsSlices, IsExactlyDue, MarkIsBounded, MarkWithin, MoveIsBounded, MovePaysAhead, MovePaysBehind, NothingDueBefore, PutIsBounded, PutWithin, SomethingDueAt, TakesInMark, TakesInMove, TakesInTuple, WaitsBefore};
 
 use agg_laws::Steps;
 use std::alloc::Global;
@@ -104,8 +104,8 @@ pub trait KeyWindows: Drop {
             self.old out.old }
         requires position { next_position self.old ≤ x.position }
         requires few { x.position < JOURNAL_MAX }
-        ensures taken { TakesIn fits defs.now key_of next_position water (after_put water x)
-            (x.position + 1) self.old self.new out.old out.new }
+        ensures taken { TakesInTuple fits defs.now key_of next_position water x self.old self.new
+            out.old out.new }
         ensures work { PutWithin fits defs.now put_work water x self.old steps.old steps.new }
         ensures bound { PutIsBounded fits defs.now key_of bounds_put water x self.old
             steps.old steps.new }
@@ -131,8 +131,8 @@ pub trait KeyWindows: Drop {
         steps: &mut Steps<L>,
     )
         requires { MayTakeIn fits defs.now is_ready promised (Mark time water) self.old out.old }
-        ensures taken { TakesIn fits defs.now key_of next_position water (after_mark water time)
-            (next_position self.old) self.old self.new out.old out.new }
+        ensures taken { TakesInMark fits defs.now key_of next_position water time self.old self.new
+            out.old out.new }
         ensures work { MarkWithin fits defs.now mark_work water time self.old self.new
             steps.old steps.new }
         ensures bound { MarkIsBounded fits defs.now key_of bounds_mark water time self.old
@@ -155,8 +155,8 @@ pub trait KeyWindows: Drop {
         steps: &mut Steps<L>,
     )
         requires { MayTakeIn fits defs.now is_ready promised (Move old new) self.old out.old }
-        ensures taken { TakesIn fits defs.now key_of next_position old (after_move new)
-            (next_position self.old) self.old self.new out.old out.new }
+        ensures taken { TakesInMove fits defs.now key_of next_position old new self.old self.new
+            out.old out.new }
         ensures room { vec_len out.new ≤ vec_len out.old + promised self.old }
         ensures ahead { IsWater old → is_ahead defs.now new self.new }
         ensures work_ahead { MovePaysAhead fits defs.now is_ahead credit move_work old new
