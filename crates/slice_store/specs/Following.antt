@@ -1,8 +1,8 @@
 -- Slices and their partials: when a tuple may enter them, and that the partials follow what becomes of the slices.
-use Rattle.std.specs.Prelude.{◌≡◌, ◌≤◌, ◌+◌, ℕ, ℤ, List, length, map, nat_le, if◌then◌else◌}
+use Rattle.std.specs.Prelude.{◌≡◌, ◌≤◌, ◌+◌, ◌-◌, ℕ, ℤ, List, [], length, map, nat_le, slice_index_or, if◌then◌else◌}
 use Rattle.stream_base.specs.declared.kept.Kept.{Kept}
-use Rattle.stream_base.specs.Model.Windows.{last_time}
-use Rattle.partials.specs.Apart.{Sums}
+use Rattle.stream_base.specs.Model.Windows.{first_time, last_time}
+use Rattle.partials.specs.Apart.{SpendsNear, Sums}
 use Rattle.slice_lists.specs.Slices.{AreSlices, CanEnter, CanSplit, Sliced}
 use Rattle.agg_store.specs.Stored.{partial_of}
 
@@ -32,3 +32,9 @@ pub record Follow {M : Type 0} (of_values : List ℤ → M) (these : List (List 
 -- how many tuples of a slice are folded anew for one that comes at a time in it: none where it comes behind them all, and else all with that one
 abbrev pub refolded : ℕ → List Kept → ℕ
 refolded time run = if nat_le (last_time run) time then 0 else length run + 1
+
+-- where a tuple enters one slice, and doesn't come before that, the steps go by as many levels as are near where so many slices lie behind it, and by how many tuples are folded anew
+abbrev pub EntersNear : (ℕ → ℕ → Type 0) → ℕ → ℕ → Kept → List (List Kept) → ℕ → ℕ → ℕ → Type 0
+EntersNear Near from to x slices reach made makes =
+    to ≡ from + 1 → first_time (slice_index_or slices from []) ≤ x.time
+    → SpendsNear Near (length slices - to) reach (2 + refolded x.time (slice_index_or slices from [])) made makes

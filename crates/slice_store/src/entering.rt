@@ -3,7 +3,7 @@ ghost use Rattle.std.specs.Prelude.{◌≡◌, ◌≤◌, ◌<◌, ◌+◌, ◌-
 ghost use Rattle.stream_base.specs.Model.Windows.{first_time, last_time};
 ghost use Rattle.partials.specs.Apart.{SpendsNear};
 ghost use Rattle.slice_lists.specs.Slices.{entered_at, joined, slices_between};
-ghost use Rattle.slice_store.specs.Following.{Follow, MayEnter, refolded};
+ghost use Rattle.slice_store.specs.Following.{EntersNear, Follow, MayEnter};
 
 use crate::lifting::{fold_of, lifted};
 use agg_laws::{AggTree, Monoid, Steps};
@@ -148,9 +148,7 @@ pub fn enter<M: Partial, T: AggTree<M>, L>(
         → steps.new ≤ steps.old + 128 * ((partials.old).reach + 3) }
 
     // A tuple that enters one slice, and doesn't come before it, goes by how many slices lie behind.
-    ensures near { to ≡ from + 1 → first_time (slice_index_or (runs.old).slices from []) ≤ x.time
-        → SpendsNear T.near (length (runs.old).slices - to) (partials.old).reach
-        (2 + refolded x.time (slice_index_or (runs.old).slices from []))
+    ensures near { EntersNear T.near from to x (runs.old).slices (partials.old).reach
         steps.old steps.new }
 {
     let count = to - from;
