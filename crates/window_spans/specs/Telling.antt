@@ -1,13 +1,15 @@
 -- How instances are told.
-use Rattle.std.specs.Prelude.{◌≡◌, ◌≤◌, ◌+◌, ◌-◌, ◌*◌, ℕ, List, [], ◌∷◌, filter, find, map, Option, None, Some, if◌then◌else◌, Vec, vec_capacity, vec_len}
+use Rattle.std.specs.Prelude.{◌≡◌, ◌≤◌, ◌+◌, ◌-◌, ◌*◌, ◌++◌, ℕ, List, [], ◌∷◌, filter, find, map, Option, None, Some, if◌then◌else◌, Vec, vec_capacity, vec_len}
 use Rattle.stream_base.specs.declared.change.Change.{Change}
 use Rattle.stream_base.specs.declared.change.Change.TheVariants.{Gone, New, Again}
 use Rattle.stream_base.specs.declared.func.Func.{Func}
 use Rattle.stream_base.specs.declared.row.Row.{Row}
 use Rattle.stream_base.specs.Model.Changes.{former_of}
 use Rattle.stream_base.specs.Model.Windows.{Instance}
+use Rattle.agg_store.specs.Stored.{Stored}
 use Rattle.window_spans.specs.declared.span.Span.{Span}
 use Rattle.window_spans.specs.declared.standing.Standing.{Standing}
+use Rattle.window_spans.specs.Held.{IsHeld}
 use Rattle.window_spans.specs.Spans.{goes, is_same_span, span_of, stands}
 
 -- an instance as one that stands
@@ -41,6 +43,11 @@ come_of window key water stood now =
     if stands water now.span
     then told_as window key now (find (λ s. is_same_span now.span s.span) stood) ∷ []
     else []
+
+-- the session that a tuple made, where the store holds its tuples, is told behind all else: again, where one of these stood over its span, and else as new; nothing is told where it doesn't stand
+abbrev pub TellsJoined : ℕ → List ℕ → ℕ → List Standing → Func → Span → Stored → List Change → List Change → Type 0
+TellsJoined window key water stood func joined store old new =
+    (i : Instance) → IsHeld joined store i → new ≡ old ++ come_of window key water stood (as_standing func i)
 
 -- so many changes more are told in the room of the output, each in at most 64 (reach + 2) steps over a store of this reach
 pub record Tells {Z : Type 0} (count reach : ℕ) (old new : Vec Change Z) (steps_before steps_after : ℕ) : Type 0 where

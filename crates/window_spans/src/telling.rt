@@ -8,7 +8,7 @@ ghost use Rattle.window_spans.specs.declared.standing.Standing.{Standing};
 ghost use Rattle.window_spans.specs.Held.{AreAlignedWith, AreHeld, IsAlignedWith, IsHeld};
 ghost use Rattle.window_spans.specs.Parted.{come_if, gone_if, shown_if};
 ghost use Rattle.window_spans.specs.Spans.{is_same_span, stands};
-ghost use Rattle.window_spans.specs.Telling.{Tells, as_standing, come_of, gone_of, row_for, told_as};
+ghost use Rattle.window_spans.specs.Telling.{Tells, TellsJoined, as_standing, gone_of, row_for, told_as};
 
 use crate::joining::goes;
 use crate::span::Span;
@@ -189,10 +189,9 @@ pub fn tell_joined<M: Partial, S: AggStore<M>, L>(
         (filter (stands water) (joined ∷ [])) }
     requires serves { M.serves func }
     requires spare { length (filter (stands water) (joined ∷ [])) ≤ room out.old }
-    ensures told { (i : Instance) → IsHeld joined (S.stored store.now) i
-        → out.new.items ≡ out.old.items
-        ++ come_of teller.now.window teller.now.key.now water
-        (option_to_list first ++ option_to_list second) (as_standing func i) }
+    ensures told { TellsJoined teller.now.window teller.now.key.now water
+        (option_to_list first ++ option_to_list second) func joined (S.stored store.now)
+        out.old.items out.new.items }
     ensures adds { Adds (length (filter (stands water) (joined ∷ []))) out.old out.new }
     ensures cost { steps.new ≤ steps.old
         + 64 * ((S.stored store.now).reach + 2) * length (filter (stands water) (joined ∷ [])) }
