@@ -3,8 +3,8 @@ ghost use Rattle.agg_laws.specs.Counters.{Looks};
 ghost use Rattle.fiba_nodes.specs.Rows.{FitsNode, listed};
 ghost use Rattle.fiba_nodes.specs.Stores.{full_nodes, fullness, held, look};
 ghost use Rattle.fiba_nodes.specs.Kids.{kid_of};
-ghost use Rattle.fiba_nodes.specs.Nested.{IsNested, IsSettled};
-ghost use Rattle.fiba_nodes.specs.Filling.{Fills, HasEmptyChild};
+ghost use Rattle.fiba_nodes.specs.Nested.{IsNested};
+ghost use Rattle.fiba_nodes.specs.Filling.{Fills, HasEmptyChild, Settles, opened_kid};
 
 use crate::nest::Nest;
 use crate::nodes::Nodes;
@@ -31,9 +31,8 @@ pub fn settle<M: Monoid, L>(
         (listed nest.now.child.slots) nest.now.child.last }
     requires fits { FitsNode (listed nest.now.row.slots) }
     requires room { 4 ≤ length (listed nest.now.child.slots) → 1 ≤ nodes.old.spare }
-    ensures settled { IsSettled M.is_value M.empty M.op nodes.old nodes.new height
-        place.left place.right (listed nest.now.row.slots) nest.now.row.last nest.now.at
-        (listed nest.now.child.slots) nest.now.child.last (listed result.slots) result.last }
+    ensures settled { Settles M.is_value M.empty M.op nodes.old nodes.new height place nest.now
+        result }
     ensures kept { 1 ≤ length (listed nest.now.child.slots)
         → length (listed nest.now.row.slots) ≤ length (listed result.slots) }
     ensures spare { nodes.old.spare ≤ nodes.new.spare + 1 }
@@ -43,8 +42,7 @@ pub fn settle<M: Monoid, L>(
         (kid_of (listed nest.now.row.slots) nest.now.row.last nest.now.at)))
         ≤ full_nodes nodes.old + fullness (length (listed nest.now.child.slots)) }
     ensures even { 1 ≤ length (listed nest.now.child.slots)
-        → full_nodes nodes.new + fullness (held (look nodes.old
-        (kid_of (listed nest.now.row.slots) nest.now.row.last nest.now.at)))
+        → full_nodes nodes.new + fullness (held (look nodes.old (opened_kid nest.now)))
         ≡ full_nodes nodes.old + fullness (length (listed nest.now.child.slots)) }
     ensures looks { Looks 11 probes.old probes.new }
     ensures cost { steps.new ≤ steps.old + 8 }
