@@ -1,15 +1,11 @@
 //! The order of final rows.
-ghost use Rattle.std.specs.Prelude.{◌≡◌, ◌≤◌, ℕ, List, length};
+ghost use Rattle.std.specs.Prelude.{◌≡◌, List};
 ghost use Rattle.std.specs.List.Sorted.{IsPermutation, IsStrictlySortedBy};
 ghost use Rattle.stream_base.specs.Laws.{by_row};
-ghost use Rattle.stream_base.specs.Limits.{AreWithinLimits, Definitions};
 ghost use Rattle.stream_base.specs.Model.Final.{final_rows};
-ghost use Rattle.stream_base.specs.Model.Routes.{IsLawful};
-ghost use Rattle.stream_base.specs.declared.entry.Entry.{Entry};
 ghost use Rattle.stream_base.specs.declared.row.Row.{Row};
-ghost use Rattle.source_feed.specs.Generated.{made_definitions, made_sources};
-ghost use Rattle.source_feed.specs.declared.made_feed.TheConstants.{MADE_ROWS_MAX};
-ghost use Rattle.final_rows.specs.AtEnd.{AreUntied, KeepAll, rows_of_shards};
+ghost use Rattle.source_feed.specs.Generated.{made_definitions};
+ghost use Rattle.final_rows.specs.AtEnd.{AtEachEnd, AtEachGeneratedEnd};
 
 use std::cmp::Ordering;
 use stream_base::Row;
@@ -23,16 +19,10 @@ pub fn sort_rows(rows: &mut [Row])
     ensures sorted { (ordered : List Row)
         → IsPermutation rows.old ordered → IsStrictlySortedBy by_row ordered
         → rows.new ≡ ordered }
-    ensures at_the_end { (d : Definitions) (shards : ℕ) (sources journals : List (List Entry))
-        → AreWithinLimits d → 1 ≤ shards → AreUntied sources
-        → KeepAll d.lateness shards sources journals
-        → rows.old ≡ rows_of_shards d (length sources) journals
-        → rows.new ≡ final_rows d sources }
-    ensures generated { (seed tuples sources shards : ℕ) (journals : List (List Entry))
-        → tuples ≤ MADE_ROWS_MAX → 1 ≤ shards
-        → IsLawful shards (made_sources seed tuples sources) journals
-        → rows.old ≡ rows_of_shards made_definitions sources journals
-        → rows.new ≡ final_rows made_definitions (made_sources seed tuples sources) }
+    ensures at_the_end { AtEachEnd (λ d sources standing. rows.old ≡ standing
+        → rows.new ≡ final_rows d sources) }
+    ensures generated { AtEachGeneratedEnd (λ sources standing. rows.old ≡ standing
+        → rows.new ≡ final_rows made_definitions sources) }
 {
     rows.sort_unstable_by(|row, other| in_order(row, other));
 }

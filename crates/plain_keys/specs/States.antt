@@ -94,6 +94,10 @@ pub record Stays (old new : State) : Type 0 where
   pub next : new.next ≡ old.next
   pub due : new.due ≡ old.due
 
+-- where a tuple at a time after the watermark is the last that came, and the due number is that of the lists without it, the new due number is that of the lists with it
+abbrev pub CatchesUp : List Def → ℕ → ℕ → State → State → Type 0
+CatchesUp windows time water old new = (kept : List Kept) (x : Kept) → x.time ≡ time → old.kept ≡ put_in_order kept x → water < time → IsDue windows kept old.marks water old.due → IsDue windows new.kept new.marks water new.due
+
 -- a call to come is made ready: but for drafts, room and the promise the state stays, as many changes are promised as it answers, and it holds what the call needs
 pub record Prepares {E : Type 0} (ready : State → Type 0) (old new : State) (answer : Result ℕ E) : Type 0 where
   pub stays : Stays old new

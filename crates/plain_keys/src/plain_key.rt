@@ -10,7 +10,7 @@ ghost use Rattle.stream_base.specs.Model.Journal.{put_in_order};
 ghost use Rattle.stream_base.specs.Vectors.{Appends, room};
 ghost use Rattle.plain_windows.specs.Changing.{IsDue};
 ghost use Rattle.key_windows.specs.Calls.{IsAccepted, IsEntryAt, kept_at, moment};
-ghost use Rattle.plain_keys.specs.States.{Fits, HasDrawnMark, HasDrawnTuple, IsMarked, IsOfSame, IsPut, IsReady, IsState, MayMark, MayPut, Prepares, by_one_mark, by_tuple, most_steps, stand_in};
+ghost use Rattle.plain_keys.specs.States.{CatchesUp, Fits, HasDrawnMark, HasDrawnTuple, IsMarked, IsOfSame, IsPut, IsReady, IsState, MayMark, MayPut, Prepares, by_one_mark, by_tuple, most_steps, stand_in};
 
 use crate::drafts::{add_mark, draw_mark, draw_put, fill_in, put_in};
 use agg_laws::Steps;
@@ -135,10 +135,7 @@ impl PlainKey {
     fn look_behind(&mut self, defs: &Defs, time: u64, water: u64)
         requires { IsAccepted defs.now time water }
         ensures same { IsOfSame self.old self.new }
-        ensures ahead { (kept : List Kept) (x : Kept) → x.time ≡ time
-            → self.old.kept ≡ put_in_order kept x → water < time
-            → IsDue (defs.now).windows kept self.old.marks water self.old.due
-            → IsDue (defs.now).windows self.new.kept self.new.marks water self.new.due }
+        ensures ahead { CatchesUp (defs.now).windows time water self.old self.new }
     {
         match bound_from(defs, time) {
             Some(bound) => self.wait_for(self.due.min(bound)),

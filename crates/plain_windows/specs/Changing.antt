@@ -1,5 +1,5 @@
 -- What becomes of one instance from one moment to the next, and the bounds that lie ahead.
-use Rattle.std.specs.Prelude.{◌==◌, ◌≡◌, ◌⊎◌, ◌≤◌, ◌<◌, ◌&&◌, ℕ, Bool, List, map, filter, nat_lt}
+use Rattle.std.specs.Prelude.{◌==◌, ◌≡◌, ◌⊎◌, ◌≤◌, ◌<◌, ◌&&◌, ℕ, Bool, List, map, filter, min, nat_lt}
 use Rattle.std.specs.List.{Contains, enumerate_from, flat_map}
 use Rattle.std.specs.Option.{option_to_list}
 use Rattle.stream_base.specs.declared.change.Change.{Change}
@@ -10,7 +10,7 @@ use Rattle.stream_base.specs.declared.limits.TheConstants.{FINAL}
 use Rattle.stream_base.specs.Laws.{completions}
 use Rattle.stream_base.specs.Model.Changes.{Moment, emission, emissions, retraction, retractions, standing_at}
 use Rattle.stream_base.specs.Model.Journal.{put_in_order}
-use Rattle.stream_base.specs.Model.Windows.{Instance, instances_of}
+use Rattle.stream_base.specs.Model.Windows.{Instance, instances_of, spans}
 use Rattle.plain_windows.specs.declared.extent.Extent.{Extent}
 use Rattle.plain_windows.specs.declared.fold.Owner.{Owner}
 
@@ -68,6 +68,18 @@ BringsNoneBelow kind time bound = (kept : List Kept) (marks : List ℕ) (x : Kep
 pub record BringsBound (kind : Kind) (time bound : ℕ) : Type 0 where
   pub later : time < bound
   pub brought : (kept : List Kept) (marks : List ℕ) (x : Kept) → x.time ≡ time → HasBound (instances_of kind (put_in_order kept x) marks) bound
+
+-- with a tuple more at a time, each bound of the intervals of this length and slide is one that there was, or at least this number
+abbrev pub SpansBringNoneBelow : ℕ → ℕ → ℕ → ℕ → Type 0
+SpansBringNoneBelow length slide time bound = (kept : List Kept) (x : Kept) (i : Instance) → x.time ≡ time → Contains (spans length slide (put_in_order kept x)) i → HasBound (spans length slide kept) i.bound ⊎ (bound ≤ i.bound)
+
+-- with a tuple more at a time, whatever the lists, no bound lies between the watermark and the less of this number and a number for which that held before
+abbrev pub KeepsAhead : List Def → ℕ → ℕ → Type 0
+KeepsAhead windows time bound = (kept : List Kept) (marks : List ℕ) (x : Kept) (water due : ℕ) → x.time ≡ time → IsAhead windows kept marks water due → IsAhead windows (put_in_order kept x) marks water (min due bound)
+
+-- and the less of this number and the least bound of before is the least bound, where the tuple comes after the watermark
+abbrev pub KeepsDue : List Def → ℕ → ℕ → Type 0
+KeepsDue windows time bound = (kept : List Kept) (marks : List ℕ) (x : Kept) (water due : ℕ) → x.time ≡ time → water < time → IsDue windows kept marks water due → IsDue windows (put_in_order kept x) marks water (min due bound)
 
 -- with a tuple more, each bound of the window's instances is still one
 abbrev pub KeepsBounds : Kind → Type 0

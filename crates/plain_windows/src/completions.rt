@@ -2,11 +2,9 @@
 ghost use Rattle.std.specs.Prelude.{◌≡◌, ◌≤◌, ◌-◌, ◌+◌, ◌++◌, ◌<◌, [], ℕ, List, IfSome, length, min, vec_len, vec_capacity};
 ghost use Rattle.std.specs.List.{enumerate_from, flat_map, fold};
 ghost use Rattle.stream_base.specs.declared.limits.TheConstants.{TIME_MAX};
-ghost use Rattle.stream_base.specs.declared.kept.Kept.{Kept};
 ghost use Rattle.stream_base.specs.Laws.{completions};
-ghost use Rattle.stream_base.specs.Model.Journal.{put_in_order};
 ghost use Rattle.stream_base.specs.Vectors.{Appends, room};
-ghost use Rattle.plain_windows.specs.Changing.{IsAhead, IsDue, all_completions, bounds_ahead, window_of};
+ghost use Rattle.plain_windows.specs.Changing.{IsAhead, IsDue, KeepsAhead, KeepsDue, all_completions, bounds_ahead, window_of};
 
 use crate::fold::{Owner, row_of};
 use crate::kinds::{bound_above, bound_of};
@@ -135,15 +133,10 @@ fn next_of_window(window: &Window, view: &View, least: u64) -> u64
 /// None where the time alone doesn't tell, as with sessions, marks and event counts.
 pub fn bound_from(defs: &Defs, time: u64) -> Option<u64>
     requires time { time ≤ TIME_MAX }
-    ensures ahead { IfSome result (λ bound. (kept : List Kept) (marks : List ℕ) (x : Kept)
-        (water due : ℕ) → x.time ≡ time → IsAhead (defs.now).windows kept marks water due
-        → IsAhead (defs.now).windows (put_in_order kept x) marks water (min due bound)) }
+    ensures ahead { IfSome result (λ bound. KeepsAhead (defs.now).windows time bound) }
 
     // And the less of the two is still the least bound, where the tuple comes after the watermark.
-    ensures due { IfSome result (λ bound. (kept : List Kept) (marks : List ℕ) (x : Kept)
-        (water due : ℕ) → x.time ≡ time → water < time
-        → IsDue (defs.now).windows kept marks water due
-        → IsDue (defs.now).windows (put_in_order kept x) marks water (min due bound)) }
+    ensures due { IfSome result (λ bound. KeepsDue (defs.now).windows time bound) }
 {
     let windows = windows_of(defs);
     let mut least = u64::MAX;

@@ -1,5 +1,5 @@
 //! The instances of a tumbling or sliding window: intervals that start at multiples of the slide.
-ghost use Rattle.std.specs.Prelude.{◌≡◌, ◌<◌, ◌≤◌, ◌+◌, ◌⊎◌, [], ℕ, List, IfSome, nat_le, nat_lt};
+ghost use Rattle.std.specs.Prelude.{◌≡◌, ◌<◌, ◌≤◌, ◌+◌, [], ℕ, List, IfSome, nat_le, nat_lt};
 ghost use Rattle.std.specs.List.{Contains, find};
 ghost use Rattle.std.specs.Option.{option_map};
 ghost use Rattle.stream_base.specs.declared.kept.Kept.{Kept};
@@ -8,7 +8,7 @@ ghost use Rattle.stream_base.specs.Kinds.{IsKindWithin};
 ghost use Rattle.stream_base.specs.declared.limits.TheConstants.{TIME_MAX};
 ghost use Rattle.stream_base.specs.Model.Journal.{put_in_order};
 ghost use Rattle.stream_base.specs.Model.Windows.{Instance, interval, spans};
-ghost use Rattle.plain_windows.specs.Changing.{HasBound};
+ghost use Rattle.plain_windows.specs.Changing.{HasBound, SpansBringNoneBelow};
 ghost use Rattle.plain_windows.specs.Extents.{Tells};
 
 use crate::extent::Extent;
@@ -65,9 +65,7 @@ pub fn first_above(spacing: Spacing, view: &View, water: u64) -> Option<Extent>
 
 /// The bound of the first interval that holds a time: none that holds it has an earlier one.
 pub fn bound_holding(spacing: Spacing, at: EventTime) -> u64
-    ensures none_below { (kept : List Kept) (x : Kept) (i : Instance) → x.time ≡ at.time
-        → Contains (spans spacing.length spacing.slide (put_in_order kept x)) i
-        → HasBound (spans spacing.length spacing.slide kept) i.bound ⊎ (result ≤ i.bound) }
+    ensures none_below { SpansBringNoneBelow spacing.length spacing.slide at.time result }
     ensures later { at.time < result }
     ensures brought { (kept : List Kept) (x : Kept) → x.time ≡ at.time
         → HasBound (spans spacing.length spacing.slide (put_in_order kept x)) result }

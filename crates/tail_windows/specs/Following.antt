@@ -1,5 +1,5 @@
 -- What a follower of a journal is in contracts, and for which journals it stands.
-use Rattle.std.specs.Prelude.{◌≡◌, ◌++◌, ℕ, List, [], ◌∷◌, Bool, Result, OnErr, OnOk, is_some, unwrap_or}
+use Rattle.std.specs.Prelude.{◌≡◌, ◌++◌, ℕ, List, [], ◌∷◌, Bool, true, Result, OnErr, OnOk, is_some, unwrap_or}
 use Rattle.std.specs.BTreeMap.{is_at}
 use Rattle.std.specs.Cmp.Lexicographic.{slice_cmp}
 use Rattle.std.specs.Map.{lookup}
@@ -8,6 +8,8 @@ use Rattle.stream_base.specs.declared.entry.Entry.{Entry}
 use Rattle.stream_base.specs.declared.what.What.{What}
 use Rattle.stream_base.specs.declared.what.What.TheVariants.{Tuple, Mark, Water, Idle, End}
 use Rattle.stream_base.specs.Model.Journal.{kept_of}
+use Rattle.stream_base.specs.Model.Watermark.{water_of}
+use Rattle.stream_base.specs.Model.What.{is_progress}
 use Rattle.watermark_table.specs.Watched as table
 use Rattle.watermark_table.specs.Watched.{Watched, sources_of}
 use Rattle.tail_windows.specs.Samples.{samples_of}
@@ -60,6 +62,10 @@ time_in End = 0
 -- the changes of an entry behind a journal
 abbrev pub changes_behind : Followed → List Entry → Entry → List TailChange
 changes_behind f journal e = tail_changes_after f.def (lateness_of f) (number_of_sources f) journal e
+
+-- this holds behind each journal for which a follower stands, of each word on progress that leads on to a watermark
+abbrev pub ForEachMove : Followed → ℕ → (List Entry → Entry → Type 0) → Type 0
+ForEachMove f water holds = (journal : List Entry) (e : Entry) → StandsFor f journal → is_progress e.what ≡ true → water ≡ water_of (number_of_sources f) (journal ++ e ∷ []) → holds journal e
 
 -- an entry comes to each journal for which a follower stands, and its changes are appended, with so many steps at most for each as tuples are selected; or it stands for the journals of before
 pub record Follows {E : Type 0} (old : Followed) (e : Entry) (answer : Result (Unit {0}) E) (new : Followed) (before after : List TailChange) (steps later : ℕ) : Type 0 where

@@ -1,8 +1,11 @@
 -- What a walk over the ends of a key's periods appends.
-use Rattle.std.specs.Prelude.{◌≡◌, ◌+◌, ◌*◌, ◌≤◌, ◌==◌, ◌&&◌, ◌++◌, ℕ, Bool, true, false, not, List, length, map, filter, drop, Option, None, Some, if◌then◌else◌, nat_lt, nat_le}
+use Rattle.std.specs.Prelude.{◌≡◌, ◌+◌, ◌*◌, ◌≤◌, ◌<◌, ◌==◌, ◌&&◌, ◌++◌, ℕ, Bool, true, false, not, List, length, map, filter, drop, Option, None, Some, if◌then◌else◌, nat_lt, nat_le, All}
 use Rattle.std.specs.List.{Contains, filter_map}
+use Rattle.stream_base.specs.declared.kept.Kept.{Kept}
 use Rattle.stream_base.specs.declared.limits.TheConstants.{JOURNAL_MAX, TIME_MAX}
-use Rattle.tail_windows.specs.Samples.{before_in, ends_in, row_before}
+use Rattle.stream_base.specs.Model.Journal.{put_in_order}
+use Rattle.tail_windows.specs.Samples.{before_in, ends_in, row_before, sample_of, samples_of}
+use Rattle.tail_windows.specs.Tails.{tail_changes_between}
 use Rattle.tail_windows.specs.declared.change.TailChange.{TailChange}
 use Rattle.tail_windows.specs.declared.change.TailChange.TheVariants.{New, Again}
 use Rattle.tail_windows.specs.declared.def.TailDef.{TailDef}
@@ -49,6 +52,14 @@ changes_from def key samples reach place =
 -- the changes by a move of the watermark alone: each end after the old one and up to the new one comes
 abbrev pub moved_changes : TailDef → List ℕ → ℕ → ℕ → List Sample → List TailChange
 moved_changes def key old new samples = map (λ at. New (row_before def key samples at)) (filter (λ at. nat_lt old at && nat_le at new) (ends_in def.period samples))
+
+-- what one tuple more changes of a key's kept tuples under a watermark
+abbrev pub changes_by_tuple : TailDef → List ℕ → List Kept → ℕ → Kept → List TailChange
+changes_by_tuple def key kept water x = tail_changes_between def key kept water (put_in_order kept x) water
+
+-- this holds of all kept tuples with these samples, and of each tuple with that sample which comes at a later position
+abbrev pub ForEachNext : List Sample → Sample → (List Kept → Kept → Type 0) → Type 0
+ForEachNext samples sample holds = (kept : List Kept) (x : Kept) → samples_of kept ≡ samples → sample_of x ≡ sample → All (λ y. y.position < x.position) kept → holds kept x
 
 -- changes are appended, with so many steps at most for each
 pub record HasAppended (count : ℕ) (old new : List TailChange) (steps later : ℕ) : Type 0 where

@@ -1,12 +1,11 @@
 //! A follower of a shard's journal.
-ghost use Rattle.std.specs.Prelude.{◌≡◌, ◌≤◌, ◌<◌, ◌+◌, ◌-◌, ◌*◌, ◌++◌, ◌∷◌, [], ℕ, List, true, false, IfOk, OnErr, OnOk, length, nat_lt};
+ghost use Rattle.std.specs.Prelude.{◌≡◌, ◌≤◌, ◌<◌, ◌+◌, ◌-◌, ◌*◌, ◌++◌, ◌∷◌, [], ℕ, List, false, IfOk, OnErr, OnOk, length, nat_lt};
 ghost use Rattle.stream_base.specs.Model.Watermark.{water_of};
-ghost use Rattle.stream_base.specs.Model.What.{is_progress};
 ghost use Rattle.stream_base.specs.declared.entry.Entry.{Entry};
 ghost use Rattle.stream_base.specs.declared.limits.TheConstants.{TIME_MAX};
 ghost use Rattle.stream_base.specs.declared.what.What.TheVariants.{Tuple, Mark};
 ghost use Rattle.watermark_table.specs.Watched.{end_entry, idle_entry, water_entry};
-ghost use Rattle.tail_windows.specs.Following.{Follows, IsOfSame, StandsFor, changes_behind, lateness_of, number_of_sources, time_in};
+ghost use Rattle.tail_windows.specs.Following.{Follows, ForEachMove, IsOfSame, StandsFor, changes_behind, lateness_of, number_of_sources, time_in};
 ghost use Rattle.tail_windows.specs.Walks.{HasAppended, IsTailDef};
 ghost use Rattle.tail_windows.specs.declared.change.TailChange.TheVariants.{Dropped};
 
@@ -231,11 +230,9 @@ impl Tails {
         out: &mut Vec<TailChange>,
         steps: &mut Steps<L>,
     ) -> Result<(), NoMemory>
-        ensures changes { (journal : List Entry) (e : Entry) → StandsFor self.now journal
-            → is_progress e.what ≡ true
-            → water ≡ water_of (number_of_sources self.now) (journal ++ e ∷ [])
-            → OnOk result (out.new.items ≡ out.old.items
-            ++ changes_behind self.now journal e) }
+        ensures changes { ForEachMove self.now water (λ journal e.
+            OnOk result (out.new.items ≡ out.old.items
+            ++ changes_behind self.now journal e)) }
         ensures appended { HasAppended (self.now.def).count out.old.items out.new.items
             steps.old steps.new }
     {

@@ -1,12 +1,9 @@
 //! A key's kept tuples, in event order.
 ghost use Rattle.std.specs.List.{insert, remove};
-ghost use Rattle.std.specs.Prelude.{◌≡◌, ◌≤◌, ◌<◌, ◌+◌, ◌++◌, List, [], length, OnErr, OnOk, All};
-ghost use Rattle.stream_base.specs.Model.Journal.{put_in_order};
-ghost use Rattle.stream_base.specs.declared.kept.Kept.{Kept};
+ghost use Rattle.std.specs.Prelude.{◌≡◌, ◌≤◌, ◌<◌, ◌+◌, ◌++◌, List, [], length, OnErr, OnOk};
 ghost use Rattle.stream_base.specs.declared.limits.TheConstants.{TIME_MAX};
-ghost use Rattle.tail_windows.specs.Samples.{IsPlaceOf, IsTimeline, put_sample, sample_of, samples_of};
-ghost use Rattle.tail_windows.specs.Tails.{tail_changes_between};
-ghost use Rattle.tail_windows.specs.Walks.{HasAppended, IsTailDef, moved_changes};
+ghost use Rattle.tail_windows.specs.Samples.{IsPlaceOf, IsTimeline, put_sample};
+ghost use Rattle.tail_windows.specs.Walks.{ForEachNext, HasAppended, IsTailDef, changes_by_tuple, moved_changes};
 
 use crate::change::TailChange;
 use crate::def::TailDef;
@@ -63,11 +60,9 @@ impl Timeline {
         requires time { sample.time ≤ TIME_MAX }
         ensures put { OnOk result (self.new ≡ put_sample self.old sample) }
         ensures refused { OnErr result (self.new ≡ self.old) }
-        ensures changes { (kept : List Kept) (x : Kept)
-            → samples_of kept ≡ self.old → sample_of x ≡ sample
-            → All (λ y. y.position < x.position) kept
-            → OnOk result (out.new.items ≡ out.old.items
-            ++ tail_changes_between def.now key.now kept water (put_in_order kept x) water) }
+        ensures changes { ForEachNext self.old sample (λ kept x.
+            OnOk result (out.new.items ≡ out.old.items
+            ++ changes_by_tuple def.now key.now kept water x)) }
         ensures appended { HasAppended def.now.count out.old.items out.new.items
             steps.old steps.new }
     {

@@ -5,14 +5,11 @@ ghost use Rattle.std.specs.List.{flat_map};
 ghost use Rattle.std.specs.List.Sorted.{IsStrictlySortedBy};
 ghost use Rattle.std.specs.Map.{keys_of};
 ghost use Rattle.std.specs.Ordering.{nat_cmp};
-ghost use Rattle.std.specs.Prelude.{◌≡◌, ◌≤◌, ◌<◌, ◌++◌, ℕ, List, [], IfOk, OnErr, OnOk, All, true, if◌then◌else◌};
-ghost use Rattle.stream_base.specs.Model.Journal.{put_in_order};
-ghost use Rattle.stream_base.specs.declared.kept.Kept.{Kept};
+ghost use Rattle.std.specs.Prelude.{◌≡◌, ◌≤◌, ◌++◌, ℕ, List, [], IfOk, OnErr, OnOk, true, if◌then◌else◌};
 ghost use Rattle.stream_base.specs.declared.limits.TheConstants.{TIME_MAX};
 ghost use Rattle.tail_windows.specs.Following.{has_list, list_of};
-ghost use Rattle.tail_windows.specs.Samples.{put_sample, sample_of, samples_of};
-ghost use Rattle.tail_windows.specs.Tails.{tail_changes_between};
-ghost use Rattle.tail_windows.specs.Walks.{HasAppended, IsTailDef, moved_changes};
+ghost use Rattle.tail_windows.specs.Samples.{put_sample};
+ghost use Rattle.tail_windows.specs.Walks.{ForEachNext, HasAppended, IsTailDef, changes_by_tuple, moved_changes};
 
 use crate::change::TailChange;
 use crate::def::TailDef;
@@ -75,11 +72,9 @@ impl Timelines {
             then put_sample (list_of self.old key.now) sample else list_of self.old other)) }
         ensures refused { (other : List ℕ) → OnErr result (list_of self.new other
             ≡ list_of self.old other) }
-        ensures changes { (kept : List Kept) (x : Kept)
-            → samples_of kept ≡ list_of self.old key.now → sample_of x ≡ sample
-            → All (λ y. y.position < x.position) kept
-            → OnOk result (out.new.items ≡ out.old.items
-            ++ tail_changes_between def.now key.now kept water (put_in_order kept x) water) }
+        ensures changes { ForEachNext (list_of self.old key.now) sample (λ kept x.
+            OnOk result (out.new.items ≡ out.old.items
+            ++ changes_by_tuple def.now key.now kept water x)) }
         ensures appended { HasAppended def.now.count out.old.items out.new.items
             steps.old steps.new }
     {
@@ -163,11 +158,9 @@ impl Timelines {
         ensures refused { (other : List ℕ) → OnErr result (list_of self.new other
             ≡ (if is_at (slice_cmp nat_cmp key.now) other
             then list_of self.old key.now else list_of self.old other)) }
-        ensures changes { (kept : List Kept) (x : Kept)
-            → samples_of kept ≡ list_of self.old key.now → sample_of x ≡ sample
-            → All (λ y. y.position < x.position) kept
-            → OnOk result (out.new.items ≡ out.old.items
-            ++ tail_changes_between def.now key.now kept water (put_in_order kept x) water) }
+        ensures changes { ForEachNext (list_of self.old key.now) sample (λ kept x.
+            OnOk result (out.new.items ≡ out.old.items
+            ++ changes_by_tuple def.now key.now kept water x)) }
         ensures appended { HasAppended def.now.count out.old.items out.new.items
             steps.old steps.new }
     {
