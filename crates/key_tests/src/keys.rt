@@ -5,7 +5,7 @@ ghost use Rattle.stream_base.specs.declared.kept.Kept.{Kept};
 ghost use Rattle.stream_base.specs.declared.limits.TheConstants.{JOURNAL_MAX, TIME_MAX};
 
 use agg_laws::Steps;
-use key_windows::KeyWindows;
+use key_windows::{AnyKey, KeyWindows};
 use plain_keys::PlainKey;
 use std::alloc::Global;
 use std::test::Fail;
@@ -42,7 +42,7 @@ fn four_windows(alloc: Global) -> Result<Defs, Fail>
 }
 
 // A state without a tuple or mark, under a watermark.
-fn fresh<K: KeyWindows>(alloc: Global, defs: &Defs, key: KeyText, water: u64) -> Result<K, NoMemory>
+fn fresh<K: AnyKey>(alloc: Global, defs: &Defs, key: KeyText, water: u64) -> Result<K, NoMemory>
     ensures first { IfOk result (λ state. K.next_position state ≡ 0) }
     ensures stands { IfOk result (λ state. (kept : List Kept) × (marks : List ℕ)
         × K.fits defs.now kept marks water state) }
@@ -51,7 +51,7 @@ fn fresh<K: KeyWindows>(alloc: Global, defs: &Defs, key: KeyText, water: u64) ->
 }
 
 // Room is made for a tuple, and it is put. Times of 32 bits are within the limit here and below.
-fn put<K: KeyWindows>(
+fn put<K: AnyKey>(
     alloc: Global,
     state: &mut K,
     defs: &Defs,
@@ -72,12 +72,12 @@ fn put<K: KeyWindows>(
     let water = water as u64;
     let room = state.reserve_put(defs, x.time, water)?;
     let mut out = Vec::with_capacity(alloc, room as usize)?;
-    state.put(defs, x.position, x.time, x.value, water, &mut out, steps);
+    state.put(defs, x, water, &mut out, steps);
     Ok(out)
 }
 
 // Room is made for a mark, and it is taken in.
-fn mark<K: KeyWindows>(
+fn mark<K: AnyKey>(
     alloc: Global,
     state: &mut K,
     defs: &Defs,
@@ -100,7 +100,7 @@ fn mark<K: KeyWindows>(
 }
 
 // Room is made for a move of the watermark, and it is taken in.
-fn advance<K: KeyWindows>(
+fn advance<K: AnyKey>(
     alloc: Global,
     state: &mut K,
     defs: &Defs,
@@ -122,7 +122,7 @@ fn advance<K: KeyWindows>(
     Ok(out)
 }
 
-fn due<K: KeyWindows>(state: &K, defs: &Defs, water: u32) -> u64
+fn due<K: AnyKey>(state: &K, defs: &Defs, water: u32) -> u64
     requires { (kept : List Kept) × (marks : List ℕ)
         × K.fits defs.now kept marks water state.now }
 {
@@ -130,7 +130,7 @@ fn due<K: KeyWindows>(state: &K, defs: &Defs, water: u32) -> u64
 }
 
 // The slices under a watermark of a state that stands under this one or an earlier one.
-fn slices<K: KeyWindows>(state: &K, defs: &Defs, old: u32, water: u32) -> u64
+fn slices<K: AnyKey>(state: &K, defs: &Defs, old: u32, water: u32) -> u64
     requires stands { (kept : List Kept) × (marks : List ℕ)
         × K.fits defs.now kept marks old state.now }
     requires rises { old ≤ water }
