@@ -1,10 +1,9 @@
 -- What the table of keys keeps of each key.
-use Rattle.std.specs.Prelude.{◌≡◌, ◌≤◌, ◌<◌, ◌⊎◌, ℕ, List, [], ◌∷◌, ◌++◌, Option, None, Some, ◌+◌, Result, OnOk, OnErr, length, slice_index, slice_index_or, sum_by, ◌≢◌, EachIndex, nat_le}
-use Rattle.std.specs.Map.{values_of}
+use Rattle.std.specs.Prelude.{◌≡◌, ◌≤◌, ◌<◌, ◌⊎◌, ℕ, List, [], ◌∷◌, ◌++◌, Option, None, Some, ◌+◌, Result, OnOk, OnErr, length, slice_index, slice_index_or, sum_by, ◌≢◌, EachIndex}
 use Rattle.key_windows.specs.Calls.{Call, IsWater, changes_by_move, moment}
 use Rattle.key_windows.specs.Dues.{IsDueNumber}
 use Rattle.key_windows.specs.Calls.Call.{Move}
-use Rattle.std.specs.List.{HoldsAt, filter}
+use Rattle.std.specs.List.{HoldsAt}
 use Rattle.stream_base.specs.Limits.{Definitions}
 use Rattle.stream_base.specs.declared.change.Change.{Change}
 use Rattle.stream_base.specs.declared.entry.Entry.{Entry}
@@ -13,7 +12,7 @@ use Rattle.stream_base.specs.declared.limits.TheConstants.{TIME_MAX}
 use Rattle.stream_base.specs.Model.Changes.{Moment, changes_after}
 use Rattle.stream_base.specs.Model.Journal.{kept_of, marks_of}
 use Rattle.stream_base.specs.Model.Watermark.{water_of}
-use Rattle.shard_core.specs.Placed.{AreByKey, place_in}
+use Rattle.shard_core.specs.Placed.{AreByKey, place_in, places_reached}
 use Rattle.shard_core.specs.Recorded.{Recorded}
 use Rattle.shard_core.specs.Shard.{IsKnown}
 use Rattle.shard_core.specs.declared.keys.KeyTable.{KeyTable}
@@ -93,7 +92,11 @@ module _ {K : Type 0} (key_of : K → List ℕ) (fits : Definitions → List Kep
 abbrev pub IsTableOf : {K : Type 0} → (K → List ℕ) → (Definitions → List Kept → List ℕ → ℕ → K → Type 0) → (K → ℕ) → Recorded → KeyTable K → Type 0
 IsTableOf key_of fits next_position past t = AreCurrent key_of fits next_position past.defs past.sources past.journal t
 
--- and with one entry more, of that past and the entry
+-- a table that is that of a past stays so
+abbrev pub StaysTableOf : {K : Type 0} → (K → List ℕ) → (Definitions → List Kept → List ℕ → ℕ → K → Type 0) → (K → ℕ) → Recorded → KeyTable K → KeyTable K → Type 0
+StaysTableOf key_of fits next_position past old new = IsTableOf key_of fits next_position past old → IsTableOf key_of fits next_position past new
+
+-- with one entry more it is that of the past and the entry
 abbrev pub IsTableWith : {K : Type 0} → (K → List ℕ) → (Definitions → List Kept → List ℕ → ℕ → K → Type 0) → (K → ℕ) → Recorded → Entry → KeyTable K → Type 0
 IsTableWith key_of fits next_position past e t = AreCurrent key_of fits next_position past.defs past.sources (past.journal ++ e ∷ []) t
 
@@ -129,7 +132,7 @@ pub record HasSamePlaces {K : Type 0} (old new : KeyTable K) : Type 0 where
 
 -- the places of the states that are due at a watermark, by the bytes of their keys
 abbrev pub due_places : {K : Type 0} → KeyTable K → ℕ → List ℕ
-due_places t water = filter (λ p. nat_le (slice_index t.dues.items p) water) (values_of t.index)
+due_places t water = places_reached t.dues.items water t.index
 
 -- no place stands twice
 abbrev pub AreApart : List ℕ → Type 0

@@ -6,14 +6,14 @@ use Rattle.stream_base.specs.Limits.{Definitions}
 use Rattle.stream_base.specs.declared.kept.Kept.{Kept}
 use Rattle.stream_base.specs.Model.Changes.{Moment}
 use Rattle.shard_core.specs.Engines.{AreMovedWithin, BoundsMove, CanMove, IsMovedSlot, IsSameSlot, StandsIn, moves_of}
-use Rattle.shard_core.specs.Slots.{Tells, TellsMove}
+use Rattle.shard_core.specs.Slots.{AddsChanges, TellsMove}
 use Rattle.shard_core.specs.declared.keys.KeyTable.{KeyTable}
 use Rattle.shard_core.specs.declared.slot.Slot.{Slot}
 use Rattle.shard_core.specs.declared.told.Told.{Told}
 
 -- room was made for the moves of the slots at these places to a watermark
-abbrev pub AreReady : {K : Type 0} → (Call → K → Type 0) → ℕ → KeyTable K → List ℕ → Type 0
-AreReady is_ready water t places = EachIndex places (λ i. HoldsAt (CanMove is_ready water) t.slots.items (slice_index places i))
+abbrev pub AreReadyToMove : {K : Type 0} → (Call → K → Type 0) → ℕ → KeyTable K → List ℕ → Type 0
+AreReadyToMove is_ready water t places = EachIndex places (λ i. HoldsAt (CanMove is_ready water) t.slots.items (slice_index places i))
 
 -- how many changes are promised of the slots at these places
 abbrev pub promised_at : {K : Type 0} → (K → ℕ) → KeyTable K → Slot K → List ℕ → ℕ
@@ -37,8 +37,8 @@ module _ {K : Type 0} (key_of : K → List ℕ) (fits : Fitting K) (next_positio
 
 module _ {K : Type 0} (key_of : K → List ℕ) (fits : Fitting K) (d : Definitions) where
   -- the slots at these places stand for what is kept of their keys
-  abbrev pub AreStanding : (List ℕ → List Kept) → (List ℕ → List ℕ) → KeyTable K → Slot K → List ℕ → Type 0
-  AreStanding kept marks t x places = EachIndex places (λ i. StandsIn key_of fits d kept marks (slice_index_or t.slots.items (slice_index places i) x))
+  abbrev pub EachStandsIn : (List ℕ → List Kept) → (List ℕ → List ℕ) → KeyTable K → Slot K → List ℕ → Type 0
+  EachStandsIn kept marks t x places = EachIndex places (λ i. StandsIn key_of fits d kept marks (slice_index_or t.slots.items (slice_index places i) x))
 
   -- the move of the slot at a place to a watermark tells its changes
   abbrev pub TellsMoveAt : ℕ → KeyTable K → ℕ → Told → Told → Type 0
@@ -47,8 +47,8 @@ module _ {K : Type 0} (key_of : K → List ℕ) (fits : Fitting K) (d : Definiti
   -- the moves of the slots at these places tell their changes, one behind the other
   abbrev pub TellMovesAt : ℕ → KeyTable K → List ℕ → Told → Told → Type 0
   TellMovesAt water t places told later =
-      (x : Slot K) (kept : List ℕ → List Kept) (marks : List ℕ → List ℕ) → AreStanding kept marks t x places
-      → Tells (flat_map (λ p. moves_of key_of d kept marks water (slice_index_or t.slots.items p x)) places) told later
+      (x : Slot K) (kept : List ℕ → List Kept) (marks : List ℕ → List ℕ) → EachStandsIn kept marks t x places
+      → AddsChanges (flat_map (λ p. moves_of key_of d kept marks water (slice_index_or t.slots.items p x)) places) told later
 
   -- the move of the slot at a place takes no more steps than some number that bounds it
   abbrev pub MoveAtStaysWithin : (Definitions → List ℕ → Moment → Moment → ℕ → Type 0) → ℕ → KeyTable K → ℕ → ℕ → ℕ → Type 0
@@ -59,5 +59,5 @@ module _ {K : Type 0} (key_of : K → List ℕ) (fits : Fitting K) (d : Definiti
   -- the moves of the slots at these places take no more than the sum of such numbers
   abbrev pub MovesStayWithin : (Definitions → List ℕ → Moment → Moment → ℕ → Type 0) → ℕ → KeyTable K → List ℕ → ℕ → ℕ → Type 0
   MovesStayWithin bounds water t places steps later =
-      (x : Slot K) (kept : List ℕ → List Kept) (marks : List ℕ → List ℕ) → AreStanding kept marks t x places
+      (x : Slot K) (kept : List ℕ → List Kept) (marks : List ℕ → List ℕ) → EachStandsIn kept marks t x places
       → AreMovedWithin bounds key_of d kept marks water t.slots.items x places (length places) steps later

@@ -5,7 +5,8 @@ ghost use Rattle.stream_base.specs.Model.What.{is_progress};
 ghost use Rattle.stream_base.specs.Model.Watermark.{water_of};
 ghost use Rattle.shard_core.specs.Engines.{AreMovable, AreSameSlots, CanMove, HasSameDues, HasSamePlaces, IsSameElsewhere, IsSameOutside, IsTableOf, MayMoveAt, TakesIn, due_places};
 ghost use Rattle.shard_core.specs.Flat.{sharded};
-ghost use Rattle.shard_core.specs.Moved.{AreMovedAt, AreReady, IsMovedAt, IsSameAt, MoveAtStaysWithin, MovesStayWithin, TellMovesAt, TellsMoveAt, promised_at};
+ghost use Rattle.shard_core.specs.Moved.{AreMovedAt, AreReadyToMove, IsMovedAt, IsSameAt, MoveAtStaysWithin, MovesStayWithin, TellMovesAt, TellsMoveAt, promised_at};
+ghost use Rattle.shard_core.specs.Slots.{TakesPromised};
 ghost use Rattle.shard_core.specs.Told.{IsSettled, spare_of};
 ghost use Rattle.shard_core.specs.Work.{IsMoveWithin};
 
@@ -99,8 +100,8 @@ impl<K: AnyKey> KeyTable<K> {
             self.old self.new place }
         ensures changes { TellsMoveAt K.key_of K.fits defs.now new self.old place
             told.old told.new }
-        ensures added { HoldsAt (λ slot. spare_of told.old
-            ≤ spare_of told.new + K.promised slot.state) self.old.slots.items place }
+        ensures added { HoldsAt (TakesPromised K.promised told.old told.new)
+            self.old.slots.items place }
         ensures bound { MoveAtStaysWithin K.key_of K.fits defs.now K.bounds_move new self.old place
             steps.old steps.new }
     {
@@ -114,7 +115,7 @@ impl<K: AnyKey> KeyTable<K> {
         ensures table { HasSameDues self.old self.new }
         ensures same { AreSameSlots K.key_of K.fits K.next_position defs.now
             self.old.slots.items self.new.slots.items }
-        ensures ready { OnOk result (AreReady (K.is_ready defs.now) new self.new places.now) }
+        ensures ready { OnOk result (AreReadyToMove (K.is_ready defs.now) new self.new places.now) }
         ensures room { (x : Slot K)
             → IfOk result (λ n. promised_at K.promised self.new x places.now ≡ n) }
     {
@@ -138,7 +139,7 @@ impl<K: AnyKey> KeyTable<K> {
         requires settled { IsSettled told.old }
         requires movable { AreMovable K.fits defs.now self.old.slots.items places.now new }
         requires aligned { length self.old.dues.items ≡ length self.old.slots.items }
-        requires ready { AreReady (K.is_ready defs.now) new self.old places.now }
+        requires ready { AreReadyToMove (K.is_ready defs.now) new self.old places.now }
         requires spare { (x : Slot K)
             → promised_at K.promised self.old x places.now ≤ spare_of told.old }
         ensures settled { IsSettled told.new }

@@ -2,7 +2,7 @@ ghost use Rattle.std.specs.Prelude.{◌≡◌, ◌≤◌, ◌<◌, ◌+◌, [], 
 ghost use Rattle.key_windows.specs.Calls.{IsWater};
 ghost use Rattle.stream_base.specs.declared.limits.TheConstants.{JOURNAL_MAX};
 ghost use Rattle.shard_core.specs.Engines.{Accepts, CanMove, HasLists, HasRefused, IsSameSlot, MayMove};
-ghost use Rattle.shard_core.specs.Slots.{IsDueOfSlot, KeepsDueNumbers, MarkStaysWithin, MoveStaysWithin, PutStaysWithin, StandsMoved, StandsWithMark, StandsWithTuple, TellsMark, TellsMove, TellsPut};
+ghost use Rattle.shard_core.specs.Slots.{IsDueOfSlot, KeepsDueNumbers, MarkStaysWithin, MoveStaysWithin, PutStaysWithin, SlotFitsMoved, SlotFitsWithMark, SlotFitsWithTuple, TakesPromised, TellsMark, TellsMove, TellsPut};
 ghost use Rattle.shard_core.specs.Told.{IsSettled, spare_of};
 
 use crate::told::Told;
@@ -51,7 +51,7 @@ impl<K: AnyKey> Slot<K> {
         ensures key { OnOk result (K.key_of (self.new).state ≡ K.key_of (self.old).state) }
         ensures water { OnOk result ((self.new).water ≡ (self.old).water) }
         ensures next { OnOk result (K.next_position (self.new).state ≡ x.position + 1) }
-        ensures fits { StandsWithTuple K.fits defs.now x self.old self.new result }
+        ensures fits { SlotFitsWithTuple K.fits defs.now x self.old self.new result }
         ensures changes { TellsPut K.fits defs.now K.key_of x self.old told.old told.new result }
         ensures bound { PutStaysWithin K.fits defs.now K.key_of K.bounds_put x self.old
             steps.old steps.new result }
@@ -84,7 +84,7 @@ impl<K: AnyKey> Slot<K> {
         ensures water { OnOk result ((self.new).water ≡ (self.old).water) }
         ensures next { OnOk result (K.next_position (self.new).state
             ≡ K.next_position (self.old).state) }
-        ensures fits { StandsWithMark K.fits defs.now time self.old self.new result }
+        ensures fits { SlotFitsWithMark K.fits defs.now time self.old self.new result }
         ensures changes { TellsMark K.fits defs.now K.key_of time self.old
             told.old told.new result }
         ensures bound { MarkStaysWithin K.fits defs.now K.key_of K.bounds_mark time self.old
@@ -125,9 +125,9 @@ impl<K: AnyKey> Slot<K> {
         ensures key { K.key_of (self.new).state ≡ K.key_of (self.old).state }
         ensures next { K.next_position (self.new).state ≡ K.next_position (self.old).state }
         ensures water { (self.new).water ≡ new }
-        ensures fits { StandsMoved K.fits defs.now new self.old self.new }
+        ensures fits { SlotFitsMoved K.fits defs.now new self.old self.new }
         ensures changes { TellsMove K.fits defs.now K.key_of new self.old told.old told.new }
-        ensures added { spare_of told.old ≤ spare_of told.new + K.promised (self.old).state }
+        ensures added { TakesPromised K.promised told.old told.new self.old }
         ensures bound { MoveStaysWithin K.fits defs.now K.key_of K.bounds_move new self.old
             steps.old steps.new }
     {
