@@ -9,6 +9,7 @@ use Rattle.stream_base.specs.declared.change.Change.{Change}
 use Rattle.stream_base.specs.declared.entry.Entry.{Entry}
 use Rattle.stream_base.specs.declared.kept.Kept.{Kept}
 use Rattle.stream_base.specs.declared.limits.TheConstants.{TIME_MAX}
+use Rattle.stream_base.specs.declared.what.What.{What}
 use Rattle.stream_base.specs.Model.Changes.{Moment, changes_after}
 use Rattle.stream_base.specs.Model.Journal.{kept_of, marks_of}
 use Rattle.stream_base.specs.Model.Watermark.{water_of}
@@ -17,6 +18,7 @@ use Rattle.shard_core.specs.Recorded.{Recorded}
 use Rattle.shard_core.specs.Shard.{IsKnown}
 use Rattle.shard_core.specs.declared.keys.KeyTable.{KeyTable}
 use Rattle.shard_core.specs.declared.slot.Slot.{Slot}
+use Rattle.shard_core.specs.declared.told.Told.{Told}
 
 -- a slot stands for the same as before: only what it has room for may differ
 pub record IsSameSlot {K : Type 0} (key_of : K → List ℕ) (fits : Definitions → List Kept → List ℕ → ℕ → K → Type 0) (next_position : K → ℕ) (d : Definitions) (old new : Slot K) : Type 0 where
@@ -30,9 +32,9 @@ abbrev pub SlotFits : {K : Type 0} → (Definitions → List Kept → List ℕ �
 SlotFits fits d kept marks slot = fits d kept marks slot.water slot.state
 
 -- a slot that refused stands for the same as before, and no change was told and no step taken
-pub record HasRefused {K : Type 0} (key_of : K → List ℕ) (fits : Definitions → List Kept → List ℕ → ℕ → K → Type 0) (next_position : K → ℕ) (d : Definitions) (old new : Slot K) (out longer : List Change) (steps later : ℕ) : Type 0 where
+pub record HasRefused {K : Type 0} (key_of : K → List ℕ) (fits : Definitions → List Kept → List ℕ → ℕ → K → Type 0) (next_position : K → ℕ) (d : Definitions) (old new : Slot K) (told told_then : Told) (steps later : ℕ) : Type 0 where
   pub same : IsSameSlot key_of fits next_position d old new
-  pub nothing : longer ≡ out
+  pub nothing : told_then.log.items ≡ told.log.items
   pub no_step : later ≡ steps
 
 -- there are lists for which a slot stands
@@ -112,12 +114,16 @@ pub record MayCome {K : Type 0} (key_of : K → List ℕ) (fits : Definitions �
   pub known : IsKnown past.sources e
 
 -- an entry was taken in, and its changes were appended; or it was refused, and the table is that of the past still, no change was told and no step taken
-pub record TakesIn {K T E : Type 0} (key_of : K → List ℕ) (fits : Definitions → List Kept → List ℕ → ℕ → K → Type 0) (next_position : K → ℕ) (past : Recorded) (e : Entry) (answer : Result T E) (t : KeyTable K) (out longer : List Change) (steps later : ℕ) : Type 0 where
+pub record TakesIn {K T E : Type 0} (key_of : K → List ℕ) (fits : Definitions → List Kept → List ℕ → ℕ → K → Type 0) (next_position : K → ℕ) (past : Recorded) (e : Entry) (answer : Result T E) (t : KeyTable K) (told told_then : Told) (steps later : ℕ) : Type 0 where
   pub taken : OnOk answer (IsTableWith key_of fits next_position past e t)
-  pub changes : OnOk answer (longer ≡ out ++ changes_after past.defs past.sources past.journal e)
+  pub changes : OnOk answer (told_then.log.items ≡ told.log.items ++ changes_after past.defs past.sources past.journal e)
   pub refused : OnErr answer (IsTableOf key_of fits next_position past t)
-  pub nothing : OnErr answer (longer ≡ out)
+  pub nothing : OnErr answer (told_then.log.items ≡ told.log.items)
   pub no_step : OnErr answer (later ≡ steps)
+
+-- any entry of these words was so taken in, or refused
+abbrev pub TakesInAs : {K T E : Type 0} → (K → List ℕ) → (Definitions → List Kept → List ℕ → ℕ → K → Type 0) → (K → ℕ) → Recorded → What → Result T E → KeyTable K → Told → Told → ℕ → ℕ → Type 0
+TakesInAs key_of fits next_position past what answer t told told_then steps later = (e : Entry) → e.what ≡ what → TakesIn key_of fits next_position past e answer t told told_then steps later
 
 -- the places of the keys and the due numbers are as before
 pub record HasSameDues {K : Type 0} (old new : KeyTable K) : Type 0 where

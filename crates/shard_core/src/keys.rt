@@ -1,9 +1,8 @@
 ghost use Rattle.std.specs.Prelude.{◌≡◌, ◌<◌, ℕ, List, [], IfOk, OnOk, Some, None, length};
 ghost use Rattle.std.specs.List.{HoldsAt};
-ghost use Rattle.stream_base.specs.declared.entry.Entry.{Entry};
 ghost use Rattle.stream_base.specs.declared.limits.TheConstants.{JOURNAL_MAX};
 ghost use Rattle.stream_base.specs.declared.what.What.TheVariants.{Tuple, Mark};
-ghost use Rattle.shard_core.specs.Engines.{ArePlaces, HasSameDues, IsSameElsewhere, IsTableOf, MayTake, StandAt, StaysTableOf, TakesIn, place_of};
+ghost use Rattle.shard_core.specs.Engines.{ArePlaces, HasSameDues, IsSameElsewhere, IsTableOf, MayTake, StandAt, StaysTableOf, TakesInAs, place_of};
 ghost use Rattle.shard_core.specs.Flat.{sharded};
 ghost use Rattle.shard_core.specs.Recorded.{water_behind};
 ghost use Rattle.shard_core.specs.Told.{IsSettled};
@@ -154,9 +153,8 @@ impl<K: AnyKey> KeyTable<K> {
         requires accepted { MayTake K.key_of K.fits K.next_position past.now self.old time }
         requires few { length past.now.journal < JOURNAL_MAX }
         ensures settled { IsSettled told.new }
-        ensures taken { (e : Entry) → e.what ≡ Tuple key.now time value
-            → TakesIn K.key_of K.fits K.next_position past.now e result self.new
-            told.old.log.items told.new.log.items steps.old steps.new }
+        ensures taken { TakesInAs K.key_of K.fits K.next_position past.now
+            (Tuple key.now time value) result self.new told.old told.new steps.old steps.new }
         ensures work { IsPutWithin K.bounds_put (sharded past.now) key.now time value
             steps.old steps.new result }
     {
@@ -189,9 +187,8 @@ impl<K: AnyKey> KeyTable<K> {
         requires settled { IsSettled told.old }
         requires accepted { MayTake K.key_of K.fits K.next_position past.now self.old time }
         ensures settled { IsSettled told.new }
-        ensures taken { (e : Entry) → e.what ≡ Mark key.now time
-            → TakesIn K.key_of K.fits K.next_position past.now e result self.new
-            told.old.log.items told.new.log.items steps.old steps.new }
+        ensures taken { TakesInAs K.key_of K.fits K.next_position past.now (Mark key.now time)
+            result self.new told.old told.new steps.old steps.new }
         ensures work { IsMarkPutWithin K.bounds_mark (sharded past.now) key.now time
             steps.old steps.new result }
     {

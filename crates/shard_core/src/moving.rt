@@ -39,7 +39,7 @@ impl<K: AnyKey> KeyTable<K> {
         requires water { IsWater new }
         ensures settled { IsSettled told.new }
         ensures taken { TakesIn K.key_of K.fits K.next_position past.now entry.now result
-            self.new told.old.log.items told.new.log.items steps.old steps.new }
+            self.new told.old told.new steps.old steps.new }
         ensures work { OnOk result (IsMoveWithin K.bounds_move (sharded past.now) entry.now
             steps.old steps.new) }
     {

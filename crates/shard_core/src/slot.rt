@@ -47,7 +47,7 @@ impl<K: AnyKey> Slot<K> {
         ensures settled { IsSettled told.new }
         ensures refused { OnErr result
             (HasRefused K.key_of K.fits K.next_position defs.now self.old self.new
-            told.old.log.items told.new.log.items steps.old steps.new) }
+            told.old told.new steps.old steps.new) }
         ensures key { OnOk result (K.key_of (self.new).state ≡ K.key_of (self.old).state) }
         ensures water { OnOk result ((self.new).water ≡ (self.old).water) }
         ensures next { OnOk result (K.next_position (self.new).state ≡ x.position + 1) }
@@ -79,7 +79,7 @@ impl<K: AnyKey> Slot<K> {
         ensures settled { IsSettled told.new }
         ensures refused { OnErr result
             (HasRefused K.key_of K.fits K.next_position defs.now self.old self.new
-            told.old.log.items told.new.log.items steps.old steps.new) }
+            told.old told.new steps.old steps.new) }
         ensures key { OnOk result (K.key_of (self.new).state ≡ K.key_of (self.old).state) }
         ensures water { OnOk result ((self.new).water ≡ (self.old).water) }
         ensures next { OnOk result (K.next_position (self.new).state
