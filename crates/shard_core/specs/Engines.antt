@@ -1,23 +1,24 @@
 -- What the table of keys keeps of each key.
-use Rattle.std.specs.Prelude.{◌≡◌, ◌≤◌, ◌<◌, ◌⊎◌, ℕ, List, [], ◌∷◌, ◌++◌, Option, None, Some, ◌+◌, Result, OnOk, OnErr, length, slice_index, slice_index_or, sum_by, ◌≢◌, EachIndex, nat_le}
-use Rattle.std.specs.Map.{values_of}
+use Rattle.std.specs.Prelude.{◌≡◌, ◌≤◌, ◌<◌, ◌⊎◌, ℕ, List, [], ◌∷◌, ◌++◌, Option, None, Some, ◌+◌, Result, OnOk, OnErr, length, slice_index, slice_index_or, sum_by, ◌≢◌, EachIndex}
 use Rattle.key_windows.specs.Calls.{Call, IsWater, changes_by_move, moment}
 use Rattle.key_windows.specs.Dues.{IsDueNumber}
 use Rattle.key_windows.specs.Calls.Call.{Move}
-use Rattle.std.specs.List.{HoldsAt, filter}
+use Rattle.std.specs.List.{HoldsAt}
 use Rattle.stream_base.specs.Limits.{Definitions}
 use Rattle.stream_base.specs.declared.change.Change.{Change}
 use Rattle.stream_base.specs.declared.entry.Entry.{Entry}
 use Rattle.stream_base.specs.declared.kept.Kept.{Kept}
 use Rattle.stream_base.specs.declared.limits.TheConstants.{TIME_MAX}
+use Rattle.stream_base.specs.declared.what.What.{What}
 use Rattle.stream_base.specs.Model.Changes.{Moment, changes_after}
 use Rattle.stream_base.specs.Model.Journal.{kept_of, marks_of}
 use Rattle.stream_base.specs.Model.Watermark.{water_of}
-use Rattle.shard_core.specs.Placed.{AreByKey, place_in}
+use Rattle.shard_core.specs.Placed.{AreByKey, place_in, places_reached}
 use Rattle.shard_core.specs.Recorded.{Recorded}
 use Rattle.shard_core.specs.Shard.{IsKnown}
 use Rattle.shard_core.specs.declared.keys.KeyTable.{KeyTable}
 use Rattle.shard_core.specs.declared.slot.Slot.{Slot}
+use Rattle.shard_core.specs.declared.told.Told.{Told}
 
 -- a slot stands for the same as before: only what it has room for may differ
 pub record IsSameSlot {K : Type 0} (key_of : K → List ℕ) (fits : Definitions → List Kept → List ℕ → ℕ → K → Type 0) (next_position : K → ℕ) (d : Definitions) (old new : Slot K) : Type 0 where
@@ -31,9 +32,9 @@ abbrev pub SlotFits : {K : Type 0} → (Definitions → List Kept → List ℕ �
 SlotFits fits d kept marks slot = fits d kept marks slot.water slot.state
 
 -- a slot that refused stands for the same as before, and no change was told and no step taken
-pub record HasRefused {K : Type 0} (key_of : K → List ℕ) (fits : Definitions → List Kept → List ℕ → ℕ → K → Type 0) (next_position : K → ℕ) (d : Definitions) (old new : Slot K) (out longer : List Change) (steps later : ℕ) : Type 0 where
+pub record HasRefused {K : Type 0} (key_of : K → List ℕ) (fits : Definitions → List Kept → List ℕ → ℕ → K → Type 0) (next_position : K → ℕ) (d : Definitions) (old new : Slot K) (told told_then : Told) (steps later : ℕ) : Type 0 where
   pub same : IsSameSlot key_of fits next_position d old new
-  pub nothing : longer ≡ out
+  pub nothing : told_then.log.items ≡ told.log.items
   pub no_step : later ≡ steps
 
 -- there are lists for which a slot stands
@@ -93,7 +94,11 @@ module _ {K : Type 0} (key_of : K → List ℕ) (fits : Definitions → List Kep
 abbrev pub IsTableOf : {K : Type 0} → (K → List ℕ) → (Definitions → List Kept → List ℕ → ℕ → K → Type 0) → (K → ℕ) → Recorded → KeyTable K → Type 0
 IsTableOf key_of fits next_position past t = AreCurrent key_of fits next_position past.defs past.sources past.journal t
 
--- and with one entry more, of that past and the entry
+-- a table that is that of a past stays so
+abbrev pub StaysTableOf : {K : Type 0} → (K → List ℕ) → (Definitions → List Kept → List ℕ → ℕ → K → Type 0) → (K → ℕ) → Recorded → KeyTable K → KeyTable K → Type 0
+StaysTableOf key_of fits next_position past old new = IsTableOf key_of fits next_position past old → IsTableOf key_of fits next_position past new
+
+-- with one entry more it is that of the past and the entry
 abbrev pub IsTableWith : {K : Type 0} → (K → List ℕ) → (Definitions → List Kept → List ℕ → ℕ → K → Type 0) → (K → ℕ) → Recorded → Entry → KeyTable K → Type 0
 IsTableWith key_of fits next_position past e t = AreCurrent key_of fits next_position past.defs past.sources (past.journal ++ e ∷ []) t
 
@@ -109,12 +114,16 @@ pub record MayCome {K : Type 0} (key_of : K → List ℕ) (fits : Definitions �
   pub known : IsKnown past.sources e
 
 -- an entry was taken in, and its changes were appended; or it was refused, and the table is that of the past still, no change was told and no step taken
-pub record TakesIn {K T E : Type 0} (key_of : K → List ℕ) (fits : Definitions → List Kept → List ℕ → ℕ → K → Type 0) (next_position : K → ℕ) (past : Recorded) (e : Entry) (answer : Result T E) (t : KeyTable K) (out longer : List Change) (steps later : ℕ) : Type 0 where
+pub record TakesIn {K T E : Type 0} (key_of : K → List ℕ) (fits : Definitions → List Kept → List ℕ → ℕ → K → Type 0) (next_position : K → ℕ) (past : Recorded) (e : Entry) (answer : Result T E) (t : KeyTable K) (told told_then : Told) (steps later : ℕ) : Type 0 where
   pub taken : OnOk answer (IsTableWith key_of fits next_position past e t)
-  pub changes : OnOk answer (longer ≡ out ++ changes_after past.defs past.sources past.journal e)
+  pub changes : OnOk answer (told_then.log.items ≡ told.log.items ++ changes_after past.defs past.sources past.journal e)
   pub refused : OnErr answer (IsTableOf key_of fits next_position past t)
-  pub nothing : OnErr answer (longer ≡ out)
+  pub nothing : OnErr answer (told_then.log.items ≡ told.log.items)
   pub no_step : OnErr answer (later ≡ steps)
+
+-- any entry of these words was so taken in, or refused
+abbrev pub TakesInAs : {K T E : Type 0} → (K → List ℕ) → (Definitions → List Kept → List ℕ → ℕ → K → Type 0) → (K → ℕ) → Recorded → What → Result T E → KeyTable K → Told → Told → ℕ → ℕ → Type 0
+TakesInAs key_of fits next_position past what answer t told told_then steps later = (e : Entry) → e.what ≡ what → TakesIn key_of fits next_position past e answer t told told_then steps later
 
 -- the places of the keys and the due numbers are as before
 pub record HasSameDues {K : Type 0} (old new : KeyTable K) : Type 0 where
@@ -129,7 +138,7 @@ pub record HasSamePlaces {K : Type 0} (old new : KeyTable K) : Type 0 where
 
 -- the places of the states that are due at a watermark, by the bytes of their keys
 abbrev pub due_places : {K : Type 0} → KeyTable K → ℕ → List ℕ
-due_places t water = filter (λ p. nat_le (slice_index t.dues.items p) water) (values_of t.index)
+due_places t water = places_reached t.dues.items water t.index
 
 -- no place stands twice
 abbrev pub AreApart : List ℕ → Type 0

@@ -9,3 +9,5 @@ pub mod Applying
 pub mod Engines
 pub mod Flat
 pub mod Costs
+pub mod Slots
+pub mod Moved

@@ -32,7 +32,7 @@ impl<K: AnyKey> KeyTable<K> {
         requires few { length past.now.journal < JOURNAL_MAX }
         ensures settled { IsSettled told.new }
         ensures taken { TakesIn K.key_of K.fits K.next_position past.now entry.now result
-            self.new told.old.log.items told.new.log.items steps.old steps.new }
+            self.new told.old told.new steps.old steps.new }
         ensures tuple_work { OnOk result (IsTupleWithin K.bounds_put (sharded past.now) entry.now
             steps.old steps.new) }
         ensures mark_work { OnOk result (IsMarkWithin K.bounds_mark (sharded past.now) entry.now
@@ -73,7 +73,7 @@ impl<K: AnyKey> KeyTable<K> {
         requires progress { is_progress entry.now.what ≡ true }
         ensures settled { IsSettled told.new }
         ensures taken { TakesIn K.key_of K.fits K.next_position past.now entry.now result
-            self.new told.old.log.items told.new.log.items steps.old steps.new }
+            self.new told.old told.new steps.old steps.new }
         ensures move_work { OnOk result (IsMoveWithin K.bounds_move (sharded past.now) entry.now
             steps.old steps.new) }
         ensures still_work { IsStill (sharded past.now) entry.now → steps.new ≡ steps.old }

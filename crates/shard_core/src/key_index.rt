@@ -1,10 +1,5 @@
-ghost use Rattle.std.specs.Prelude.{◌≡◌, ◌+◌, [], ℕ, List, IfOk, OnOk, OnErr, IsTrue, None, Some, length, nat_le, slice_index, if◌then◌else◌};
-ghost use Rattle.std.specs.BTreeMap.{is_at};
-ghost use Rattle.std.specs.Cmp.Lexicographic.{slice_cmp};
-ghost use Rattle.std.specs.List.{filter};
-ghost use Rattle.std.specs.Map.{values_of};
-ghost use Rattle.std.specs.Ordering.{nat_cmp};
-ghost use Rattle.shard_core.specs.Placed.{AreByKey, place_in};
+ghost use Rattle.std.specs.Prelude.{◌≡◌, ◌+◌, [], ℕ, IfOk, OnOk, OnErr, IsTrue, None, Some, length};
+ghost use Rattle.shard_core.specs.Placed.{AreByKey, IsPlaceAdded, keys_reached, place_in, places_reached};
 
 use crate::dues::Dues;
 use crate::hints::{Hints, TRIES};
@@ -82,9 +77,7 @@ impl KeyIndex {
     pub fn add(&mut self, key: &KeyText) -> Result<usize, NoMemory>
         requires { place_in self.old key.now ≡ None }
         ensures place { IfOk result (λ p. p ≡ length self.old) }
-        ensures added { IfOk result (λ p. (other : List ℕ) → place_in self.new other
-            ≡ (if is_at (slice_cmp nat_cmp key.now) other then Some p
-            else place_in self.old other)) }
+        ensures added { IfOk result (λ p. IsPlaceAdded key.now p self.old self.new) }
         ensures len { OnOk result (length self.new ≡ length self.old + 1) }
         ensures by_key { AreByKey self.new }
         ensures refused { OnErr result (self.new ≡ self.old) }
@@ -103,7 +96,7 @@ impl KeyIndex {
     pub fn due(&self, alloc: Global, dues: &Dues, water: u64) -> Result<Vec<usize>, NoMemory>
         requires { length dues.now.items ≡ length self.now }
         ensures { IfOk result (λ places. places.items
-            ≡ filter (λ p. nat_le (slice_index dues.now.items p) water) (values_of self.now)) }
+            ≡ places_reached dues.now.items water self.now) }
     {
         if dues.reaches_many(water) {
             self.due_of_all(alloc, dues, water)
@@ -115,7 +108,7 @@ impl KeyIndex {
     // The same by a look at each key, in order.
     fn due_of_all(&self, alloc: Global, dues: &Dues, water: u64) -> Result<Vec<usize>, NoMemory>
         ensures { IfOk result (λ places. places.items
-            ≡ filter (λ p. nat_le (slice_index dues.now.items p) water) (values_of self.now)) }
+            ≡ places_reached dues.now.items water self.now) }
     {
         let mut places = Vec::new(alloc);
         for place in self.index.values() {
@@ -130,7 +123,7 @@ impl KeyIndex {
     fn due_of_few(&self, alloc: Global, dues: &Dues, water: u64) -> Result<Vec<usize>, NoMemory>
         requires { length dues.now.items ≡ length self.now }
         ensures { IfOk result (λ places. places.items
-            ≡ filter (λ p. nat_le (slice_index dues.now.items p) water) (values_of self.now)) }
+            ≡ places_reached dues.now.items water self.now) }
     {
         let due = self.due_by_key(alloc, dues, water)?;
         let mut places = Vec::new(alloc);
@@ -149,8 +142,7 @@ impl KeyIndex {
         water: u64,
     ) -> Result<BTreeMap<KeyText, usize>, NoMemory>
         requires { length dues.now.items ≡ length self.now }
-        ensures { IfOk result (λ due. due.entries
-            ≡ filter (λ e. nat_le (slice_index dues.now.items e.1) water) self.now) }
+        ensures { IfOk result (λ due. due.entries ≡ keys_reached dues.now.items water self.now) }
     {
         let mut due = BTreeMap::new(alloc);
         let mut from = 0;

@@ -1,13 +1,12 @@
 ghost use Rattle.std.specs.Prelude.{◌≡◌, ◌<◌, ℕ, List, [], IfOk, OnOk, Some, None, length};
 ghost use Rattle.std.specs.List.{HoldsAt};
-ghost use Rattle.stream_base.specs.declared.entry.Entry.{Entry};
 ghost use Rattle.stream_base.specs.declared.limits.TheConstants.{JOURNAL_MAX};
 ghost use Rattle.stream_base.specs.declared.what.What.TheVariants.{Tuple, Mark};
-ghost use Rattle.stream_base.specs.Model.Watermark.{water_of};
-ghost use Rattle.shard_core.specs.Engines.{ArePlaces, HasSameDues, IsSameElsewhere, IsTableOf, MayTake, StandAt, TakesIn, place_of};
+ghost use Rattle.shard_core.specs.Engines.{ArePlaces, HasSameDues, IsSameElsewhere, IsTableOf, MayTake, StandAt, StaysTableOf, TakesInAs, place_of};
 ghost use Rattle.shard_core.specs.Flat.{sharded};
+ghost use Rattle.shard_core.specs.Recorded.{water_behind};
 ghost use Rattle.shard_core.specs.Told.{IsSettled};
-ghost use Rattle.shard_core.specs.Work.{IsTakenWithin};
+ghost use Rattle.shard_core.specs.Work.{IsMarkPutWithin, IsPutWithin};
 
 use crate::dues::Dues;
 use crate::key_index::KeyIndex;
@@ -52,8 +51,8 @@ impl<K: AnyKey> KeyTable<K> {
     ) -> Result<usize, NoMemory>
         ensures told { told.new ≡ told.old }
         ensures place { IfOk result (λ p. place_of self.new key.now ≡ Some p) }
-        ensures current { IsTableOf K.key_of K.fits K.next_position past.now self.old
-            → IsTableOf K.key_of K.fits K.next_position past.now self.new }
+        ensures current { StaysTableOf K.key_of K.fits K.next_position past.now
+            self.old self.new }
     {
         match self.index.get(key) {
             Some(place) => Ok(place),
@@ -73,8 +72,8 @@ impl<K: AnyKey> KeyTable<K> {
         requires { place_of self.old key.now ≡ None }
         ensures told { told.new ≡ told.old }
         ensures place { IfOk result (λ p. place_of self.new key.now ≡ Some p) }
-        ensures current { IsTableOf K.key_of K.fits K.next_position past.now self.old
-            → IsTableOf K.key_of K.fits K.next_position past.now self.new }
+        ensures current { StaysTableOf K.key_of K.fits K.next_position past.now
+            self.old self.new }
     {
         self.slots.reserve(1)?;
         self.dues.reserve()?;
@@ -98,8 +97,8 @@ impl<K: AnyKey> KeyTable<K> {
         ensures index { self.new.index ≡ self.old.index }
         ensures dues { self.new.dues ≡ self.old.dues }
         ensures others { IsSameElsewhere self.old.slots.items self.new.slots.items place }
-        ensures water { HoldsAt (λ slot. slot.water
-            ≡ water_of past.now.sources past.now.journal) self.new.slots.items place }
+        ensures water { HoldsAt (λ slot. slot.water ≡ water_behind past.now)
+            self.new.slots.items place }
     {
         self.slots[place].water = past.water();
     }
@@ -110,8 +109,8 @@ impl<K: AnyKey> KeyTable<K> {
         requires places { ArePlaces self.old places.now }
         ensures current { IsTableOf K.key_of K.fits K.next_position past.now self.new }
         ensures table { HasSameDues self.old self.new }
-        ensures water { StandAt (water_of past.now.sources past.now.journal)
-            self.new.slots.items places.now (length places.now) }
+        ensures water { StandAt (water_behind past.now) self.new.slots.items places.now
+            (length places.now) }
     {
         for place in places {
             self.catch_up(past, *place);
@@ -131,8 +130,8 @@ impl<K: AnyKey> KeyTable<K> {
         ensures told { told.new ≡ told.old }
         ensures current { IsTableOf K.key_of K.fits K.next_position past.now self.new }
         ensures place { IfOk result (λ p. place_of self.new key.now ≡ Some p) }
-        ensures water { IfOk result (λ p. HoldsAt (λ slot. slot.water
-            ≡ water_of past.now.sources past.now.journal) self.new.slots.items p) }
+        ensures water { IfOk result (λ p. HoldsAt (λ slot. slot.water ≡ water_behind past.now)
+            self.new.slots.items p) }
     {
         let place = self.place_or_add(alloc, past, key, told)?;
         self.catch_up(past, place);
@@ -154,11 +153,10 @@ impl<K: AnyKey> KeyTable<K> {
         requires accepted { MayTake K.key_of K.fits K.next_position past.now self.old time }
         requires few { length past.now.journal < JOURNAL_MAX }
         ensures settled { IsSettled told.new }
-        ensures taken { (e : Entry) → e.what ≡ Tuple key.now time value
-            → TakesIn K.key_of K.fits K.next_position past.now e result self.new
-            told.old.log.items told.new.log.items steps.old steps.new }
-        ensures work { (e : Entry) → e.what ≡ Tuple key.now time value → OnOk result
-            (IsTakenWithin K.bounds_put (sharded past.now) e key.now time steps.old steps.new) }
+        ensures taken { TakesInAs K.key_of K.fits K.next_position past.now
+            (Tuple key.now time value) result self.new told.old told.new steps.old steps.new }
+        ensures work { IsPutWithin K.bounds_put (sharded past.now) key.now time value
+            steps.old steps.new result }
     {
         let place = self.prepare(alloc, past, key, told)?;
         let defs = past.defs();
@@ -189,11 +187,10 @@ impl<K: AnyKey> KeyTable<K> {
         requires settled { IsSettled told.old }
         requires accepted { MayTake K.key_of K.fits K.next_position past.now self.old time }
         ensures settled { IsSettled told.new }
-        ensures taken { (e : Entry) → e.what ≡ Mark key.now time
-            → TakesIn K.key_of K.fits K.next_position past.now e result self.new
-            told.old.log.items told.new.log.items steps.old steps.new }
-        ensures work { (e : Entry) → e.what ≡ Mark key.now time → OnOk result
-            (IsTakenWithin K.bounds_mark (sharded past.now) e key.now time steps.old steps.new) }
+        ensures taken { TakesInAs K.key_of K.fits K.next_position past.now (Mark key.now time)
+            result self.new told.old told.new steps.old steps.new }
+        ensures work { IsMarkPutWithin K.bounds_mark (sharded past.now) key.now time
+            steps.old steps.new result }
     {
         let place = self.prepare(alloc, past, key, told)?;
         let defs = past.defs();

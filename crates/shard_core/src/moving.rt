@@ -1,11 +1,12 @@
-ghost use Rattle.std.specs.Prelude.{◌≡◌, ◌≤◌, ◌<◌, ◌+◌, ◌++◌, ◌∷◌, [], ℕ, List, true, IfOk, OnOk, length, EachIndex, sum_by, slice_index, slice_index_or};
-ghost use Rattle.std.specs.List.{HoldsAt, flat_map};
-ghost use Rattle.key_windows.specs.Calls.{IsWater, changes_by_move};
-ghost use Rattle.stream_base.specs.declared.kept.Kept.{Kept};
+ghost use Rattle.std.specs.Prelude.{◌≡◌, ◌≤◌, ◌<◌, ◌+◌, ◌++◌, ◌∷◌, [], true, IfOk, OnOk, length};
+ghost use Rattle.std.specs.List.{HoldsAt};
+ghost use Rattle.key_windows.specs.Calls.{IsWater};
 ghost use Rattle.stream_base.specs.Model.What.{is_progress};
 ghost use Rattle.stream_base.specs.Model.Watermark.{water_of};
-ghost use Rattle.shard_core.specs.Engines.{AreMovable, AreMovedWithin, AreSameSlots, BoundsMove, CanMove, HasSameDues, HasSamePlaces, IsMovedSlot, IsSameElsewhere, IsSameOutside, IsSameSlot, IsTableOf, MayMoveAt, SlotFits, StandsIn, TakesIn, due_places, moves_of};
+ghost use Rattle.shard_core.specs.Engines.{AreMovable, AreSameSlots, CanMove, HasSameDues, HasSamePlaces, IsSameElsewhere, IsSameOutside, IsTableOf, MayMoveAt, TakesIn, due_places};
 ghost use Rattle.shard_core.specs.Flat.{sharded};
+ghost use Rattle.shard_core.specs.Moved.{AreMovedAt, AreReadyToMove, IsMovedAt, IsSameAt, MoveAtStaysWithin, MovesStayWithin, TellMovesAt, TellsMoveAt, promised_at};
+ghost use Rattle.shard_core.specs.Slots.{TakesPromised};
 ghost use Rattle.shard_core.specs.Told.{IsSettled, spare_of};
 ghost use Rattle.shard_core.specs.Work.{IsMoveWithin};
 
@@ -38,7 +39,7 @@ impl<K: AnyKey> KeyTable<K> {
         requires water { IsWater new }
         ensures settled { IsSettled told.new }
         ensures taken { TakesIn K.key_of K.fits K.next_position past.now entry.now result
-            self.new told.old.log.items told.new.log.items steps.old steps.new }
+            self.new told.old told.new steps.old steps.new }
         ensures work { OnOk result (IsMoveWithin K.bounds_move (sharded past.now) entry.now
             steps.old steps.new) }
     {
@@ -67,9 +68,7 @@ impl<K: AnyKey> KeyTable<K> {
         ensures table { HasSameDues self.old self.new }
         ensures len { length self.new.slots.items ≡ length self.old.slots.items }
         ensures others { IsSameElsewhere self.old.slots.items self.new.slots.items place }
-        ensures same { (x : Slot K) → IsSameSlot K.key_of K.fits K.next_position defs.now
-            (slice_index_or self.old.slots.items place x)
-            (slice_index_or self.new.slots.items place x) }
+        ensures same { IsSameAt K.key_of K.fits K.next_position defs.now self.old self.new place }
         ensures ready { OnOk result (HoldsAt (CanMove
             (K.is_ready defs.now) new) self.new.slots.items place) }
         ensures promised { IfOk result (λ n. HoldsAt (λ slot. K.promised slot.state
@@ -97,23 +96,14 @@ impl<K: AnyKey> KeyTable<K> {
         ensures table { HasSamePlaces self.old self.new }
         ensures others { IsSameElsewhere self.old.slots.items self.new.slots.items place }
         ensures other_dues { IsSameElsewhere self.old.dues.items self.new.dues.items place }
-        ensures moved { (x : Slot K) → IsMovedSlot K.key_of K.fits K.next_position defs.now new
-            (slice_index_or self.old.slots.items place x)
-            (slice_index_or self.new.slots.items place x) (slice_index self.new.dues.items place) }
-        ensures changes { (x : Slot K) (kept : List Kept) (marks : List ℕ)
-            → SlotFits K.fits defs.now kept marks (slice_index_or self.old.slots.items place x)
-            → told.new.log.items ≡ told.old.log.items
-            ++ changes_by_move defs.now (K.key_of
-            (slice_index_or self.old.slots.items place x).state)
-            kept marks (slice_index_or self.old.slots.items place x).water new }
-        ensures added { HoldsAt (λ slot. spare_of told.old
-            ≤ spare_of told.new + K.promised slot.state) self.old.slots.items place }
-        ensures bound { (x : Slot K) (kept : List ℕ → List Kept) (marks : List ℕ → List ℕ)
-            → StandsIn K.key_of K.fits defs.now kept marks
-            (slice_index_or self.old.slots.items place x) → (bound : ℕ)
-            × BoundsMove K.bounds_move K.key_of defs.now kept marks new
-            (slice_index_or self.old.slots.items place x) bound
-            × (steps.new ≤ steps.old + bound) }
+        ensures moved { IsMovedAt K.key_of K.fits K.next_position defs.now new
+            self.old self.new place }
+        ensures changes { TellsMoveAt K.key_of K.fits defs.now new self.old place
+            told.old told.new }
+        ensures added { HoldsAt (TakesPromised K.promised told.old told.new)
+            self.old.slots.items place }
+        ensures bound { MoveAtStaysWithin K.key_of K.fits defs.now K.bounds_move new self.old place
+            steps.old steps.new }
     {
         self.slots[place].move_to(defs, new, place, told, steps);
         self.dues.set(place, self.slots[place].due(defs));
@@ -125,12 +115,9 @@ impl<K: AnyKey> KeyTable<K> {
         ensures table { HasSameDues self.old self.new }
         ensures same { AreSameSlots K.key_of K.fits K.next_position defs.now
             self.old.slots.items self.new.slots.items }
-        ensures ready { OnOk result (EachIndex places.now
-            (λ i. HoldsAt (CanMove (K.is_ready defs.now) new) self.new.slots.items
-            (slice_index places.now i))) }
-        ensures room { (x : Slot K) → IfOk result
-            (λ n. sum_by (λ p. K.promised
-            (slice_index_or self.new.slots.items p x).state) places.now ≡ n) }
+        ensures ready { OnOk result (AreReadyToMove (K.is_ready defs.now) new self.new places.now) }
+        ensures room { (x : Slot K)
+            → IfOk result (λ n. promised_at K.promised self.new x places.now ≡ n) }
     {
         let mut room: u64 = 0;
         for place in places {
@@ -152,34 +139,21 @@ impl<K: AnyKey> KeyTable<K> {
         requires settled { IsSettled told.old }
         requires movable { AreMovable K.fits defs.now self.old.slots.items places.now new }
         requires aligned { length self.old.dues.items ≡ length self.old.slots.items }
-        requires ready { EachIndex places.now
-            (λ i. HoldsAt (CanMove (K.is_ready defs.now) new) self.old.slots.items
-            (slice_index places.now i)) }
+        requires ready { AreReadyToMove (K.is_ready defs.now) new self.old places.now }
         requires spare { (x : Slot K)
-            → sum_by (λ p. K.promised (slice_index_or self.old.slots.items p x).state) places.now
-            ≤ spare_of told.old }
+            → promised_at K.promised self.old x places.now ≤ spare_of told.old }
         ensures settled { IsSettled told.new }
         ensures table { HasSamePlaces self.old self.new }
         ensures others { IsSameOutside self.old.slots.items self.new.slots.items places.now }
         ensures other_dues { IsSameOutside self.old.dues.items self.new.dues.items places.now }
-        ensures moved { (x : Slot K)
-            → EachIndex places.now (λ i. IsMovedSlot K.key_of K.fits K.next_position defs.now new
-            (slice_index_or self.old.slots.items (slice_index places.now i) x)
-            (slice_index_or self.new.slots.items (slice_index places.now i) x)
-            (slice_index self.new.dues.items (slice_index places.now i))) }
+        ensures moved { AreMovedAt K.key_of K.fits K.next_position defs.now new
+            self.old self.new places.now }
         ensures nowhere { places.now ≡ [] → told.new.log.items ≡ told.old.log.items }
-        ensures changes { (x : Slot K) (kept : List ℕ → List Kept) (marks : List ℕ → List ℕ)
-            → EachIndex places.now (λ i. StandsIn K.key_of K.fits defs.now kept marks
-            (slice_index_or self.old.slots.items (slice_index places.now i) x))
-            → told.new.log.items ≡ told.old.log.items
-            ++ flat_map (λ p. moves_of K.key_of defs.now kept marks new
-            (slice_index_or self.old.slots.items p x)) places.now }
+        ensures changes { TellMovesAt K.key_of K.fits defs.now new self.old places.now
+            told.old told.new }
         ensures idle { places.now ≡ [] → steps.new ≡ steps.old }
-        ensures bound { (x : Slot K) (kept : List ℕ → List Kept) (marks : List ℕ → List ℕ)
-            → EachIndex places.now (λ i. StandsIn K.key_of K.fits defs.now kept marks
-            (slice_index_or self.old.slots.items (slice_index places.now i) x))
-            → AreMovedWithin K.bounds_move K.key_of defs.now kept marks new self.old.slots.items x
-            places.now (length places.now) steps.old steps.new }
+        ensures bound { MovesStayWithin K.key_of K.fits defs.now K.bounds_move new self.old
+            places.now steps.old steps.new }
     {
         for place in places {
             self.move_at(defs, *place, new, told, steps);

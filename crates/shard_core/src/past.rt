@@ -5,8 +5,8 @@ ghost use Rattle.stream_base.specs.declared.entry.Entry.{Entry};
 ghost use Rattle.stream_base.specs.Model.Journals.{is_entry_within};
 ghost use Rattle.stream_base.specs.Model.Watermark.{has_ended, water_of};
 ghost use Rattle.stream_base.specs.Model.What.{is_late};
-ghost use Rattle.watermark_table.specs.Watched.{CanTake, IsSameTable, StandsFor};
-ghost use Rattle.shard_core.specs.Recorded.{IsSameShard};
+ghost use Rattle.watermark_table.specs.Watched.{CanTake, IsSameTable};
+ghost use Rattle.shard_core.specs.Recorded.{FollowsEntry, IsSameShard, water_behind};
 ghost use Rattle.shard_core.specs.Shard.{AreSources, IsJournal, IsKnown, IsNext};
 
 use compact_log::Entries;
@@ -95,8 +95,8 @@ impl Past {
     // Whether an entry that comes now is late.
     pub fn is_late(&self, entry: &Entry) -> bool
         requires { is_entry_within entry.now ≡ true }
-        ensures { result ≡ is_late (self.now.defs).lateness
-            (water_of self.now.sources self.now.journal) entry.now.what }
+        ensures { result ≡ is_late (self.now.defs).lateness (water_behind self.now)
+            entry.now.what }
     {
         match entry.what {
             What::Tuple { time, .. } | What::Mark { time, .. } => {
@@ -147,8 +147,8 @@ impl Past {
 fn note(waters: &mut Waters, source: u16, what: &What)
     requires { CanTake waters.old record { source = source; what = what.now } }
     ensures same { IsSameTable waters.old waters.new }
-    ensures stands { (journal : List Entry) → StandsFor waters.old journal
-        → StandsFor waters.new (journal ++ record { source = source; what = what.now } ∷ []) }
+    ensures stands { FollowsEntry record { source = source; what = what.now }
+        waters.old waters.new }
 {
     match *what {
         What::Tuple { .. } | What::Mark { .. } => {}

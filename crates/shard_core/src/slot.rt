@@ -1,12 +1,8 @@
-ghost use Rattle.std.specs.Prelude.{◌≡◌, ◌≤◌, ◌<◌, ◌+◌, ◌++◌, [], ℕ, List, true, IfOk, OnOk, OnErr};
-ghost use Rattle.std.specs.BTreeSet.{insert_key};
-ghost use Rattle.std.specs.Ordering.{nat_cmp};
-ghost use Rattle.key_windows.specs.Calls.{IsWater, changes_by_mark, changes_by_move, changes_by_put, moment};
-ghost use Rattle.key_windows.specs.Dues.{IsDueNumber};
-ghost use Rattle.stream_base.specs.declared.kept.Kept.{Kept};
+ghost use Rattle.std.specs.Prelude.{◌≡◌, ◌≤◌, ◌<◌, ◌+◌, [], IfOk, OnOk, OnErr};
+ghost use Rattle.key_windows.specs.Calls.{IsWater};
 ghost use Rattle.stream_base.specs.declared.limits.TheConstants.{JOURNAL_MAX};
-ghost use Rattle.stream_base.specs.Model.Journal.{put_in_order};
-ghost use Rattle.shard_core.specs.Engines.{Accepts, CanMove, HasLists, HasRefused, IsSameSlot, MayMove, SlotFits};
+ghost use Rattle.shard_core.specs.Engines.{Accepts, CanMove, HasLists, HasRefused, IsSameSlot, MayMove};
+ghost use Rattle.shard_core.specs.Slots.{IsDueOfSlot, KeepsDueNumbers, MarkStaysWithin, MoveStaysWithin, PutStaysWithin, SlotFitsMoved, SlotFitsWithMark, SlotFitsWithTuple, TakesPromised, TellsMark, TellsMove, TellsPut};
 ghost use Rattle.shard_core.specs.Told.{IsSettled, spare_of};
 
 use crate::told::Told;
@@ -51,31 +47,15 @@ impl<K: AnyKey> Slot<K> {
         ensures settled { IsSettled told.new }
         ensures refused { OnErr result
             (HasRefused K.key_of K.fits K.next_position defs.now self.old self.new
-            told.old.log.items told.new.log.items steps.old steps.new) }
+            told.old told.new steps.old steps.new) }
         ensures key { OnOk result (K.key_of (self.new).state ≡ K.key_of (self.old).state) }
         ensures water { OnOk result ((self.new).water ≡ (self.old).water) }
         ensures next { OnOk result (K.next_position (self.new).state ≡ x.position + 1) }
-        ensures fits { (kept : List Kept) (marks : List ℕ)
-            → SlotFits K.fits defs.now kept marks self.old
-            → OnOk result (K.fits defs.now (put_in_order kept x) marks (self.new).water
-            (self.new).state) }
-        ensures changes { (kept : List Kept) (marks : List ℕ)
-            → SlotFits K.fits defs.now kept marks self.old
-            → OnOk result (told.new.log.items ≡ told.old.log.items
-            ++ changes_by_put defs.now (K.key_of (self.old).state) kept marks (self.old).water x) }
-        ensures bound { (kept : List Kept) (marks : List ℕ)
-            → SlotFits K.fits defs.now kept marks self.old
-            → OnOk result ((bound : ℕ) × K.bounds_put defs.now (K.key_of (self.old).state)
-            (moment kept marks (self.old).water)
-            (moment (put_in_order kept x) marks (self.old).water) x.time bound
-            × (steps.new ≤ steps.old + bound)) }
-        ensures due { (kept : List Kept) (marks : List ℕ) (due : ℕ)
-            → SlotFits K.fits defs.now kept marks self.old
-            → IsDueNumber K.fits defs.now (K.key_of (self.old).state) kept marks (self.old).water
-            (self.old).state due → IfOk result (λ stays. stays ≡ true
-            → IsDueNumber K.fits defs.now (K.key_of (self.old).state)
-            (put_in_order kept x) marks (self.old).water
-            (self.new).state due) }
+        ensures fits { SlotFitsWithTuple K.fits defs.now x self.old self.new result }
+        ensures changes { TellsPut K.fits defs.now K.key_of x self.old told.old told.new result }
+        ensures bound { PutStaysWithin K.fits defs.now K.key_of K.bounds_put x self.old
+            steps.old steps.new result }
+        ensures due { KeepsDueNumbers K.fits defs.now K.key_of x self.old self.new result }
     {
         let room = self.state.reserve_put(defs, x.time, self.water)?;
         told.reserve(room as usize)?;
@@ -99,26 +79,16 @@ impl<K: AnyKey> Slot<K> {
         ensures settled { IsSettled told.new }
         ensures refused { OnErr result
             (HasRefused K.key_of K.fits K.next_position defs.now self.old self.new
-            told.old.log.items told.new.log.items steps.old steps.new) }
+            told.old told.new steps.old steps.new) }
         ensures key { OnOk result (K.key_of (self.new).state ≡ K.key_of (self.old).state) }
         ensures water { OnOk result ((self.new).water ≡ (self.old).water) }
         ensures next { OnOk result (K.next_position (self.new).state
             ≡ K.next_position (self.old).state) }
-        ensures fits { (kept : List Kept) (marks : List ℕ)
-            → SlotFits K.fits defs.now kept marks self.old
-            → OnOk result (K.fits defs.now kept (insert_key nat_cmp marks time) (self.new).water
-            (self.new).state) }
-        ensures changes { (kept : List Kept) (marks : List ℕ)
-            → SlotFits K.fits defs.now kept marks self.old
-            → OnOk result (told.new.log.items ≡ told.old.log.items
-            ++ changes_by_mark defs.now (K.key_of (self.old).state) kept marks
-            (self.old).water time) }
-        ensures bound { (kept : List Kept) (marks : List ℕ)
-            → SlotFits K.fits defs.now kept marks self.old
-            → OnOk result ((bound : ℕ) × K.bounds_mark defs.now (K.key_of (self.old).state)
-            (moment kept marks (self.old).water)
-            (moment kept (insert_key nat_cmp marks time) (self.old).water)
-            time bound × (steps.new ≤ steps.old + bound)) }
+        ensures fits { SlotFitsWithMark K.fits defs.now time self.old self.new result }
+        ensures changes { TellsMark K.fits defs.now K.key_of time self.old
+            told.old told.new result }
+        ensures bound { MarkStaysWithin K.fits defs.now K.key_of K.bounds_mark time self.old
+            steps.old steps.new result }
     {
         let room = self.state.reserve_mark(defs, time, self.water)?;
         told.reserve(room as usize)?;
@@ -155,20 +125,11 @@ impl<K: AnyKey> Slot<K> {
         ensures key { K.key_of (self.new).state ≡ K.key_of (self.old).state }
         ensures next { K.next_position (self.new).state ≡ K.next_position (self.old).state }
         ensures water { (self.new).water ≡ new }
-        ensures fits { (kept : List Kept) (marks : List ℕ)
-            → SlotFits K.fits defs.now kept marks self.old
-            → K.fits defs.now kept marks new (self.new).state }
-        ensures changes { (kept : List Kept) (marks : List ℕ)
-            → SlotFits K.fits defs.now kept marks self.old
-            → told.new.log.items ≡ told.old.log.items
-            ++ changes_by_move defs.now (K.key_of (self.old).state) kept marks
-            (self.old).water new }
-        ensures added { spare_of told.old ≤ spare_of told.new + K.promised (self.old).state }
-        ensures bound { (kept : List Kept) (marks : List ℕ)
-            → SlotFits K.fits defs.now kept marks self.old → (bound : ℕ)
-            × K.bounds_move defs.now (K.key_of (self.old).state)
-            (moment kept marks (self.old).water) (moment kept marks new) bound
-            × (steps.new ≤ steps.old + bound) }
+        ensures fits { SlotFitsMoved K.fits defs.now new self.old self.new }
+        ensures changes { TellsMove K.fits defs.now K.key_of new self.old told.old told.new }
+        ensures added { TakesPromised K.promised told.old told.new self.old }
+        ensures bound { MoveStaysWithin K.fits defs.now K.key_of K.bounds_move new self.old
+            steps.old steps.new }
     {
         let out = &mut told.waiting;
         self.state.water(defs, self.water, new, out, steps);
@@ -181,9 +142,7 @@ impl<K: AnyKey> Slot<K> {
     pub fn due(&self, defs: &Defs) -> u64
         requires stands { HasLists K.fits defs.now self.now }
         requires water { IsWater (self.now).water }
-        ensures { (kept : List Kept) (marks : List ℕ) → SlotFits K.fits defs.now kept marks self.now
-            → IsDueNumber K.fits defs.now (K.key_of (self.now).state) kept marks (self.now).water
-            (self.now).state result }
+        ensures { IsDueOfSlot K.fits defs.now K.key_of self.now result }
     {
         self.state.next_due(defs, self.water)
     }
