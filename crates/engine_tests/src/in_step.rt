@@ -6,7 +6,7 @@ ghost use Rattle.stream_base.specs.Model.Journals.{is_entry_within};
 use crate::entries::{Course, Draws, entry};
 use agg_laws::Steps;
 use plain_keys::PlainKey;
-use shard_core::{Applied, ApplyFault, KeyedShard, Shard, apply_counted};
+use shard_core::{Applied, ApplyFault, KeyedShard, Shard};
 use std::alloc::Global;
 use std::process::Abort;
 use std::test::Fail;
@@ -106,7 +106,7 @@ fn compared_over<R: Abort + Threads>(
     let mut steps: Steps<Work> = Steps::start(rt);
     let keys = keys_of(alloc, keys)?;
     let mut plain: PlainShard = KeyedShard::new(alloc, defs.copy(alloc)?, 2)?;
-    let mut sliced: Shard = KeyedShard::new(alloc, defs, 2)?;
+    let mut sliced = Shard::new(alloc, defs, 2)?;
     apply_all(rt, &mut plain, &mut sliced, course, &keys, seed, &mut steps)
 }
 
@@ -173,7 +173,7 @@ fn step(
 {
     let position = plain.journal_len();
     let by_lists = plain.apply(entry, steps);
-    let by_slices = apply_counted(sliced, entry, steps);
+    let by_slices = sliced.apply(entry, steps);
     assert_eq!(rt;
         by_lists,
         by_slices,

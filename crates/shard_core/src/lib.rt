@@ -16,13 +16,6 @@
 //! soon as the key is done: what a move of the watermark changes of many keys never waits at once.
 #![tactic(auto)]
 
-use agg_queue::Daba;
-use aggregates::{Bundle, Summary};
-use fiba_finger::FingerTree;
-use key_slicer::KeyState;
-use key_windows::EitherKey;
-use window_parts::WindowPart;
-
 mod applied;
 mod dues;
 mod hints;
@@ -33,24 +26,12 @@ mod moving;
 mod past;
 mod rows;
 mod shard;
+mod sliced;
 mod slices;
 mod slot;
 mod told;
-mod work;
 
 pub use applied::{Applied, ApplyFault};
 pub use compact_log::ChangeRange;
 pub use shard::KeyedShard;
-pub use work::apply_counted;
-
-/// A shard whose keys keep their tuples in slices that all windows of a key share: the partials of
-/// the slices lie in a tree with fingers at both ends, and those of a tumbling or sliding window in
-/// a DABA queue. Where the definitions ask only for functions of which the order of values makes no
-/// difference, the partials are summaries, and else bundles of all functions.
-pub type Shard = KeyedShard<EitherKey<FullKey, LeanKey>>;
-
-/// The engine for the windows of a key, of which any function may be asked.
-pub type FullKey = KeyState<Bundle, FingerTree<Bundle>, WindowPart<Bundle, Daba<Bundle>>>;
-
-/// The same, of which only functions may be asked for which the order of values makes no difference.
-pub type LeanKey = KeyState<Summary, FingerTree<Summary>, WindowPart<Summary, Daba<Summary>>>;
+pub use sliced::Shard;
