@@ -1,8 +1,8 @@
 ghost use Rattle.std.specs.Prelude.{◌≡◌, length};
 ghost use Rattle.agg_laws.specs.Tables.{IsFlat, IsHeight};
 
-use agg_laws::{AggTree, Monoid, Probes, Steps};
 use crate::pair_row::PairRow;
+use agg_laws::{AggTree, Monoid, Probes, Steps};
 use std::alloc::Global;
 use std::marker::Model;
 use stream_base::NoMemory;

@@ -21,5 +21,7 @@ pub fn have_cut(windows: &[Def], low: u64, high: u64) -> bool
     requires { MayCut windows.now low high }
     ensures { result ≡ has_cut windows.now [] low high }
 {
-    windows.iter().any(|window| window.kind.cuts_between(low, high))
+    windows
+        .iter()
+        .any(|window| window.kind.cuts_between(low, high))
 }

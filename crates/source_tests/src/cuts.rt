@@ -1,6 +1,6 @@
+use slice_runs::cut_between;
 use std::test::Fail;
 use stream_base::{Def, Defs, Func, Kind, TIME_MAX};
-use slice_runs::cut_between;
 
 #[test]
 fn starts_ends_and_gaps_cut(rt: HostRuntime) -> Result<(), Fail> {
