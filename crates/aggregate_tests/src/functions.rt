@@ -2,7 +2,7 @@ ghost use Rattle.std.specs.Prelude.{◌≡◌, ◌≤◌, ◌+◌, length, IfOk,
 ghost use Rattle.agg_laws.specs.Laws.{total};
 
 use agg_laws::{AggQueue, Lift, Monoid, Pair, Probes, Steps};
-use aggregates::{Bundle, Count, First, Last, Max, Mean, Min, Rises, Sum, Trace};
+use aggregates::{Bundle, Count, First, Last, Max, Mean, Min, Partial, Rises, Sum, Summary, Trace};
 use std::fmt::Debug;
 use std::process::Abort;
 use stream_base::{Func, NoMemory, Shown};
@@ -106,6 +106,36 @@ fn a_bundle_shows_each_function(rt: HostRuntime) {
     for (word, func, shown) in &SHOWN {
         assert_eq!(rt; bundle.show(*func), *shown, "{word}");
     }
+}
+
+// A summary lies in five words, a bundle in 22.
+const _: () = prove!(size_of::<Summary>() == 40);
+
+const _: () = prove!(size_of::<Bundle>() == 176);
+
+// The first five of these functions are shown by a summary, whatever the order, and by what is kept of a
+// bundle.
+#[test]
+fn a_summary_shows_the_functions_that_are_free_of_order(rt: HostRuntime) {
+    let mut steps: Steps<Work> = Steps::start(&rt);
+    let bundle: Bundle = of_three(3, 1, 2, &mut steps);
+    let orders: [Summary; 3] = [
+        of_three(3, 1, 2, &mut steps),
+        of_three(2, 3, 1, &mut steps),
+        Summary::of_bundle(&bundle),
+    ];
+    for summary in &orders {
+        for (word, func, shown) in &SHOWN {
+            if Summary::can_show(*func) {
+                assert_eq!(rt; summary.show(*func), *shown, "{word}");
+            }
+        }
+    }
+    let shown = SHOWN
+        .iter()
+        .filter(|(_word, func, _shown)| Summary::can_show(*func))
+        .count();
+    assert_eq!(rt; shown, 5);
 }
 
 // A caller of any queue: room for two, two pushes, a pop and a fold, with its list and its cost.
