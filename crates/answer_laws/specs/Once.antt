@@ -35,6 +35,15 @@ MayDiffer run status text written =
     ((status ≡ Done) × (length run.sources ≢ 1))
     ⊎ ((shard other : ℕ) × (text ≡ fault_line (FullShard shard)) × (written ≡ fault_line (FullShard other)))
 
+-- two ends of the same words are one: one status, and one text
+abbrev pub EndOnce : {W : Type 0} → (W → Status → List ℕ → Type 0) → Type 0
+EndOnce {W} may_end = (words : W) (status other : Status) (text written : List ℕ) → may_end words status text → may_end words other written → (status ≡ other) × (text ≡ written)
+
+-- or they have one status, and texts that may differ so
+abbrev pub EndOnceButFor : {W : Type 0} → (W → Status → List ℕ → List ℕ → Type 0) → (W → Status → List ℕ → Type 0) → Type 0
+EndOnceButFor {W} may_differ may_end = (words : W) (status other : Status) (text written : List ℕ) → may_end words status text → may_end words other written
+    → (status ≡ other) × ((text ≡ written) ⊎ may_differ words status text written)
+
 module _ {K : Type 0} (taken : K → List ℕ) (faults : K → ℕ) (told : Telling) where
   -- a run of told files, of which no call failed, may end with this status and this text
   pub record RunMayEnd (run : Run) (status : Status) (text : List ℕ) : Type 0 where

@@ -5,7 +5,7 @@ use Rattle.stream_base.specs.declared.def.Def.{Def}
 use Rattle.stream_base.specs.declared.func.Func.TheVariants.{Count}
 use Rattle.stream_base.specs.declared.kept.Kept.{Kept}
 use Rattle.stream_base.specs.declared.kind.Kind.{Kind}
-use Rattle.stream_base.specs.declared.kind.Kind.TheVariants.{Tumbling, Sliding, Session, Marks, Events}
+use Rattle.stream_base.specs.declared.kind.Kind.TheVariants.{Session, Marks}
 use Rattle.stream_base.specs.Laws.{TimesDoNotFall}
 use Rattle.stream_base.specs.Limits.{Definitions}
 use Rattle.stream_base.specs.Kinds.{IsKindWithin}
@@ -47,19 +47,13 @@ window_at d window = slice_index_or d.windows window (record { kind = Marks; fun
 
 -- the kind is a session window, with a gap within its limits
 abbrev pub IsSession : Kind → Type 0
-IsSession (Tumbling length) = ⊥
-IsSession (Sliding length slide) = ⊥
 IsSession (Session gap) = IsKindWithin (Session gap)
-IsSession Marks = ⊥
-IsSession (Events count) = ⊥
+IsSession other = ⊥
 
 -- the gap of a session window
 abbrev pub gap_of : Kind → ℕ
-gap_of (Tumbling length) = 0
-gap_of (Sliding length slide) = 0
 gap_of (Session gap) = gap
-gap_of Marks = 0
-gap_of (Events count) = 0
+gap_of other = 0
 
 -- one of the definitions is this session window
 pub record IsSessionAt (d : Definitions) (window : ℕ) : Type 0 where

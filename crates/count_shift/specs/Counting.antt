@@ -8,7 +8,7 @@ use Rattle.stream_base.specs.declared.def.Def.{Def}
 use Rattle.stream_base.specs.declared.func.Func.{Func}
 use Rattle.stream_base.specs.declared.kept.Kept.{Kept}
 use Rattle.stream_base.specs.declared.kind.Kind.{Kind}
-use Rattle.stream_base.specs.declared.kind.Kind.TheVariants.{Tumbling, Sliding, Session, Marks, Events}
+use Rattle.stream_base.specs.declared.kind.Kind.TheVariants.{Events}
 use Rattle.stream_base.specs.declared.limits.TheConstants.{FINAL}
 use Rattle.stream_base.specs.Kinds.{IsKindWithin}
 use Rattle.stream_base.specs.Model.Changes.{Moment, row_of, former_of}
@@ -21,19 +21,13 @@ IsCount count = IsKindWithin (Events count)
 
 -- the kind is an events window, with a count within its limits
 abbrev pub IsEvents : Kind → Type 0
-IsEvents (Tumbling length) = ⊥
-IsEvents (Sliding length slide) = ⊥
-IsEvents (Session gap) = ⊥
-IsEvents Marks = ⊥
 IsEvents (Events count) = IsCount count
+IsEvents other = ⊥
 
 -- how many tuples an instance of an events window selects
 abbrev pub count_of : Kind → ℕ
-count_of (Tumbling length) = 0
-count_of (Sliding length slide) = 0
-count_of (Session gap) = 0
-count_of Marks = 0
 count_of (Events count) = count
+count_of other = 0
 
 -- an events window of this count and function
 abbrev pub events : ℕ → Func → Def

@@ -200,11 +200,13 @@ impl CountLane {
         ensures paid { IsPaidFor self.old self.new }
         ensures few { length self.new.kept < 2 * (later self.new.kept time + count) }
     {
-        if !reaches_half(&self.items, time) {
+        let many = self.items.len();
+        // Half of fewer tuples than two instances have is no instance.
+        if (many as u64) < 2 * count || !reaches_half(&self.items, time) {
             return;
         }
         let settled = upper(&self.items, time) as u64 / count * count;
-        let left = self.items.len() - settled as usize;
+        let left = many - settled as usize;
         if left as u64 <= settled {
             self.items.rotate_left(settled as usize);
             self.items.truncate(left);

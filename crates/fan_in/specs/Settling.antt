@@ -96,7 +96,17 @@ module _ {F : Type 0} where
   SentOver rows ends = (i k : ℕ) (row : Vec (SenderState Entry) Global) (s : SenderState Entry) (e : FeedEnd F) → i < length ends → (slice_index_or ends i e).outcome ≡ Full k
       → JOURNAL_MAX < length (slice_index_or (slice_index_or rows i row).items k s).sent
 
+  -- of what the senders of these rows sent on so many lanes, the journal of each lane's shard holds what it should by the new outcomes of their feeds
+  abbrev pub SentIsHeld : ℕ → List (Vec (SenderState Entry) Global) → List (FeedEnd F) → List (FeedEnd F) → List Sharded → Type 0
+  SentIsHeld many rows old new shards = (k i : ℕ) (row : Vec (SenderState Entry) Global) (b : SenderState Entry) (e : FeedEnd F) (s : Sharded) → k < many → i < length old
+      → HoldsSent k i (slice_index_or (slice_index_or rows i row).items k b).sent (slice_index_or new i e).outcome (slice_index_or shards k s).journal
+
   -- the same of the senders that came back
   abbrev pub BackOver : List Lane → List OwnerJob → List (FeedEnd F) → Type 0
   BackOver lanes owners ends = (i k : ℕ) (o : OwnerJob) (e : FeedEnd F) → i < length ends → k < length lanes → (slice_index_or ends i e).outcome ≡ Full k
       → JOURNAL_MAX < length (sent_by i ((slice_index_or owners k o).receiver).back)
+
+  -- and of what these sent
+  abbrev pub BackIsHeld : ℕ → List OwnerJob → List (FeedEnd F) → List (FeedEnd F) → List Sharded → Type 0
+  BackIsHeld many owners old new shards = (k i : ℕ) (o : OwnerJob) (e : FeedEnd F) (s : Sharded) → k < many → i < length old
+      → HoldsSent k i (sent_by i ((slice_index_or owners k o).receiver).back) (slice_index_or new i e).outcome (slice_index_or shards k s).journal

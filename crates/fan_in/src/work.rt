@@ -1,6 +1,5 @@
-ghost use Rattle.std.specs.Prelude.{◌≡◌, ◌+◌, ℕ, [], All, length, IfOk, slice_index_or};
-ghost use Rattle.fan_in.specs.Works.{HasRoom, IsReserved};
-ghost use Rattle.fan_in.specs.declared.outcome.Outcome.TheVariants.{Done};
+ghost use Rattle.std.specs.Prelude.{◌≡◌, [], All, length, IfOk};
+ghost use Rattle.fan_in.specs.Works.{AreNewReaders, AreTakenApart, HasRoom, IsReserved};
 
 use crate::gathered::FeedEnd;
 use crate::outcome::Outcome;
@@ -55,12 +54,7 @@ pub(crate) fn fill<F, P: Drop>(
     requires room { IsReserved (length feeds.items) readers.old }
     requires one_each { length rows.items ≡ length feeds.items }
     ensures many { length readers.new.items ≡ length feeds.items }
-    ensures each { (i j : ℕ) (f : F) (row : _) (r : _) → i + j + 1 ≡ length feeds.items
-        → slice_index_or readers.new.items i r ≡ record {
-          feed = slice_index_or feeds.items j f;
-          outcome = Done;
-          ports = slice_index_or rows.items j row;
-        } }
+    ensures each { AreNewReaders feeds.items rows.items readers.new.items }
 {
     for _i in 0..feeds.len() {
         readers.push_reserved(Reader {
@@ -78,12 +72,7 @@ pub(crate) fn take_apart<F, P: Drop>(work: Work<F, P>) -> (Vec<FeedEnd<F>>, Vec<
     requires rows { IsReserved (length work.readers.items) work.rows }
     ensures many_ends { length result.0.items ≡ length work.readers.items }
     ensures many_rows { length result.1.items ≡ length work.readers.items }
-    ensures each { (i j : ℕ) (e : _) (row : _) (r : _) → i + j + 1 ≡ length work.readers.items
-        → slice_index_or work.readers.items i r ≡ record {
-          feed = (slice_index_or result.0.items j e).feed;
-          outcome = (slice_index_or result.0.items j e).outcome;
-          ports = slice_index_or result.1.items j row;
-        } }
+    ensures each { AreTakenApart work.readers.items result.0.items result.1.items }
 {
     let Work {
         readers,
@@ -104,12 +93,7 @@ fn take_readers<F, P: Drop>(
     requires rows { IsReserved (length readers.items) rows.old }
     ensures many_ends { length ends.new.items ≡ length readers.items }
     ensures many_rows { length rows.new.items ≡ length readers.items }
-    ensures each { (i j : ℕ) (e : _) (row : _) (r : _) → i + j + 1 ≡ length readers.items
-        → slice_index_or readers.items i r ≡ record {
-          feed = (slice_index_or ends.new.items j e).feed;
-          outcome = (slice_index_or ends.new.items j e).outcome;
-          ports = slice_index_or rows.new.items j row;
-        } }
+    ensures each { AreTakenApart readers.items ends.new.items rows.new.items }
 {
     for _i in 0..readers.len() {
         let Reader {

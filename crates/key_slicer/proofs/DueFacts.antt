@@ -9,7 +9,7 @@ use Rattle.stream_base.specs.declared.kept.Kept.{Kept}
 use Rattle.stream_base.specs.declared.kind.Kind.{Kind}
 use Rattle.stream_base.specs.declared.kind.Kind.TheVariants.{Tumbling, Sliding, Session, Marks, Events}
 use Rattle.stream_base.specs.Laws.{HoldsTime, TimesDoNotFall, completions}
-use Rattle.stream_base.specs.Kinds.{CutsBetween, IsKindWithin, is_events, is_timed}
+use Rattle.stream_base.specs.Kinds.{CutsBetween, IsKindWithin, is_timed}
 use Rattle.stream_base.specs.Model.Changes.{Moment}
 use Rattle.stream_base.specs.Model.Cuts.{has_cut}
 use Rattle.stream_base.specs.Model.Journal.{put_in_order}
@@ -44,6 +44,7 @@ use Rattle.held_laws.proofs.AlikeFacts.{of_rest}
 use Rattle.key_slicer.specs.Joining.{Joins}
 use Rattle.key_slicer.specs.States.{Fits}
 use Rattle.key_slicer.proofs.StateFacts.{fits_waiting, move_is}
+use Rattle.key_slicer.proofs.UntoldFacts.{timed_counts_not}
 use Rattle.plain_windows.specs.Changing.{HasBound, KeepsBounds}
 use Rattle.plain_windows.proofs.Ahead.{ahead_of_none, keeps_sliding, keeps_tumbling, nothing_ahead}
 use Rattle.plain_windows.proofs.Bounds.{last_of}
@@ -167,13 +168,6 @@ settled_at_put lateness m (Session gap) y z k timed d s i c l r = absurd cc
 settled_at_put lateness m Marks y z k timed d s i c l r = absurd cc
 settled_at_put lateness m (Events count) y z k timed d s i c l r = absurd cc
 
-no_events : (kind : Kind) → is_timed kind ≡ true → is_events kind ≡ false
-no_events (Tumbling long) timed = refl
-no_events (Sliding long slide) timed = refl
-no_events (Session gap) timed = refl
-no_events Marks timed = refl
-no_events (Events count) timed = absurd cc
-
 -- two tests that leave the same of a list agree on it
 agree : {X : Type 0} (p q : X → Bool) (xs : List X) → filter p xs ≡ filter q xs → (x : X) → Contains xs x → p x ≡ q x
 agree p q xs same x c = elim (cases_Bool (p x)) [
@@ -195,7 +189,7 @@ module _ (d : Definitions) (key : List ℕ) (kept : List Kept) (marks : List ℕ
           (λ w g.
           let k : IsKindWithin w.kind = All-contains (λ w. IsKindWithin w.kind) d.windows w kinds g in
           let t : is_timed w.kind ≡ true = All-contains (λ w. is_timed w.kind ≡ true) d.windows w timed g in
-          let e = no_events w.kind t in
+          let e = timed_counts_not w.kind t in
           times_settle d.lateness (moment (put_in_order kept x) marks at) y w put k e (Contains-insert_old kept _ x y c)
           (settled_at_put d.lateness (moment kept marks at) w.kind x y k t c
           (settled_by_times d.lateness (moment kept marks at) y w was k e c (all_member (is_settled_in d.lateness (moment kept marks at) y) d.windows w is g))))

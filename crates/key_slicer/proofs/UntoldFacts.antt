@@ -24,7 +24,7 @@ use Rattle.key_parts.specs.Moves.{IsPutStep}
 use Rattle.key_slicer.specs.Parts.{AreStanding, EachPart}
 
 -- ---- the changes
-timed_counts_not : (kind : Kind) → is_timed kind ≡ true → is_events kind ≡ false
+pub timed_counts_not : (kind : Kind) → is_timed kind ≡ true → is_events kind ≡ false
 timed_counts_not (Tumbling length) t = refl
 timed_counts_not (Sliding length slide) t = refl
 timed_counts_not (Session gap) t = absurd cc

@@ -4,7 +4,11 @@ use Rattle.emission_text.specs.Sending.{Appends, Fails}
 use Rattle.emission_text.specs.declared.fault.Fault.TheVariants as stop
 use Rattle.run_inputs.specs.declared.status.Status.{Status}
 use Rattle.run_inputs.specs.declared.status.Status.TheVariants.{Done, Usage, BadDefs, OpenFault, BadRow, ReadFault, Full, NoMemory, WriteFault, Unlawful}
+use Rattle.run_inputs.specs.Outside.{Opens}
 use Rattle.part_run.specs.Faults.{SaysPart, part_status}
+use Rattle.part_run.specs.Joining.{IsJoinOfFiles, StopsJoin}
+use Rattle.part_run.specs.Parting.{AreDefsOfFile, IsShortPart, StopsDefs, StopsPart}
+use Rattle.part_run.specs.Words.{Part}
 use Rattle.part_run.specs.declared.part_fault.PartFault.{PartFault}
 use Rattle.part_run.specs.declared.part_fault.PartFault.TheVariants.{Run}
 
@@ -41,3 +45,16 @@ module _ {K : Type 0} (taken : K → List ℕ) (faults : K → ℕ) (IsText : Li
   IsAnswer old new ReadFault = IsStopped ReadFault old new
   IsAnswer old new Full = IsStopped Full old new
   IsAnswer old new Unlawful = IsStopped Unlawful old new
+
+module _ {K : Type 0} (taken : K → List ℕ) (faults : K → ℕ) where
+  -- the answer to a part, by the opens of the call
+  abbrev pub IsPartAnswer : Part → Opens → K → K → Status → Type 0
+  IsPartAnswer p opens old new status = IsAnswer taken faults (IsShortPart p opens) (StopsPart p opens) old new status
+
+  -- to the definitions of parts under those in the file of a name
+  abbrev pub IsDefsAnswer : List ℕ → Opens → K → K → Status → Type 0
+  IsDefsAnswer name opens old new status = IsAnswer taken faults (AreDefsOfFile opens) (StopsDefs name opens) old new status
+
+  -- and to reports that are joined
+  abbrev pub IsJoinAnswer : List (List ℕ) → Opens → K → K → Status → Type 0
+  IsJoinAnswer names opens old new status = IsAnswer taken faults (IsJoinOfFiles names opens) (StopsJoin names opens) old new status

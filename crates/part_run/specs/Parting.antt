@@ -33,11 +33,14 @@ pub record IsShortPart (p : Part) (opens : Opens) (bytes : List ℕ) : Type 0 wh
   pub part : IsPartOfFiles p opens bytes
   pub short : length bytes ≤ SOURCE_MAX
 
--- what is held of the part of the one source of these names, and the same by the definitions
+-- what is held of the part of the one source of these names; the same of the words of a part, under definitions that were read, and by the files
 pub record HoldsPartIn (names : List (List ℕ)) (d : Definitions) (shards k : ℕ) (opens : Opens) (held : Option (List ℕ)) : Type 0 where
   pub bytes : List ℕ
   pub part : IsPartIn names d shards k opens bytes
   pub held_is : IsHeld bytes held
+
+abbrev pub HoldsPartUnder : Definitions → Part → Opens → Option (List ℕ) → Type 0
+HoldsPartUnder d p = HoldsPartIn p.sources d p.shards p.shard
 
 pub record HoldsPartOfFiles (p : Part) (opens : Opens) (held : Option (List ℕ)) : Type 0 where
   pub bytes : List ℕ

@@ -2,10 +2,8 @@
 ghost use Rattle.std.specs.Prelude.{◌≡◌, ◌↔◌, ◌∷◌, [], ℕ, List, map, string_bytes};
 ghost use Rattle.emission_text.specs.declared.fault.Fault.TheVariants.{Usage as UsageFault};
 ghost use Rattle.run_inputs.specs.Outside.{OpensInOrder, opens_of};
-ghost use Rattle.part_run.specs.Answer.{IsAnswer};
+ghost use Rattle.part_run.specs.Answer.{IsDefsAnswer, IsJoinAnswer, IsPartAnswer};
 ghost use Rattle.part_run.specs.Faults.{SaysPart};
-ghost use Rattle.part_run.specs.Joining.{IsJoinOfFiles, StopsJoin};
-ghost use Rattle.part_run.specs.Parting.{AreDefsOfFile, IsShortPart, StopsDefs, StopsPart};
 ghost use Rattle.part_run.specs.Words.{IsCommand, IsDefsOf, IsJoinOf, IsPartOf, Part};
 
 use crate::defs::defs;
@@ -33,20 +31,17 @@ pub fn scotty_part<F: Files, K: Sink>(
     sink: &mut K,
 ) -> Status
     ensures part { (p : Part) → IsPartOf (map string_bytes words.now) p
-        → let opens = opens_of F.asked F.came files.old files.new in
-        IsAnswer K.taken K.faults (IsShortPart p opens) (StopsPart p opens)
+        → IsPartAnswer K.taken K.faults p (opens_of F.asked F.came files.old files.new)
         sink.old sink.new result }
     ensures part_opens { (p : Part) → IsPartOf (map string_bytes words.now) p
         → OpensInOrder F.asked F.came F.told (p.defs ∷ p.sources) files.old files.new }
     ensures defs { (name : List ℕ) → IsDefsOf (map string_bytes words.now) name
-        → let opens = opens_of F.asked F.came files.old files.new in
-        IsAnswer K.taken K.faults (AreDefsOfFile opens) (StopsDefs name opens)
+        → IsDefsAnswer K.taken K.faults name (opens_of F.asked F.came files.old files.new)
         sink.old sink.new result }
     ensures defs_opens { (name : List ℕ) → IsDefsOf (map string_bytes words.now) name
         → OpensInOrder F.asked F.came F.told (name ∷ []) files.old files.new }
     ensures join { (names : List (List ℕ)) → IsJoinOf (map string_bytes words.now) names
-        → let opens = opens_of F.asked F.came files.old files.new in
-        IsAnswer K.taken K.faults (IsJoinOfFiles names opens) (StopsJoin names opens)
+        → IsJoinAnswer K.taken K.faults names (opens_of F.asked F.came files.old files.new)
         sink.old sink.new result }
     ensures join_opens { (names : List (List ℕ)) → IsJoinOf (map string_bytes words.now) names
         → OpensInOrder F.asked F.came F.told names files.old files.new }

@@ -1,7 +1,7 @@
 //! The definitions of parts.
 ghost use Rattle.std.specs.Prelude.{◌∷◌, [], IfOk, IfErr};
 ghost use Rattle.run_inputs.specs.Outside.{OpensInOrder, opens_of};
-ghost use Rattle.part_run.specs.Answer.{IsAnswer};
+ghost use Rattle.part_run.specs.Answer.{IsDefsAnswer};
 ghost use Rattle.part_run.specs.Parting.{AreDefsOfFile, SpellsParts, StopsDefs, StopsSpelling};
 
 use crate::part_fault::PartFault;
@@ -15,9 +15,8 @@ use stream_base::Defs;
 
 /// Writes the definitions for the parts of sources that are read under those in the file of this name.
 pub fn defs<F: Files, K: Sink>(alloc: Global, name: &str, files: &mut F, sink: &mut K) -> Status
-    ensures answer { let opens = opens_of F.asked F.came files.old files.new in
-        IsAnswer K.taken K.faults (AreDefsOfFile opens) (StopsDefs name.now opens)
-        sink.old sink.new result }
+    ensures answer { IsDefsAnswer K.taken K.faults name.now
+        (opens_of F.asked F.came files.old files.new) sink.old sink.new result }
     ensures files { OpensInOrder F.asked F.came F.told (name.now ∷ []) files.old files.new }
 {
     match defs_text(alloc, name, files) {

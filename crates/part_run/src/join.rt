@@ -6,8 +6,8 @@ ghost use Rattle.report_check.specs.Findings.{lists_of};
 ghost use Rattle.report_join.specs.ShardReports.{IsJudged, form_told};
 ghost use Rattle.emission_text.specs.Sending.{Appends, Fails, Puts, Writes};
 ghost use Rattle.run_inputs.specs.Outside.{OpensInOrder, opens_of};
-ghost use Rattle.part_run.specs.Answer.{IsAnswer};
-ghost use Rattle.part_run.specs.Joining.{AreShardReports, IsFormOf, IsJoinOf, IsJoinOfFiles, IsWrongAt, StopsAtTexts, StopsJoin, WrongAt, report_fault};
+ghost use Rattle.part_run.specs.Answer.{IsAnswer, IsJoinAnswer};
+ghost use Rattle.part_run.specs.Joining.{AreShardReports, IsFormOf, IsJoinOf, IsWrongAt, StopsAtTexts, WrongAt, report_fault};
 
 use crate::part_fault::PartFault;
 use crate::printing::print_fault;
@@ -28,9 +28,8 @@ pub fn join<F: Files, K: Sink>(
 ) -> Status
     requires some { 1 ≤ length names.now }
     requires few { length names.now ≤ 65535 }
-    ensures answer { let opens = opens_of F.asked F.came files.old files.new in
-        IsAnswer K.taken K.faults (IsJoinOfFiles (map string_bytes names.now) opens)
-        (StopsJoin (map string_bytes names.now) opens) sink.old sink.new result }
+    ensures answer { IsJoinAnswer K.taken K.faults (map string_bytes names.now)
+        (opens_of F.asked F.came files.old files.new) sink.old sink.new result }
     ensures files { OpensInOrder F.asked F.came F.told (map string_bytes names.now)
         files.old files.new }
 {

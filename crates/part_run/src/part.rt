@@ -1,13 +1,13 @@
 //! The part of a source for one shard.
-ghost use Rattle.std.specs.Prelude.{◌≡◌, ◌≤◌, ◌∷◌, [], ℕ, List, length, IfOk, IfErr};
+ghost use Rattle.std.specs.Prelude.{◌≡◌, ◌≤◌, ◌∷◌, [], List, length, IfOk, IfErr};
 ghost use Rattle.stream_base.specs.declared.entry.Entry.{Entry};
 ghost use Rattle.part_laws.specs.Parts.{part_text};
 ghost use Rattle.run_inputs.specs.Causes.{StopsAtSources};
 ghost use Rattle.run_inputs.specs.Outside.{Ends, OpensInOrder, opens_of};
 ghost use Rattle.run_inputs.specs.Reading.{AreDrained, AreFresh, AreSameFeeds, IsFirstTrouble};
 ghost use Rattle.part_text.specs.Holding.{IsHeld};
-ghost use Rattle.part_run.specs.Answer.{IsAnswer};
-ghost use Rattle.part_run.specs.Parting.{HoldsPartIn, HoldsPartOfFiles, IsShortPart, StopsAtPart, StopsPart};
+ghost use Rattle.part_run.specs.Answer.{IsPartAnswer};
+ghost use Rattle.part_run.specs.Parting.{HoldsPartOfFiles, HoldsPartUnder, StopsAtPart};
 
 use crate::part_fault::PartFault;
 use crate::printing::{print_fault, print_pieces};
@@ -30,9 +30,8 @@ pub fn part<F: Files, K: Sink>(
     files: &mut F,
     sink: &mut K,
 ) -> Status
-    ensures answer { let opens = opens_of F.asked F.came files.old files.new in
-        IsAnswer K.taken K.faults (IsShortPart command.now opens) (StopsPart command.now opens)
-        sink.old sink.new result }
+    ensures answer { IsPartAnswer K.taken K.faults command.now
+        (opens_of F.asked F.came files.old files.new) sink.old sink.new result }
     ensures files { OpensInOrder F.asked F.came F.told (command.now.defs ∷ command.now.sources)
         files.old files.new }
 {
@@ -66,7 +65,7 @@ fn part_under<F: Files>(
     defs: &Defs,
 ) -> Result<Option<Pieces>, Fault>
     ensures { Ends F.asked F.came F.told command.now.sources files.old files.new result
-        (HoldsPartIn command.now.sources defs.now command.now.shards command.now.shard)
+        (HoldsPartUnder defs.now command.now)
         (StopsAtSources command.now.sources 0 defs.now) }
 {
     match open_sources(alloc, files, command.sources, defs) {

@@ -1,6 +1,6 @@
 //! The reports that are joined are read, one after another.
-ghost use Rattle.std.specs.Prelude.{◌≡◌, ◌≤◌, length, map, string_bytes, Ok, Err, IfOk, IfErr};
-ghost use Rattle.run_inputs.specs.Outside.{Ends, ReadsFile};
+ghost use Rattle.std.specs.Prelude.{◌≡◌, ◌≤◌, length, Ok, Err, IfOk, IfErr};
+ghost use Rattle.run_inputs.specs.Outside.{EndsOver, ReadsFile};
 ghost use Rattle.report_check.specs.Findings.{lists_of};
 ghost use Rattle.source_feed.specs.declared.whole_fault.WholeFault.{WholeFault};
 ghost use Rattle.part_run.specs.Joining.{AreTexts, IsTextRead, StopsAtReports, StopsAtText, text_fault};
@@ -18,9 +18,8 @@ pub fn read_reports<F: Files>(
     names: &[String],
 ) -> Result<Vec<Vec<u8>>, Fault>
     requires { length names.now ≤ 65535 }
-    ensures { Ends F.asked F.came F.told (map string_bytes names.now) files.old files.new result
-        (λ opens texts. AreTexts (map string_bytes names.now) opens (lists_of texts.items))
-        (StopsAtReports (map string_bytes names.now)) }
+    ensures { EndsOver F.asked F.came F.told names.now files.old files.new result
+        (λ named opens texts. AreTexts named opens (lists_of texts.items)) StopsAtReports }
 {
     let mut texts = match Vec::with_capacity(alloc, names.len()) {
         Ok(texts) => texts,

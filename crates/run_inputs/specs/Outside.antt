@@ -1,5 +1,6 @@
 -- What a call opened and what was read there, and how calls that open and read files end.
-use Rattle.std.specs.Prelude.{◌≡◌, ◌≤◌, ◌<◌, ◌+◌, ◌++◌, ◌⊎◌, ℕ, true, List, [], ◌∷◌, length, take, Option, Result, IfOk, IfErr, IfSome, slice_index_or, ⊤}
+use Rattle.std.specs.Prelude.{◌≡◌, ◌≤◌, ◌<◌, ◌+◌, ◌++◌, ◌⊎◌, ℕ, true, List, [], ◌∷◌, length, map, take, Option, Result, IfOk, IfErr, IfSome, slice_index_or, string_bytes, String, ⊤}
+use Rattle.std.specs.declared.alloc.Global.{Global}
 use Rattle.outside.specs.Outside.{Came, KeepsWord, Reads, back, nothing_read, out, refused, unasked}
 use Rattle.emission_text.specs.declared.fault.Fault.{Fault}
 
@@ -70,6 +71,10 @@ module _ {F : Type 0} (asked : F → List (List ℕ)) (came : F → ℕ → Came
     pub files : OpensInOrder names old new
     pub ok : IfOk result (good (opens_of asked came old new))
     pub stopped : IfErr result (stop (opens_of asked came old new))
+
+  -- how a call ends whose words are the names of the files
+  abbrev pub EndsOver : {A : Type 0} → List (String Global) → F → F → Result A Fault → (List (List ℕ) → Opens → A → Type 0) → (List (List ℕ) → Opens → Fault → Type 0) → Type 0
+  EndsOver words old new result good stop = Ends (map string_bytes words) old new result (good (map string_bytes words)) (stop (map string_bytes words))
 
   -- how a call ends that opens the file of one name, reads it and gives it back
   pub record ReadsFile {A : Type 0} (name : List ℕ) (old new : F) (result : Result A Fault) (good : Opens → A → Type 0) (stop : Opens → Fault → Type 0) : Type 0 where

@@ -1,10 +1,10 @@
 //! Sources are read whole, one after another.
-ghost use Rattle.std.specs.Prelude.{◌≡◌, ◌≤◌, length, map, string_bytes, IfOk, IfErr, IsErrOf, OnOk};
+ghost use Rattle.std.specs.Prelude.{◌≡◌, ◌≤◌, length, IfOk, IfErr, IsErrOf, OnOk};
 ghost use Rattle.outside.specs.Outside.{Rose};
 ghost use Rattle.report_check.specs.Findings.{lists_of};
 ghost use Rattle.live_board.specs.Watched.{AreEntriesOf};
 ghost use Rattle.run_inputs.specs.Causes.{AreAllRead, StopsAtSources};
-ghost use Rattle.run_inputs.specs.Outside.{Ends};
+ghost use Rattle.run_inputs.specs.Outside.{EndsOver};
 ghost use Rattle.run_inputs.specs.Reading.{AreDrained, AreEntries, AreEntriesFrom, AreFresh, AreSameFeeds, IsDrained, IsFirstTrouble, IsFresh, IsSameFeed, IsStuck, fault_of};
 
 use crate::opening::{close_feeds, open_sources};
@@ -23,10 +23,9 @@ pub fn read_sources<F: Files>(
     defs: &Defs,
 ) -> Result<Vec<Vec<Entry>>, Fault>
     requires few { length names.now ≤ 16 }
-    ensures read { Ends F.asked F.came F.told (map string_bytes names.now)
-        files.old files.new result
-        (λ opens all. AreAllRead (map string_bytes names.now) defs.now opens (lists_of all.items))
-        (StopsAtSources (map string_bytes names.now) 0 defs.now) }
+    ensures read { EndsOver F.asked F.came F.told names.now files.old files.new result
+        (λ named opens all. AreAllRead named defs.now opens (lists_of all.items))
+        (λ named. StopsAtSources named 0 defs.now) }
     ensures entries { IfOk result (λ all. AreEntries (lists_of all.items)) }
 {
     match open_sources(alloc, files, names, defs) {

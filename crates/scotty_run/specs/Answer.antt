@@ -52,6 +52,12 @@ module _ {K : Type 0} (taken : K → List ℕ) (faults : K → ℕ) where
   abbrev pub Says : Fault → K → K → Type 0
   Says answered old new = Appends taken faults (fault_line answered) old new ⊎ Fails taken faults (fault_line answered) old new
 
+  -- the line of a finding was written, under its status, or a write failed
+  abbrev pub IsTold : Finding → K → K → Status → Type 0
+  IsTold finding old new status =
+      ((status ≡ finding_status finding) × Appends taken faults (finding_line finding) old new)
+      ⊎ ((status ≡ WriteFault) × Fails taken faults (finding_line finding) old new)
+
   -- a fault of this status, which has its cause, and its line
   pub record IsStopped (cause : Fault → Type 0) (status : Status) (old new : K) : Type 0 where
     pub answered : Fault

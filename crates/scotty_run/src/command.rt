@@ -1,6 +1,5 @@
 //! The top call.
 ghost use Rattle.std.specs.Prelude.{◌≡◌, ◌↔◌, ◌⊎◌, ◌∷◌, map, string_bytes};
-ghost use Rattle.emission_text.specs.Findings.{finding_line};
 ghost use Rattle.emission_text.specs.Report.{report_text};
 ghost use Rattle.report_lines.specs.Forms.{form_of};
 ghost use Rattle.emission_text.specs.Sending.{Appends, Fails};
@@ -10,7 +9,7 @@ ghost use Rattle.command_words.specs.Commands.{IsCommand};
 ghost use Rattle.command_words.specs.LastWords.{IsLast, IsLastOf, LastRun};
 ghost use Rattle.run_inputs.specs.Outside.{Ends, OpensInOrder, opens_of};
 ghost use Rattle.tail_text.specs.Texts.{AreAsLong, in_vectors};
-ghost use Rattle.run_inputs.specs.Statuses.{finding_status, status_of};
+ghost use Rattle.run_inputs.specs.Statuses.{status_of};
 ghost use Rattle.scotty_run.specs.Tailing.{IsLastAnswer, tailed_text};
 ghost use Rattle.scotty_run.specs.Watching.{IsWatchAnswer, watched_text};
 ghost use Rattle.command_words.specs.Words.{Check, IsCheck, IsCheckOf, IsMadeOf, IsRun, IsRunOf, IsWatch, IsWatchOf, Made, Run, Watch};
@@ -177,10 +176,7 @@ fn check<F: Files, K: Sink, R: Threads>(
 
 // The line of a finding.
 fn print_finding<K: Sink>(finding: &Finding, sink: &mut K) -> Status
-    ensures { ((result ≡ finding_status finding.now)
-        × Appends K.taken K.faults (finding_line finding.now) sink.old sink.new)
-        ⊎ ((result ≡ Status.WriteFault)
-        × Fails K.taken K.faults (finding_line finding.now) sink.old sink.new) }
+    ensures { IsTold K.taken K.faults finding.now sink.old sink.new result }
 {
     if write_finding(finding, sink).is_err() {
         return Status::WriteFault;

@@ -1,7 +1,7 @@
 //! Sources are gathered into shards.
-ghost use Rattle.std.specs.Prelude.{length, map, string_bytes};
+ghost use Rattle.std.specs.Prelude.{length};
 ghost use Rattle.run_inputs.specs.Causes.{AreShardsOf, StopsAtSources};
-ghost use Rattle.run_inputs.specs.Outside.{Ends, GivesBack};
+ghost use Rattle.run_inputs.specs.Outside.{EndsOver, GivesBack};
 ghost use Rattle.command_words.specs.Words.{AreFew};
 
 use crate::settling::trouble_of;
@@ -31,9 +31,9 @@ pub fn gather_sources<F: Files, G: Gate, R: Threads + Wait + Sync>(
     gate: &G,
 ) -> Result<Vec<Shard>, Fault>
     requires few { AreFew (length names.now) shards }
-    ensures { Ends F.asked F.came F.told (map string_bytes names.now) files.old files.new result
-        (λ opens all. AreShardsOf (map string_bytes names.now) shards defs opens all.items)
-        (StopsAtSources (map string_bytes names.now) shards defs) }
+    ensures { EndsOver F.asked F.came F.told names.now files.old files.new result
+        (λ named opens all. AreShardsOf named shards defs opens all.items)
+        (λ named. StopsAtSources named shards defs) }
 {
     let feeds = match open_sources(alloc, files, names, &defs) {
         Ok(feeds) => feeds,

@@ -13,9 +13,13 @@ use Rattle.tail_windows.specs.declared.change.TailChange.{TailChange}
 abbrev pub ByPosition : Type 0
 ByPosition = List (List TailChange)
 
--- those that vectors hold
+-- those that the vectors of one journal hold
+abbrev pub in_lists : {Y : Type 0} → List (Vec TailChange Y) → ByPosition
+in_lists lists = map (λ changes. changes.items) lists
+
+-- and those of several journals
 abbrev pub in_vectors : {Y Z : Type 0} → List (Vec (Vec TailChange Y) Z) → List ByPosition
-in_vectors tails = map (λ t. map (λ changes. changes.items) t.items) tails
+in_vectors tails = map (λ t. in_lists t.items) tails
 
 -- there are changes for each position of each journal
 abbrev pub AreAsLong : List (List Entry) → List ByPosition → Type 0

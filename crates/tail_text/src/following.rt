@@ -1,12 +1,12 @@
 //! The changes for each position of a shard's journal.
-ghost use Rattle.std.specs.Prelude.{◌≡◌, ◌≤◌, ◌<◌, List, length, map, All, IfOk, OnOk};
+ghost use Rattle.std.specs.Prelude.{◌≡◌, ◌≤◌, ◌<◌, List, length, All, IfOk, OnOk};
 ghost use Rattle.stream_base.specs.declared.entry.Entry.{Entry};
 ghost use Rattle.stream_base.specs.declared.limits.TheConstants.{TIME_MAX};
 ghost use Rattle.shard_core.specs.Shard.{AreSources};
 ghost use Rattle.tail_windows.specs.Following.{StandsFor, number_of_sources, time_in};
 ghost use Rattle.tail_windows.specs.Walks.{IsTailDef};
 ghost use Rattle.tail_text.specs.Following.{HasFollowed};
-ghost use Rattle.tail_text.specs.Texts.{tail_changes_in};
+ghost use Rattle.tail_text.specs.Texts.{in_lists, tail_changes_in};
 
 use agg_laws::Steps;
 use shard_core::Shard;
@@ -28,7 +28,7 @@ pub fn tails_of<L>(
     requires sources { AreSources sources }
     requires lateness { lateness ≤ TIME_MAX }
     requires known { All (λ e. e.source < sources) shard.now.journal }
-    ensures changes { IfOk result (λ tails. map (λ changes. changes.items) tails.items
+    ensures changes { IfOk result (λ tails. in_lists tails.items
         ≡ tail_changes_in def lateness sources shard.now.journal) }
     ensures many { IfOk result (λ tails. length tails.items ≡ length shard.now.journal) }
 {
@@ -53,8 +53,7 @@ fn follow<L>(
     requires time { time_in (entry.now).what ≤ TIME_MAX }
     ensures { (journal : List Entry) → StandsFor tails.old journal
         → OnOk result (HasFollowed tails.old journal entry.now tails.new
-        (map (λ changes. changes.items) lists.old.items)
-        (map (λ changes. changes.items) lists.new.items)) }
+        (in_lists lists.old.items) (in_lists lists.new.items)) }
 {
     let mut changes = Vec::new(alloc);
     tails.apply(entry, &mut changes, steps)?;

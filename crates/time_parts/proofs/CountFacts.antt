@@ -26,23 +26,22 @@ use Rattle.count_shift.specs.Counting.{IsNextPosition, count_of, moment, next_fi
 use Rattle.count_shift.specs.Lane.{Follows, HasMoreRoom, Laned}
 use Rattle.count_shift.proofs.Behind.{follows_later, follows_with_room}
 use Rattle.time_lanes.proofs.WalkFacts.{one_time_more}
-use Rattle.key_parts.specs.Calls.{window_at}
+use Rattle.key_parts.specs.Calls.{window_at, window_kind}
 use Rattle.key_parts.specs.Work.{change_work, row_work}
 use Rattle.key_parts.specs.Moves.{AreLists}
 use Rattle.time_parts.specs.Counted.{Counts, CountsAt}
-use Rattle.time_parts.specs.Lanes.{kind_at}
 use Rattle.time_parts.proofs.DueFacts.{counts_early}
 use Rattle.time_parts.proofs.LaneFacts.{nothing_changes}
 use Rattle.time_parts.proofs.WindowFacts.{among, passes_at}
 
 -- ---- the window at the place
-pub counts_at : (d : Definitions) (window : ℕ) → CountsAt d window → is_events (kind_at d window) ≡ true
+pub counts_at : (d : Definitions) (window : ℕ) → CountsAt d window → is_events (window_kind d window) ≡ true
 counts_at d window t = passes_at (λ def. is_events def.kind) d window t
 
-pub count_within : (d : Definitions) (window : ℕ) → CountsAt d window → All (λ w. IsKindWithin w.kind) d.windows → IsKindWithin (kind_at d window)
+pub count_within : (d : Definitions) (window : ℕ) → CountsAt d window → All (λ w. IsKindWithin w.kind) d.windows → IsKindWithin (window_kind d window)
 count_within d window t kinds = All-contains (λ w. IsKindWithin w.kind) d.windows (window_at d window) kinds (among (λ def. is_events def.kind) d window t)
 
-counts_so_many : (kind : Kind) → is_events kind ≡ true → kind ≡ Events (count_of kind)
+pub counts_so_many : (kind : Kind) → is_events kind ≡ true → kind ≡ Events (count_of kind)
 counts_so_many (Tumbling length) t = absurd (false≢true t)
 counts_so_many (Sliding length slide) t = absurd (false≢true t)
 counts_so_many (Session gap) t = absurd (false≢true t)
@@ -74,24 +73,24 @@ counted_row (Events count) reach t = refl
 
 -- ---- the tuples of its lane
 -- it has those that come behind the watermark minus the lateness, and at later times
-pub follows_from : (d : Definitions) (window : ℕ) (m : Moment) (lane now : Laned) (count time : ℕ) → lane ≡ now → count ≡ count_of (kind_at d window) → m.water - d.lateness ≤ time → Counts d window m now → Follows count time m.kept lane
+pub follows_from : (d : Definitions) (window : ℕ) (m : Moment) (lane now : Laned) (count time : ℕ) → lane ≡ now → count ≡ count_of (window_kind d window) → m.water - d.lateness ≤ time → Counts d window m now → Follows count time m.kept lane
 follows_from d window m lane now count time is counts le stood =
     subst (λ l. Follows count time m.kept l) (sym is)
-    (subst (λ k. Follows k time m.kept now) (sym counts) (follows_later (count_of (kind_at d window)) (m.water - d.lateness) time m.kept now le stood.follows))
+    (subst (λ k. Follows k time m.kept now) (sym counts) (follows_later (count_of (window_kind d window)) (m.water - d.lateness) time m.kept now le stood.follows))
 
 pub counts_with_room : (d : Definitions) (window : ℕ) (m : Moment) (old new : Laned) → HasMoreRoom old new → Counts d window m old → Counts d window m new
-counts_with_room d window m old new same stood = record { counts = stood.counts; follows = follows_with_room (count_of (kind_at d window)) (m.water - d.lateness) m.kept old new same stood.follows }
+counts_with_room d window m old new same stood = record { counts = stood.counts; follows = follows_with_room (count_of (window_kind d window)) (m.water - d.lateness) m.kept old new same stood.follows }
 
 -- and where those leave that no tuple shifts
-pub counts_without : (d : Definitions) (window : ℕ) (m : Moment) (old new : Laned) (count time : ℕ) → count ≡ count_of (kind_at d window) → time ≡ m.water - d.lateness → ((kept : List Kept) → Follows count time kept old → Follows count time kept new) → Counts d window m old → Counts d window m new
+pub counts_without : (d : Definitions) (window : ℕ) (m : Moment) (old new : Laned) (count time : ℕ) → count ≡ count_of (window_kind d window) → time ≡ m.water - d.lateness → ((kept : List Kept) → Follows count time kept old → Follows count time kept new) → Counts d window m old → Counts d window m new
 counts_without d window m old new count time counts at on stood = record {
   counts = stood.counts;
-  follows = subst (λ t. Follows (count_of (kind_at d window)) t m.kept new) at
-      (subst (λ k. Follows k time m.kept new) counts (on m.kept (subst (λ k. Follows k time m.kept old) (sym counts) (subst (λ t. Follows (count_of (kind_at d window)) t m.kept old) (sym at) stood.follows))));
+  follows = subst (λ t. Follows (count_of (window_kind d window)) t m.kept new) at
+      (subst (λ k. Follows k time m.kept new) counts (on m.kept (subst (λ k. Follows k time m.kept old) (sym counts) (subst (λ t. Follows (count_of (window_kind d window)) t m.kept old) (sym at) stood.follows))));
 }
 
 -- and one tuple more
-pub counts_put : (d : Definitions) (window : ℕ) (m : Moment) (x : Kept) (old new : Laned) (count : ℕ) → count ≡ count_of (kind_at d window) → m.water ≤ x.time + d.lateness
+pub counts_put : (d : Definitions) (window : ℕ) (m : Moment) (x : Kept) (old new : Laned) (count : ℕ) → count ≡ count_of (window_kind d window) → m.water ≤ x.time + d.lateness
     → ((kept : List Kept) (from : ℕ) → from ≤ x.time → Follows count from kept old → Follows count from (put_in_order kept x) new) → Counts d window m old → Counts d window (with_tuple m x) new
 counts_put d window m x old new count counts in_time on stood = record {
   counts = stood.counts;

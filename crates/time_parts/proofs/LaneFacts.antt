@@ -34,11 +34,11 @@ use Rattle.agg_store.specs.Stored.{Stored, tuples_of}
 use Rattle.time_lanes.specs.Told.{former_at}
 use Rattle.time_lanes.specs.Late.{IsLate, complete_holding, formers_of}
 use Rattle.time_lanes.specs.Moves.{moment}
-use Rattle.key_parts.specs.Calls.{window_at}
+use Rattle.key_parts.specs.Calls.{window_at, window_kind}
 use Rattle.key_parts.specs.Moves.{Comes, IsPutStep, IsStored}
 use Rattle.key_parts.specs.Moves.Comes.{Enters, Leaves}
 use Rattle.key_parts.specs.Work.{change_work, row_work, slice_work}
-use Rattle.time_parts.specs.Lanes.{IsTimedAt, kind_at}
+use Rattle.time_parts.specs.Lanes.{IsTimedAt}
 use Rattle.time_parts.proofs.WindowFacts.{apart_at, member_at, timed_at}
 
 -- ---- a tuple comes
@@ -49,8 +49,8 @@ timed_counts_not (Session gap) t = absurd (false≢true t)
 timed_counts_not Marks t = absurd (false≢true t)
 timed_counts_not (Events count) t = absurd (false≢true t)
 
-pub counts_not : (d : Definitions) (window : ℕ) → IsTimedAt d window → is_events (kind_at d window) ≡ false
-counts_not d window t = timed_counts_not (kind_at d window) (timed_at d window t)
+pub counts_not : (d : Definitions) (window : ℕ) → IsTimedAt d window → is_events (window_kind d window) ≡ false
+counts_not d window t = timed_counts_not (window_kind d window) (timed_at d window t)
 
 -- the store takes it in, since this window doesn't count events
 pub taken_in : (d : Definitions) (window n : ℕ) (before : Stored) (x : Kept) (more : ℕ) (after : Stored) → IsTimedAt d window → Comes d n before x more after → IsStored d before x after × (more ≡ n)

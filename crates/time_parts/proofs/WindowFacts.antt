@@ -35,9 +35,9 @@ use Rattle.time_lanes.specs.Moves.{AreApartAbove}
 use Rattle.time_lanes.specs.Spans.{IsSpan, IsWindowAt}
 use Rattle.time_lanes.proofs.ServedFacts.{span_of_kind, stands_among}
 use Rattle.time_lanes.proofs.WalkFacts.{start_behind, times_mono}
-use Rattle.key_parts.specs.Calls.{window_at}
+use Rattle.key_parts.specs.Calls.{window_at, window_kind}
 use Rattle.key_parts.specs.Moves.{SettlesUpTo}
-use Rattle.time_parts.specs.Lanes.{IsTimedAt, kind_at, open_from}
+use Rattle.time_parts.specs.Lanes.{IsTimedAt, open_from}
 
 -- ---- the window at the place
 module _ (p : Def → Bool) (d : Definitions) (window : ℕ) (t : option_map_or p (slice_get d.windows window) false ≡ true) where
@@ -57,17 +57,17 @@ module _ (p : Def → Bool) (d : Definitions) (window : ℕ) (t : option_map_or 
 pub stands_at : (d : Definitions) (window : ℕ) → IsTimedAt d window → IsWindowAt d.windows window (window_at d window)
 stands_at d window t = found_at (λ def. is_timed def.kind) d window t
 
-pub timed_at : (d : Definitions) (window : ℕ) → IsTimedAt d window → is_timed (kind_at d window) ≡ true
+pub timed_at : (d : Definitions) (window : ℕ) → IsTimedAt d window → is_timed (window_kind d window) ≡ true
 timed_at d window t = passes_at (λ def. is_timed def.kind) d window t
 
 pub member_at : (d : Definitions) (window : ℕ) → IsTimedAt d window → Contains d.windows (window_at d window)
 member_at d window t = among (λ def. is_timed def.kind) d window t
 
-pub within_at : (d : Definitions) (window : ℕ) → IsTimedAt d window → All (λ w. IsKindWithin w.kind) d.windows → IsKindWithin (kind_at d window)
+pub within_at : (d : Definitions) (window : ℕ) → IsTimedAt d window → All (λ w. IsKindWithin w.kind) d.windows → IsKindWithin (window_kind d window)
 within_at d window t kinds = All-contains (λ w. IsKindWithin w.kind) d.windows (window_at d window) kinds (member_at d window t)
 
-pub span_at : (d : Definitions) (window : ℕ) → IsTimedAt d window → All (λ w. IsKindWithin w.kind) d.windows → IsSpan (length_of (kind_at d window)) (slide_of (kind_at d window))
-span_at d window t kinds = span_of_kind (kind_at d window) (timed_at d window t) (within_at d window t kinds)
+pub span_at : (d : Definitions) (window : ℕ) → IsTimedAt d window → All (λ w. IsKindWithin w.kind) d.windows → IsSpan (length_of (window_kind d window)) (slide_of (window_kind d window))
+span_at d window t kinds = span_of_kind (window_kind d window) (timed_at d window t) (within_at d window t kinds)
 
 -- ---- without the first tuples of a key
 apart_without : (n : ℕ) (kept : List Kept) → HaveDistinctPositions kept → HaveDistinctPositions (drop n kept)
@@ -86,11 +86,11 @@ kept_without n kept h = record {
 
 -- ---- what has left
 module _ (d : Definitions) (window : ℕ) (m : Moment) (n : ℕ) (t : IsTimedAt d window) (may : MayLeave d m n) where
-  span : IsSpan (length_of (kind_at d window)) (slide_of (kind_at d window))
+  span : IsSpan (length_of (window_kind d window)) (slide_of (window_kind d window))
   span = span_at d window t may.kinds
 
   -- the intervals that held it have ended by the watermark minus the lateness
-  ended : (x : Kept) → Contains (take n m.kept) x → last_end_of (kind_at d window) x.time + d.lateness ≤ m.water
+  ended : (x : Kept) → Contains (take n m.kept) x → last_end_of (window_kind d window) x.time + d.lateness ≤ m.water
   ended x c =
       let inside : Contains m.kept x = subst (λ l. Contains l x) (take-append-drop n m.kept) (Contains-append_left (take n m.kept) (drop n m.kept) x c) in
       let settled : is_settled d m x ≡ true = All-contains (λ x. is_settled d m x ≡ true) (take n m.kept) x may.are_settled c in
@@ -98,25 +98,25 @@ module _ (d : Definitions) (window : ℕ) (m : Moment) (n : ℕ) (t : IsTimedAt 
       (all_member (is_settled_in d.lateness m x) d.windows (window_at d window) settled (member_at d window t))
 
   -- so it lies in no interval that ends later
-  none_in : (low k : ℕ) → low ≡ k * slide_of (kind_at d window) → m.water < low + length_of (kind_at d window) + d.lateness → within low (low + length_of (kind_at d window)) (take n m.kept) ≡ []
+  none_in : (low k : ℕ) → low ≡ k * slide_of (window_kind d window) → m.water < low + length_of (window_kind d window) + d.lateness → within low (low + length_of (window_kind d window)) (take n m.kept) ≡ []
   none_in low k is late =
-      filter_none (is_within low (low + length_of (kind_at d window))) (take n m.kept)
-      (All_from_members (λ x. is_within low (low + length_of (kind_at d window)) x ≡ false) (take n m.kept) (λ x c. not_within low (low + length_of (kind_at d window)) x (λ a b. not_there x c a)))
+      filter_none (is_within low (low + length_of (window_kind d window))) (take n m.kept)
+      (All_from_members (λ x. is_within low (low + length_of (window_kind d window)) x ≡ false) (take n m.kept) (λ x c. not_within low (low + length_of (window_kind d window)) x (λ a b. not_there x c a)))
     where
       not_there : (x : Kept) → Contains (take n m.kept) x → low ≤ x.time → ⊥
       not_there x c a =
-          let e : x.time / slide_of (kind_at d window) * slide_of (kind_at d window) + length_of (kind_at d window) + d.lateness ≤ m.water = ended x c in
-          let q : k ≤ x.time / slide_of (kind_at d window) = le-div k x.time (slide_of (kind_at d window)) span.moves (omega (arith, is)) in
-          let r : k * slide_of (kind_at d window) ≤ x.time / slide_of (kind_at d window) * slide_of (kind_at d window) = times_mono k (x.time / slide_of (kind_at d window)) (slide_of (kind_at d window)) q in
+          let e : x.time / slide_of (window_kind d window) * slide_of (window_kind d window) + length_of (window_kind d window) + d.lateness ≤ m.water = ended x c in
+          let q : k ≤ x.time / slide_of (window_kind d window) = le-div k x.time (slide_of (window_kind d window)) span.moves (omega (arith, is)) in
+          let r : k * slide_of (window_kind d window) ≤ x.time / slide_of (window_kind d window) * slide_of (window_kind d window) = times_mono k (x.time / slide_of (window_kind d window)) (slide_of (window_kind d window)) q in
           omega (arith, is)
 
-  pub apart_at : (time : ℕ) → m.water ≤ time + d.lateness → AreApartAt (kind_at d window) time (take n m.kept)
+  pub apart_at : (time : ℕ) → m.water ≤ time + d.lateness → AreApartAt (window_kind d window) time (take n m.kept)
   apart_at time h =
-      All_from_members (λ low. within low (low + length_of (kind_at d window)) (take n m.kept) ≡ []) (starts_holding (length_of (kind_at d window)) (slide_of (kind_at d window)) time)
-      (λ low c. let s = starts_holding_members (length_of (kind_at d window)) (slide_of (kind_at d window)) span.moves span.overlaps time low c in none_in low s.0 s.1 (omega (arith, s.3)))
+      All_from_members (λ low. within low (low + length_of (window_kind d window)) (take n m.kept) ≡ []) (starts_holding (length_of (window_kind d window)) (slide_of (window_kind d window)) time)
+      (λ low c. let s = starts_holding_members (length_of (window_kind d window)) (slide_of (window_kind d window)) span.moves span.overlaps time low c in none_in low s.0 s.1 (omega (arith, s.3)))
 
-  pub apart_above : AreApartAbove (kind_at d window) m.water (take n m.kept)
-  apart_above k h = none_in (k * slide_of (kind_at d window)) k refl (omega arith)
+  pub apart_above : AreApartAbove (window_kind d window) m.water (take n m.kept)
+  apart_above k h = none_in (k * slide_of (window_kind d window)) k refl (omega arith)
 
 -- ---- up to when tuples are settled
 module _ (length slide : ℕ) (span : IsSpan length slide) (lateness water : ℕ) where
@@ -137,18 +137,18 @@ module _ (length slide : ℕ) (span : IsSpan length slide) (lateness water : ℕ
 settles_up_to : (d : Definitions) (window : ℕ) (m : Moment) → IsTimedAt d window → All (λ w. IsKindWithin w.kind) d.windows → AreKept m.kept → SettlesUpTo d.lateness m (window_at d window) (open_from d window m.water)
 settles_up_to d window m t kinds k = record { before = before; behind = behind }
   where
-    span : IsSpan (length_of (kind_at d window)) (slide_of (kind_at d window))
+    span : IsSpan (length_of (window_kind d window)) (slide_of (window_kind d window))
     span = span_at d window t kinds
 
     before : (x : Kept) → Contains m.kept x → x.time < open_from d window m.water → is_settled_in d.lateness m x (window_at d window) ≡ true
     before x c l =
         (timed_settles d.lateness m x (window_at d window) k (within_at d window t kinds) (timed_at d window t) c).1
-        (before_is_settled (length_of (kind_at d window)) (slide_of (kind_at d window)) span d.lateness m.water x.time l)
+        (before_is_settled (length_of (window_kind d window)) (slide_of (window_kind d window)) span d.lateness m.water x.time l)
 
     behind : (x : Kept) → Contains m.kept x → open_from d window m.water ≤ x.time → is_settled_in d.lateness m x (window_at d window) ≡ false
     behind x c l = elim (cases_Bool (is_settled_in d.lateness m x (window_at d window))) [
       | inr f ↦ f
-      | inl s ↦ absurd (let b : x.time < open_from d window m.water = settled_is_before (length_of (kind_at d window)) (slide_of (kind_at d window)) span d.lateness m.water x.time ((timed_settles d.lateness m x (window_at d window) k (within_at d window t kinds) (timed_at d window t) c).0 s) in omega arith)
+      | inl s ↦ absurd (let b : x.time < open_from d window m.water = settled_is_before (length_of (window_kind d window)) (slide_of (window_kind d window)) span d.lateness m.water x.time ((timed_settles d.lateness m x (window_at d window) k (within_at d window t kinds) (timed_at d window t) c).0 s) in omega arith)
     ]
 
 -- at any watermark, of the tuples that are left

@@ -15,8 +15,8 @@ use Rattle.stream_base.specs.Kinds.{is_kind_within}
 use Rattle.toml.specs.Data.{Data}
 use Rattle.window_defs.specs.declared.defs_fault.DefsFault.{DefsFault}
 use Rattle.window_defs.specs.declared.defs_fault.DefsFault.TheVariants.{Long, Toml, Shape, Many, Limit, NoMemory}
-use Rattle.window_defs.specs.declared.raw_kind.RawKind.{RawKind}
-use Rattle.window_defs.specs.declared.raw_kind.RawKind.TheVariants as raws
+use Rattle.window_defs.specs.declared.window.RawKind.{RawKind}
+use Rattle.window_defs.specs.declared.window.RawKind.TheVariants as raws
 use Rattle.window_defs.specs.Windows.{raw_window_of, within_limits, kind_of, def_of}
 use Rattle.window_defs.specs.Reading.{◌>>=◌, Refuses, window_at, windows_from}
 

@@ -9,10 +9,10 @@ use Rattle.stream_base.specs.declared.kind.Kind.TheVariants as kinds
 use Rattle.stream_base.specs.declared.func.Func.{Func}
 use Rattle.stream_base.specs.declared.func.Func.TheVariants.{Count, Sum, Min, Max, Mean, First, Last, Rises, Trace}
 use Rattle.stream_base.specs.Kinds.{is_kind_within}
-use Rattle.window_defs.specs.declared.kind_name.KindName.{KindName}
-use Rattle.window_defs.specs.declared.kind_name.KindName.TheVariants.{Tumbling, Sliding, Session, Marks, Events}
-use Rattle.window_defs.specs.declared.raw_kind.RawKind.{RawKind}
-use Rattle.window_defs.specs.declared.raw_kind.RawKind.TheVariants as raws
+use Rattle.window_defs.specs.declared.window.KindName.{KindName}
+use Rattle.window_defs.specs.declared.window.KindName.TheVariants.{Tumbling, Sliding, Session, Marks, Events}
+use Rattle.window_defs.specs.declared.window.RawKind.{RawKind}
+use Rattle.window_defs.specs.declared.window.RawKind.TheVariants as raws
 use Rattle.window_defs.specs.declared.raw_window.RawWindow.{RawWindow}
 use Rattle.window_defs.specs.Tables.{text_at, integer_at, has_other}
 

@@ -6,9 +6,7 @@
 #![tactic(auto)]
 
 mod defs_fault;
-mod kind_name;
 mod limits;
-mod raw_kind;
 mod raw_window;
 mod read;
 mod table;

@@ -1,4 +1,4 @@
-use crate::raw_kind::RawKind;
+use crate::window::RawKind;
 use stream_base::Func;
 
 /// A window whose shape is right. Its numbers may be beyond their limits.

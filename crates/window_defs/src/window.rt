@@ -9,13 +9,31 @@ ghost use Rattle.window_defs.specs.Trouble.{IsOfFirstInTrouble};
 ghost use Rattle.window_defs.specs.declared.defs_fault.DefsFault.{DefsFault};
 
 use crate::defs_fault::DefsFault;
-use crate::kind_name::KindName;
-use crate::raw_kind::RawKind;
 use crate::raw_window::RawWindow;
 use crate::table::{integer_at, text_at};
 use std::alloc::Global;
 use stream_base::{Def, Func, Kind};
 use toml::{Table, Value};
+
+/// The word for a kind of window.
+#[derive(Clone, Copy, Debug, PartialEq, Eq)]
+pub enum KindName {
+    Tumbling,
+    Sliding,
+    Session,
+    Marks,
+    Events,
+}
+
+/// A kind of window with its integers as they stand in the text, of any size and sign.
+#[derive(Clone, Copy, Debug, PartialEq, Eq)]
+pub enum RawKind {
+    Tumbling { length: i64 },
+    Sliding { length: i64, slide: i64 },
+    Session { gap: i64 },
+    Marks,
+    Events { count: i64 },
+}
 
 /// The windows of the elements, or the fault of the first that is in trouble.
 pub fn windows_of(alloc: Global, values: &[Value]) -> Result<Vec<Def>, DefsFault>

@@ -1,21 +1,29 @@
 -- What the part of a window of any kind is in contracts, by the part of its kind.
-use Rattle.std.specs.Prelude.{◌≡◌, ◌<◌, ◌≤◌, ◌-◌, ℕ, ℤ, List, [], length}
+use Rattle.std.proofs.Common.{◌≡◌, ◌∙◌, ◌<◌, ◌≤◌, ◌-◌, ℕ, ℤ, true, List, [], ap, length, sym}
+use Rattle.std.proofs.lemmas.Bool.{false≢true}
 use Rattle.stream_base.specs.declared.func.Func.{Func}
+use Rattle.stream_base.specs.declared.kept.Kept.{Kept}
 use Rattle.stream_base.specs.declared.limits.TheConstants.{FINAL}
+use Rattle.stream_base.specs.Kinds.{is_events, is_timed}
 use Rattle.stream_base.specs.Laws.{completions}
 use Rattle.stream_base.specs.Limits.{Definitions}
 use Rattle.stream_base.specs.Model.Changes.{Moment}
-use Rattle.window_laws.specs.After.{at_water}
+use Rattle.window_laws.specs.After.{at_water, with_tuple}
 use Rattle.agg_store.specs.Stored.{IsAsBefore, Stored}
 use Rattle.window_spans.specs.Ahead.{start_after}
 use Rattle.window_spans.specs.Spans.{due_of, put_changes}
 use Rattle.context_windows.specs.Marked.{holder_in, most_changes}
 use Rattle.context_windows.specs.Spanned.{gap_at}
 use Rattle.key_parts.specs.Calls.{StandsAt, window_at}
+use Rattle.key_parts.specs.Moves.{IsPutStep}
 use Rattle.context_windows.specs.MarksStand.{DoStandBetween, RemembersHolderAt, do_stand_between_on}
 use Rattle.context_windows.specs.SessionsStand.{AreAsked, DoStand, do_stand_on}
+use Rattle.context_windows.proofs.Following.{session_kind}
 use Rattle.time_parts.specs.Lanes.{CanMove, HasTold, MissesNone, Serves, late_room, misses_with_room, open_from, rows_due, serves_on, serves_with_room}
 use Rattle.time_parts.specs.Counted.{Counts, KeepsFew, counts_on, fill_room, shift_room}
+use Rattle.time_parts.proofs.CountFacts.{counts_so_many}
+use Rattle.time_parts.proofs.WindowFacts.{passes_at}
+use Rattle.window_parts.specs.Untold.{misses_with_tuple, serves_with_tuple}
 use Rattle.window_parts.specs.declared.window_part.WindowPart.{WindowPart}
 use Rattle.window_parts.specs.declared.window_part.WindowPart.TheVariants.{Intervals, Sessions, Marks, Events}
 
@@ -127,3 +135,16 @@ waits_any serves of_values d window key m n s (Intervals p) new at rises none = 
 waits_any serves of_values d window key m n s (Sessions p) new at rises none = do_stand_on d window m n p.sessions new at.stood rises
 waits_any serves of_values d window key m n s (Marks p) new at rises none = do_stand_between_on d window m n p.windows new at.stood rises
 waits_any serves of_values d window key m n s (Events p) new at rises none = counts_on d window m new p at.stood rises
+
+-- a tumbling or sliding window need not be told of a tuple at or behind the watermark, and any other is of another kind
+pub stands_with_tuple_any : {M Q : Type 0} (serves : Func → Type 0) (of_values : List ℤ → M) (d : Definitions) (window : ℕ) (m : Moment) (n : ℕ) (before : Stored) (x : Kept) (more : ℕ) (after : Stored) (part : WindowPart M Q) → is_timed (window_at d window).kind ≡ true → m.water ≤ x.time → IsPutStep d m n before x more after → stands_any serves of_values d window m n before part → stands_any serves of_values d window (with_tuple m x) more after part
+stands_with_tuple_any serves of_values d window m n before x more after (Intervals p) t behind step stood = serves_with_tuple d window m n before x more after p.lane behind step stood
+stands_with_tuple_any serves of_values d window m n before x more after (Sessions p) t behind step stood = absurd (false≢true (sym (ap is_timed (session_kind (window_at d window).kind stood.session.session)) ∙ t))
+stands_with_tuple_any serves of_values d window m n before x more after (Marks p) t behind step stood = absurd (false≢true (sym (ap is_timed stood.marks.kind) ∙ t))
+stands_with_tuple_any serves of_values d window m n before x more after (Events p) t behind step stood = absurd (false≢true (sym (ap is_timed (counts_so_many (window_at d window).kind (passes_at (λ def. is_events def.kind) d window stood.counts))) ∙ t))
+
+pub ahead_with_tuple_any : {M Q : Type 0} (serves : Func → Type 0) (of_values : List ℤ → M) (d : Definitions) (window : ℕ) (m : Moment) (n : ℕ) (before : Stored) (x : Kept) (more : ℕ) (after : Stored) (part : WindowPart M Q) → is_timed (window_at d window).kind ≡ true → m.water ≤ x.time → IsPutStep d m n before x more after → stands_any serves of_values d window m n before part → ahead_any d window m.water before part → ahead_any d window m.water after part
+ahead_with_tuple_any serves of_values d window m n before x more after (Intervals p) t behind step stood ahead = misses_with_tuple d window m n before x more after p.lane stood.timed behind step ahead
+ahead_with_tuple_any serves of_values d window m n before x more after (Sessions p) t behind step stood ahead = ahead
+ahead_with_tuple_any serves of_values d window m n before x more after (Marks p) t behind step stood ahead = ahead
+ahead_with_tuple_any serves of_values d window m n before x more after (Events p) t behind step stood ahead = ahead

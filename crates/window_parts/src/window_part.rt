@@ -22,7 +22,7 @@ pub enum WindowPart<M: Partial, Q: AggQueue<M>> {
 }
 
 impl<M: Partial, Q: AggQueue<M> + Drop> AnyPart<M> for WindowPart<M, Q> {
-    ghost use Rattle.window_parts.specs.Untold.{ahead_with_tuple_any, stands_with_tuple_any};
+    ghost use Rattle.window_parts.specs.Any.{ahead_with_tuple_any, stands_with_tuple_any};
 
     ghost serves = { λ d window within shown. record { within = within; shown = shown } };
 

@@ -1,12 +1,11 @@
-ghost use Rattle.std.specs.Prelude.{◌≡◌, ◌≤◌, ◌<◌, ◌++◌, ℕ, List, [], ◌∷◌, length, All, slice_index_or};
+ghost use Rattle.std.specs.Prelude.{◌≡◌, ◌≤◌, ◌<◌, ℕ, length, All, slice_index_or};
 ghost use Rattle.stream_base.specs.Limits.{Definitions};
-ghost use Rattle.stream_base.specs.declared.entry.Entry.{Entry};
 ghost use Rattle.mail_lane.specs.Lane.{TakenWhole, sent_by};
 ghost use Rattle.fan_in.specs.Gathering.{AreSameFeeds};
 ghost use Rattle.fan_in.specs.Owning.{OwnsAfter, entries_in, note_of};
 ghost use Rattle.fan_in.specs.Posts.{AreOwned};
 ghost use Rattle.fan_in.specs.Ports.{IsAbout};
-ghost use Rattle.fan_in.specs.Settling.{AreAllBack, AreSentRows, BackOver, Follows, HoldsSent, IsAllBack, IsSettledShard, SentOver, worse};
+ghost use Rattle.fan_in.specs.Settling.{AreAllBack, AreSentRows, BackIsHeld, BackOver, Follows, HoldsSent, IsAllBack, IsSettledShard, SentIsHeld, SentOver, worse};
 ghost use Rattle.fan_in.specs.Works.{IsReserved};
 
 use crate::gathered::FeedEnd;
@@ -47,10 +46,7 @@ pub(crate) fn settle_all<F, G: Gate, R: Threads + Wait>(
     ensures same { AreSameFeeds ends.old ends.new }
     ensures follows { (i : ℕ) (e : _) → i < length ends.old → Follows (length lanes.items)
         (slice_index_or ends.old i e).outcome (slice_index_or ends.new i e).outcome }
-    ensures held { (k i : ℕ) (row : _) (b : _) (e : _) (s : _) → k < length lanes.items
-        → i < length ends.old → HoldsSent k i
-        (slice_index_or (slice_index_or rows.items i row).items k b).sent
-        (slice_index_or ends.new i e).outcome (slice_index_or shards.new.items k s).journal }
+    ensures held { SentIsHeld (length lanes.items) rows.items ends.old ends.new shards.new.items }
 {
     bring_back(&lanes, owners.as_mut_slice(), rows);
     settle_each(rt, gate, alloc, plan, lanes, owners, shards, ends);
@@ -76,10 +72,8 @@ fn settle_each<F, G: Gate, R: Threads + Wait>(
     ensures same { AreSameFeeds ends.old ends.new }
     ensures follows { (i : ℕ) (e : _) → i < length ends.old → Follows (length lanes.items)
         (slice_index_or ends.old i e).outcome (slice_index_or ends.new i e).outcome }
-    ensures held { (k i : ℕ) (o : _) (e : _) (s : _) → k < length lanes.items
-        → i < length ends.old → HoldsSent k i
-        (sent_by i ((slice_index_or owners.items k o).receiver).back)
-        (slice_index_or ends.new i e).outcome (slice_index_or shards.new.items k s).journal }
+    ensures held { BackIsHeld (length lanes.items) owners.items ends.old ends.new
+        shards.new.items }
 {
     let many = lanes.len();
     let mut lanes = lanes.into_iter();

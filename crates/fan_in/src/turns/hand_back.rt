@@ -1,8 +1,8 @@
-ghost use Rattle.std.specs.Prelude.{◌≡◌, ◌<◌, ◌⊎◌, ℕ, [], length, slice_index_or};
+ghost use Rattle.std.specs.Prelude.{◌≡◌, ◌<◌, ◌⊎◌, [], length};
 ghost use Rattle.fan_in.specs.Closings.{AreClosed, IsStandingOf};
 ghost use Rattle.fan_in.specs.Floors.{known_in};
 ghost use Rattle.fan_in.specs.Gathering.{AreSameFeeds};
-ghost use Rattle.fan_in.specs.Works.{without_shards};
+ghost use Rattle.fan_in.specs.Works.{AreSameOutcomes, OutcomesAre, without_shards};
 
 use crate::gathered::{FeedEnd, Gathered};
 use crate::outcome::Outcome;
@@ -27,12 +27,10 @@ pub(crate) fn hand_back<F, R: Wait>(
 ) -> Gathered<F>
     requires standing { IsStandingOf plan.now floor rows.items }
     ensures same { AreSameFeeds ends.items result.ends.items }
-    ensures outcomes { ((result.shards.items ≡ []) × ((i : ℕ) (e : _) → i < length ends.items
-        → (slice_index_or result.ends.items i e).outcome
-        ≡ without_shards (slice_index_or ends.items i e).outcome))
-        ⊎ ((length result.shards.items ≡ length floor.desks.items) × ((i : ℕ) (e : _)
-        → i < length ends.items → (slice_index_or result.ends.items i e).outcome
-        ≡ (slice_index_or ends.items i e).outcome)) }
+    ensures outcomes { ((result.shards.items ≡ [])
+        × OutcomesAre without_shards ends.items result.ends.items)
+        ⊎ ((length result.shards.items ≡ length floor.desks.items)
+        × AreSameOutcomes ends.items result.ends.items) }
     ensures closed { AreClosed (known_in plan.now) rows.items result.shards.items }
 {
     match close_all(rt, alloc, plan, floor, rows.as_mut_slice()) {
@@ -50,9 +48,7 @@ pub(crate) fn hand_back<F, R: Wait>(
 // No shard can be handed out: each feed without a fault of its own has want of memory.
 fn give_up<F>(ends: &mut [FeedEnd<F>])
     ensures same { AreSameFeeds ends.old ends.new }
-    ensures outcomes { (i : ℕ) (e : _) → i < length ends.old
-        → (slice_index_or ends.new i e).outcome
-        ≡ without_shards (slice_index_or ends.old i e).outcome }
+    ensures outcomes { OutcomesAre without_shards ends.old ends.new }
 {
     for end in ends.iter_mut() {
         end.outcome = without_shards(end.outcome);

@@ -12,7 +12,7 @@ returns-then-left-settled-clause-follows c = λ kept f.
     let items = c.self.inside.items.items in
     let s = c.upper.result / c.args.count * c.args.count in
     let value : c.upper.result ≡ upper items c.args.time = search rules in
-    let len : c.len.result ≡ length items = search rules in
+    let len : c.len-many.result ≡ length items = search rules in
     let is : items ≡ c.args.self.now.kept = ap (λ (l : Laned). l.kept) c.self.view_is in
     let stay : c.truncate.new.self.items ≡ drop (c.upper.result / c.args.count * c.args.count) items =
     c.truncate.ensures.items
@@ -28,7 +28,7 @@ returns-then-left-settled-clause-few c =
     let items = c.self.inside.items.items in
     let s = c.upper.result / c.args.count * c.args.count in
     let value : c.upper.result ≡ upper items c.args.time = search rules in
-    let len : c.len.result ≡ length items = search rules in
+    let len : c.len-many.result ≡ length items = search rules in
     let stay : c.truncate.new.self.items ≡ drop (c.upper.result / c.args.count * c.args.count) items =
     c.truncate.ensures.items
     ∙ (λ j. take (len j - s) (c.rotate_left.ensures.items j))

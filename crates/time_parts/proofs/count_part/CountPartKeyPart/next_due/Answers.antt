@@ -6,8 +6,7 @@ use Rattle.stream_base.specs.declared.limits.TheConstants.{FINAL}
 use Rattle.stream_base.specs.Laws.{completions}
 use Rattle.count_shift.specs.Counting.{count_of}
 use Rattle.window_laws.specs.Due.{first_open}
-use Rattle.key_parts.specs.Calls.{window_at}
-use Rattle.time_parts.specs.Lanes.{kind_at}
+use Rattle.key_parts.specs.Calls.{window_at, window_kind}
 use Rattle.time_parts.proofs.CountFacts.{count_within, counts_at, filled_early, filled_is_open, follows_from}
 use Rattle.time_parts.proofs.DueFacts.{due_at, none_ever}
 use Rattle.time_parts.proofs.LaneFacts.{none_due}
@@ -15,7 +14,7 @@ use Rattle.time_parts.proofs.count_part.CountPartKeyPart.next_due.Given as given
 use Rattle.time_parts.proofs.count_part.CountPartKeyPart.next_due.Goals as goal
 
 -- how many tuples an instance selects
-counts_of : (g : given.Over) (c : goal.After-end_or_never g) → c.count_of-count.result ≡ count_of (kind_at c.args.defs.now c.args.window)
+counts_of : (g : given.Over) (c : goal.After-end_or_never g) → c.count_of-count.result ≡ count_of (window_kind c.args.defs.now c.args.window)
 counts_of g c = c.count_of-count.ensures.value ∙ ap (λ (w : Def). count_of w.kind) c.window_at.ensures.stands
 
 pub returns-clause-none_before : goal.returns-clause-none_before

@@ -4,16 +4,15 @@ use Rattle.std.specs.Prelude.{min}
 use Rattle.stream_base.specs.declared.def.Def.{Def}
 use Rattle.window_laws.specs.After.{with_tuple}
 use Rattle.count_shift.specs.Counting.{count_of}
-use Rattle.key_parts.specs.Calls.{window_at}
+use Rattle.key_parts.specs.Calls.{window_at, window_kind}
 use Rattle.key_parts.specs.Work.{change_work}
 use Rattle.time_parts.specs.Counted.{Counts}
-use Rattle.time_parts.specs.Lanes.{kind_at}
 use Rattle.time_parts.proofs.CountFacts.{counted_work, counts_at, counts_put, counts_without, follows_from, next_of_lists, told_by_put}
 use Rattle.time_parts.proofs.count_part.CountPartKeyPart.put.Given as given
 use Rattle.time_parts.proofs.count_part.CountPartKeyPart.put.Goals as goal
 
 -- how many tuples an instance selects
-counts_of : (g : given.Over) (c : goal.After-drop_settled g) → count_of c.window_at-def.result.kind ≡ count_of (kind_at c.args.defs.now c.args.window)
+counts_of : (g : given.Over) (c : goal.After-drop_settled g) → count_of c.window_at-def.result.kind ≡ count_of (window_kind c.args.defs.now c.args.window)
 counts_of g c = ap (λ (w : Def). count_of w.kind) c.window_at-def.ensures.stands
 
 pub returns-clause-stands : goal.returns-clause-stands
@@ -37,8 +36,8 @@ pub returns-clause-cost : goal.returns-clause-cost
 returns-clause-cost g c =
     let q = c.requires.takes in
     let d = c.args.defs.now in
-    let work : 2 * count_of c.window_at-def.result.kind ≡ change_work (kind_at d c.args.window) (g.S.AggStore.stored c.args.store.now).reach =
-    ap (λ (w : Def). 2 * count_of w.kind) c.window_at-def.ensures.stands ∙ sym (counted_work (kind_at d c.args.window) (g.S.AggStore.stored c.args.store.now).reach (counts_at d c.args.window q.4.stood.counts)) in
+    let work : 2 * count_of c.window_at-def.result.kind ≡ change_work (window_kind d c.args.window) (g.S.AggStore.stored c.args.store.now).reach =
+    ap (λ (w : Def). 2 * count_of w.kind) c.window_at-def.ensures.stands ∙ sym (counted_work (window_kind d c.args.window) (g.S.AggStore.stored c.args.store.now).reach (counts_at d c.args.window q.4.stood.counts)) in
     record {
       work = subst (λ k. c.put.new.steps ≤ c.args.steps.now + k * (vec_len c.put.new.out - vec_len c.args.out.now)) work c.put.ensures.cost;
       credit = zero-le;

@@ -5,8 +5,8 @@ use Rattle.stream_base.specs.declared.def.Def.{Def}
 use Rattle.stream_base.specs.Laws.{completions}
 use Rattle.count_shift.specs.Counting.{count_of, moment}
 use Rattle.key_parts.specs.Work.{row_work}
+use Rattle.key_parts.specs.Calls.{window_kind}
 use Rattle.time_parts.specs.Counted.{counts_on}
-use Rattle.time_parts.specs.Lanes.{kind_at}
 use Rattle.time_parts.proofs.CountFacts.{counted_row, counts_at, follows_from}
 use Rattle.time_parts.proofs.count_part.CountPartKeyPart.water.Goals as goal
 
@@ -17,15 +17,15 @@ returns-clause-stands g c = λ m n at.
 pub returns-clause-changes : goal.returns-clause-changes
 returns-clause-changes g c = λ m n at.
     let d = c.args.defs.now in
-    let counts : count_of c.window_at-def.result.kind ≡ count_of (kind_at d c.args.window) = ap (λ (w : Def). count_of w.kind) c.window_at-def.ensures.stands in
+    let counts : count_of c.window_at-def.result.kind ≡ count_of (window_kind d c.args.window) = ap (λ (w : Def). count_of w.kind) c.window_at-def.ensures.stands in
     c.rows.ensures.changes m.kept m.marks (follows_from d c.args.window m c.self.inside.lane c.args.self.now (count_of c.window_at-def.result.kind) (min c.args.old c.args.new) c.self.view_is counts (omega (arith, at.water_is, c.requires.moves.leads_on.rises)) at.stood)
     ∙ (λ j. c.args.out.now.items ++ completions c.args.key.now (moment m.kept m.marks (sym at.water_is j)) c.args.new (c.args.window, c.window_at-def.ensures.stands j))
 
 pub returns-clause-work_ahead : goal.returns-clause-work_ahead
 returns-clause-work_ahead g c = λ m n at ahead.
     let d = c.args.defs.now in
-    let row : count_of c.window_at-def.result.kind ≡ row_work (kind_at d c.args.window) (g.S.AggStore.stored c.args.store.now).reach =
-    ap (λ (w : Def). count_of w.kind) c.window_at-def.ensures.stands ∙ sym (counted_row (kind_at d c.args.window) (g.S.AggStore.stored c.args.store.now).reach (counts_at d c.args.window at.stood.counts)) in
+    let row : count_of c.window_at-def.result.kind ≡ row_work (window_kind d c.args.window) (g.S.AggStore.stored c.args.store.now).reach =
+    ap (λ (w : Def). count_of w.kind) c.window_at-def.ensures.stands ∙ sym (counted_row (window_kind d c.args.window) (g.S.AggStore.stored c.args.store.now).reach (counts_at d c.args.window at.stood.counts)) in
     let cost = subst (λ k. c.rows.new.steps ≤ c.args.steps.now + k * (vec_len c.rows.new.out - vec_len c.args.out.now)) row c.rows.ensures.cost in
     omega (arith, cost)
 

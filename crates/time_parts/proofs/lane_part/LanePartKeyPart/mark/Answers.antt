@@ -2,8 +2,8 @@
 use Rattle.std.proofs.Common.{◌≡◌, ◌∙◌, ◌++◌, ap, sym, subst, append-nil}
 use Rattle.time_lanes.specs.Lane.{Knows, KnowsAll, Laned}
 use Rattle.time_lanes.proofs.StayFacts.{mark_stays}
-use Rattle.key_parts.specs.Calls.{window_at}
-use Rattle.time_parts.specs.Lanes.{Timed, kind_at}
+use Rattle.key_parts.specs.Calls.{window_at, window_kind}
+use Rattle.time_parts.specs.Lanes.{Timed}
 use Rattle.time_parts.proofs.LaneFacts.{mark_changes_nothing}
 use Rattle.time_parts.proofs.WindowFacts.{stands_at, timed_at, within_at}
 use Rattle.time_parts.proofs.lane_part.LanePartKeyPart.mark.Goals as goal
@@ -12,7 +12,7 @@ pub returns-clause-stands : goal.returns-clause-stands
 returns-clause-stands g c = λ m n before takes.
     let d = c.args.defs.now in
     let t = takes.stood.timed in
-    let kind = kind_at d c.args.window in
+    let kind = window_kind d c.args.window in
     let kinds = takes.step.held.may_leave.kinds in
     let same = mark_stays d.windows c.args.window (window_at d c.args.window) before kinds (stands_at d c.args.window t) (timed_at d c.args.window t) takes.step.store takes.step.held.sliced (g.S.AggStore.stored c.args.store.now) c.args.time takes.step.slices in
     record {
@@ -33,7 +33,7 @@ pub returns-clause-ahead : goal.returns-clause-ahead
 returns-clause-ahead g c = λ m n before takes behind ahead.
     let d = c.args.defs.now in
     let t = takes.stood.timed in
-    let kind = kind_at d c.args.window in
+    let kind = window_kind d c.args.window in
     let kinds = takes.step.held.may_leave.kinds in
     let same = mark_stays d.windows c.args.window (window_at d c.args.window) before kinds (stands_at d c.args.window t) (timed_at d c.args.window t) takes.step.store takes.step.held.sliced (g.S.AggStore.stored c.args.store.now) c.args.time takes.step.slices in
     let lane : c.args.self.now.lane ≡ c.self.inside.lane = sym (ap (λ (p : Timed _). p.lane) c.self.view_is) in

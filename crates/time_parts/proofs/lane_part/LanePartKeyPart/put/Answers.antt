@@ -7,8 +7,8 @@ use Rattle.time_lanes.specs.Lane.{Knows, KnowsAll, Laned}
 use Rattle.time_lanes.specs.Late.{complete_holding}
 use Rattle.time_lanes.proofs.ServedFacts.{same_window}
 use Rattle.time_lanes.proofs.StayFacts.{tuple_stays}
-use Rattle.key_parts.specs.Calls.{window_at}
-use Rattle.time_parts.specs.Lanes.{Timed, kind_at, late_room}
+use Rattle.key_parts.specs.Calls.{window_at, window_kind}
+use Rattle.time_parts.specs.Lanes.{Timed, late_room}
 use Rattle.time_parts.proofs.LaneFacts.{changed_of_all, is_late, taken_in, timed_work, told_number}
 use Rattle.time_parts.proofs.WindowFacts.{stands_at, timed_at, within_at}
 use Rattle.time_parts.proofs.lane_part.LanePartKeyPart.put.Goals as goal
@@ -41,7 +41,7 @@ pub returns-clause-stands : goal.returns-clause-stands
 returns-clause-stands g c = λ m n before more takes.
     let d = c.args.defs.now in
     let t = takes.stood.timed in
-    let kind = kind_at d c.args.window in
+    let kind = window_kind d c.args.window in
     let kinds = takes.step.held.may_leave.kinds in
     let x = c.args.x in
     let stored = (taken_in d c.args.window n before x more (g.S.AggStore.stored c.args.store.now) t takes.step.comes).0 in
@@ -81,7 +81,7 @@ pub returns-clause-cost : goal.returns-clause-cost
 returns-clause-cost g c =
     let q = c.requires.takes in
     let d = c.args.defs.now in
-    let work = timed_work (kind_at d c.args.window) (g.S.AggStore.stored c.args.store.now).reach (timed_at d c.args.window q.4.stood.timed) in
+    let work = timed_work (window_kind d c.args.window) (g.S.AggStore.stored c.args.store.now).reach (timed_at d c.args.window q.4.stood.timed) in
     record {
       work = subst (λ k. c.late.new.steps ≤ c.args.steps.now + k * (vec_len c.late.new.out - vec_len c.args.out.now)) (sym work) c.late.ensures.work.cost;
       credit = search rules;
@@ -92,7 +92,7 @@ pub returns-clause-ahead : goal.returns-clause-ahead
 returns-clause-ahead g c = λ m n before more takes behind ahead.
     let d = c.args.defs.now in
     let t = takes.stood.timed in
-    let kind = kind_at d c.args.window in
+    let kind = window_kind d c.args.window in
     let kinds = takes.step.held.may_leave.kinds in
     let x = c.args.x in
     let stored = (taken_in d c.args.window n before x more (g.S.AggStore.stored c.args.store.now) t takes.step.comes).0 in

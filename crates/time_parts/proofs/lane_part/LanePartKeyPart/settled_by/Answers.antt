@@ -2,8 +2,8 @@
 use Rattle.std.proofs.Common.{arith, inl, inr}
 use Rattle.std.proofs.lemmas.Bool.{cases_lt}
 use Rattle.stream_base.specs.Kinds.{length_of, slide_of}
-use Rattle.key_parts.specs.Calls.{window_at}
-use Rattle.time_parts.specs.Lanes.{kind_at, open_from}
+use Rattle.key_parts.specs.Calls.{window_at, window_kind}
+use Rattle.time_parts.specs.Lanes.{open_from}
 use Rattle.time_parts.proofs.WindowFacts.{before_is_settled, rest_settles, settled_is_before, span_at, stands_at}
 use Rattle.time_parts.proofs.lane_part.LanePartKeyPart.settled_by.Goals as goal
 
@@ -11,7 +11,7 @@ pub returns-clause-before : goal.returns-clause-before
 returns-clause-before g c = λ water below.
     let d = c.args.defs.now in
     let q = c.requires.key.4 in
-    let kind = kind_at d c.args.window in
+    let kind = window_kind d c.args.window in
     let span = span_at d c.args.window q.stood.timed q.held.may_leave.kinds in
     let end = c.last_end_holding.ensures.end (window_at d c.args.window) (stands_at d c.args.window q.stood.timed) in
     elim (cases_lt c.args.time (open_from d c.args.window water)) [
@@ -23,7 +23,7 @@ pub returns-clause-by_then : goal.returns-clause-by_then
 returns-clause-by_then g c = λ water reached.
     let d = c.args.defs.now in
     let q = c.requires.key.4 in
-    let kind = kind_at d c.args.window in
+    let kind = window_kind d c.args.window in
     let span = span_at d c.args.window q.stood.timed q.held.may_leave.kinds in
     let end = c.last_end_holding.ensures.end (window_at d c.args.window) (stands_at d c.args.window q.stood.timed) in
     settled_is_before (length_of kind) (slide_of kind) span d.lateness water c.args.time (omega (arith, end, c.lateness.ensures.value))

@@ -6,9 +6,9 @@ use Rattle.time_lanes.specs.Spans.{last_end_of}
 use Rattle.time_lanes.proofs.Ranges.{fewer_within}
 use Rattle.time_lanes.specs.Lane.{Knows, KnowsAll, Laned}
 use Rattle.time_lanes.specs.Moves.{MayMove}
-use Rattle.key_parts.specs.Calls.{window_at}
+use Rattle.key_parts.specs.Calls.{window_at, window_kind}
 use Rattle.key_parts.specs.Work.{row_work}
-use Rattle.time_parts.specs.Lanes.{Timed, kind_at, slices_completed, slices_of_last}
+use Rattle.time_parts.specs.Lanes.{Timed, slices_completed, slices_of_last}
 use Rattle.time_parts.proofs.LaneFacts.{completed_of_all, timed_row, timed_slice}
 use Rattle.time_parts.proofs.WindowFacts.{apart_above, stands_at, timed_at}
 use Rattle.time_parts.proofs.lane_part.LanePartKeyPart.water.Goals as goal
@@ -40,7 +40,7 @@ returns-clause-work_ahead g c = λ m n at ahead.
     let d = c.args.defs.now in
     let s = (g.S.AggStore.stored c.args.store.now) in
     let t = at.stood.timed in
-    let kind = kind_at d c.args.window in
+    let kind = window_kind d c.args.window in
     let w = window_at d c.args.window in
     let is = stands_at d c.args.window t in
     let lane : c.args.self.now.lane ≡ c.self.inside.lane = sym (ap (λ (p : Timed _). p.lane) c.self.view_is) in
@@ -55,7 +55,7 @@ returns-clause-work g c = λ m n at.
     let d = c.args.defs.now in
     let s = (g.S.AggStore.stored c.args.store.now) in
     let t = at.stood.timed in
-    let kind = kind_at d c.args.window in
+    let kind = window_kind d c.args.window in
     let w = window_at d c.args.window in
     let is = stands_at d c.args.window t in
     let lane : c.args.self.now.lane ≡ c.self.inside.lane = sym (ap (λ (p : Timed _). p.lane) c.self.view_is) in
@@ -70,7 +70,7 @@ returns-clause-bound g c = λ m n at.
     let d = c.args.defs.now in
     let s = (g.S.AggStore.stored c.args.store.now) in
     let t = at.stood.timed in
-    let kind = kind_at d c.args.window in
+    let kind = window_kind d c.args.window in
     let w = window_at d c.args.window in
     let is = stands_at d c.args.window t in
     let lane : c.args.self.now.lane ≡ c.self.inside.lane = sym (ap (λ (p : Timed _). p.lane) c.self.view_is) in
