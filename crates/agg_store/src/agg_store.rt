@@ -1,10 +1,10 @@
-ghost use Rattle.std.specs.Prelude.{◌≡◌, ◌≤◌, ◌+◌, ◌*◌, find, length, nat_le, All};
+ghost use Rattle.std.specs.Prelude.{◌≡◌, ◌≤◌, ◌+◌, ◌*◌, length, All, IfNone, IfSome};
 ghost use Rattle.std.specs.Option.{option_map};
 ghost use Rattle.stream_base.specs.declared.limits.TheConstants.{TIME_MAX};
-ghost use Rattle.stream_base.specs.Model.Windows.{first_time, last_time, within};
+ghost use Rattle.stream_base.specs.Model.Windows.{last_time, within};
 ghost use Rattle.slice_lists.specs.Runs.{runs_within};
 ghost use Rattle.slice_lists.specs.Slices.{slice_of, values_of};
-ghost use Rattle.agg_store.specs.Stored.{AreBounds, IsStore, Stored, tuples_of};
+ghost use Rattle.agg_store.specs.Stored.{AreBounds, IsFirstWithin, IsNoneWithin, IsStore, Stored, first_from, tuples_of};
 
 use agg_laws::Steps;
 use aggregates::Partial;
@@ -42,7 +42,14 @@ pub trait AggStore<M: Partial> {
 
     /// The first slice that begins at a time or later, `None` exactly where there is none.
     fn slice_from(&self, time: u64) -> Option<Slice>
-        ensures first { result ≡ option_map slice_of
-            (find (λ run. nat_le time (first_time run)) (stored self.now).slices) }
+        ensures first { result ≡ option_map slice_of (first_from (stored self.now).slices time) }
+        ensures holds { IsStore (stored self.now) };
+
+    /// The first slice that begins at a time or later, where that is before another, with its partial.
+    fn partial_within<L>(&self, low: u64, high: u64, steps: &mut Steps<L>) -> Option<(Slice, M)>
+        ensures some { IfSome result (IsFirstWithin M.of_values (stored self.now).slices low high) }
+        ensures none { IfNone result (IsNoneWithin (stored self.now).slices low high) }
+        ensures idle { IfNone result (steps.new ≤ steps.old) }
+        ensures cost { steps.new ≤ steps.old + 1 }
         ensures holds { IsStore (stored self.now) };
 }

@@ -229,6 +229,18 @@ impl<M: Partial, T: AggTree<M>> AggStore<M> for SliceStore<M, T> {
             None
         }
     }
+
+    fn partial_within<L>(&self, low: u64, high: u64, steps: &mut Steps<L>) -> Option<(Slice, M)> {
+        let at = self.runs.before(low);
+        if at >= self.runs.len() {
+            return None;
+        }
+        let slice = self.runs.slice(at);
+        if slice.low >= high {
+            return None;
+        }
+        Some((slice, self.partials.read(slice.low, steps)))
+    }
 }
 
 // How a tuple is placed that enters so many slices.

@@ -1,10 +1,9 @@
 -- The next slice of a store, and the next interval that is due.
-use Rattle.std.proofs.Common.{◌≡◌, ◌∙◌, ℕ, ◌+◌, ◌*◌, ◌<◌, ◌≤◌, max, true, false, cond, Option, Some, None, List, [], ◌∷◌, ◌++◌, length, ap, sym, refl, subst, arith, inl, inr}
-use Rattle.std.specs.Prelude.{◌⊎◌, ◌&&◌, find, nat_le, nat_lt}
+use Rattle.std.proofs.Common.{◌≡◌, ◌∙◌, ℕ, ℤ, ◌+◌, ◌*◌, ◌<◌, ◌≤◌, max, true, false, cond, Option, Some, None, List, [], ◌∷◌, ◌++◌, length, ap, sym, refl, subst, arith, inl, inr}
+use Rattle.std.specs.Prelude.{◌⊎◌, ◌&&◌, IfNone, IfSome, find, nat_le, nat_lt}
 use Rattle.std.specs.List.{All, Contains}
 use Rattle.std.specs.Option.{is_some, option_map, unwrap_or}
 use Rattle.std.proofs.lemmas.Bool.{false≢true, cases_Bool, le-leb, leb-true, leb-false}
-use Rattle.std.proofs.lemmas.List.{append-nil}
 use Rattle.std.proofs.lemmas.List.Concat.{flat_map-append}
 use Rattle.std.proofs.lemmas.List.Elements.{All-append, All-cons, All-head, All-nil, All-tail, All-weaker, filter-append, Contains-append_right}
 use Rattle.stream_base.specs.declared.kept.Kept.{Kept}
@@ -18,13 +17,12 @@ use Rattle.slice_lists.proofs.RunEdits.{parted}
 use Rattle.window_laws.proofs.WalkFacts.{none_due, walks_on}
 use Rattle.slice_lists.specs.declared.slice.Slice.{Slice}
 use Rattle.slice_lists.specs.Slices.{AreSlices, joined, slice_of}
-use Rattle.agg_store.specs.Stored.{IsStore, Stored, tuples_of}
-use Rattle.slice_lists.proofs.WithinFacts.{within_aligned}
+use Rattle.agg_store.specs.Stored.{IsFirstWithin, IsNoneWithin, IsStore, Stored, first_from, tuples_of}
 use Rattle.slice_lists.proofs.SliceFacts.{all_end}
 use Rattle.slice_lists.proofs.SliceOrder.{IsApart, IsNear, first_below_last, run_above_first, run_below_last, above_slice}
 use Rattle.time_lanes.specs.Held.{IsEndFrom, IsNextDue, IsNextIn}
 use Rattle.time_lanes.specs.Spans.{IsSpan}
-use Rattle.time_lanes.proofs.Ranges.{above, begin_below, begins_in, before_it, below, in_it, none_from_on, none_up_to, passed, skipped}
+use Rattle.time_lanes.proofs.Ranges.{above, begin_below, begins_in, before_it, in_it, none_from_on, none_up_to, passed, skipped}
 
 -- ---- where a search ends
 -- the first slice from a time on stands between those that begin before it and the others
@@ -137,58 +135,34 @@ module _ (slices : List (List Kept)) (o : AreSlices slices) (from to : ℕ) wher
         parts from to
         ∙ (λ i. none_early to i ++ none_from_on from to (run ∷ h.behind) (All-cons (λ (r : List Kept). to ≤ first_time r) run h.behind l (All-weaker (λ (r : List Kept). last_time run < first_time r) (λ r. to ≤ first_time r) (λ r m. omega (arith, ends)) h.behind behind_above)) i)
 
-    alone_in : runs_within (first_time run) (last_time run + 1) slices ≡ run ∷ []
-    alone_in =
-        parts (first_time run) (last_time run + 1)
-        ∙ (λ i. none_before (first_time run) (last_time run + 1) (omega arith) i ++ passed (first_time run) (last_time run + 1) run h.behind (in_it (first_time run) (last_time run + 1) (first_time run) (omega arith) (omega (arith, ends))) i)
-        ∙ ap (λ q. run ∷ q) (none_from_on (first_time run) (last_time run + 1) h.behind (All-weaker (λ (r : List Kept). last_time run < first_time r) (λ r. last_time run + 1 ≤ first_time r) (λ r m. omega arith) h.behind behind_above))
-
-    pub aligned_low : IsAligned slices (first_time run)
-    aligned_low =
-        subst (λ s. IsAligned s (first_time run)) (sym h.is)
-        (All-append (λ (r : List Kept). (last_time r < first_time run) ⊎ (first_time run ≤ first_time r)) h.before (run ∷ h.behind)
-        (All-weaker (λ (r : List Kept). last_time r < first_time run) (λ r. (last_time r < first_time run) ⊎ (first_time run ≤ first_time r)) (λ r m. inl m) h.before (below h.before run h.behind ordered))
-        (All-cons (λ (r : List Kept). (last_time r < first_time run) ⊎ (first_time run ≤ first_time r)) run h.behind (inr (omega arith))
-        (All-weaker (λ (r : List Kept). last_time run < first_time r) (λ r. (last_time r < first_time run) ⊎ (first_time run ≤ first_time r)) (λ r m. inr (omega (arith, ends))) h.behind behind_above)))
-
-    aligned_high : IsAligned slices (last_time run + 1)
-    aligned_high =
-        subst (λ s. IsAligned s (last_time run + 1)) (sym h.is)
-        (All-append (λ (r : List Kept). (last_time r < last_time run + 1) ⊎ (last_time run + 1 ≤ first_time r)) h.before (run ∷ h.behind)
-        (All-weaker (λ (r : List Kept). last_time r < first_time run) (λ r. (last_time r < last_time run + 1) ⊎ (last_time run + 1 ≤ first_time r)) (λ r m. inl (omega (arith, ends))) h.before (below h.before run h.behind ordered))
-        (All-cons (λ (r : List Kept). (last_time r < last_time run + 1) ⊎ (last_time run + 1 ≤ first_time r)) run h.behind (inl (omega arith))
-        (All-weaker (λ (r : List Kept). last_time run < first_time r) (λ r. (last_time r < last_time run + 1) ⊎ (last_time run + 1 ≤ first_time r)) (λ r m. inr (omega arith)) h.behind behind_above)))
-
     pub in_time : last_time run ≤ TIME_MAX
     in_time = All-head (λ (r : List Kept). last_time r ≤ TIME_MAX) run h.behind (All-split (λ (r : List Kept). last_time r ≤ TIME_MAX) h.before (run ∷ h.behind) (subst (All (λ r. last_time r ≤ TIME_MAX)) h.is (all_end slices o))).1
 
-    pub next_in : (slice : Slice) → slice ≡ slice_of run → slice.low < to → IsNextIn slices from to slice
-    next_in slice e l =
-        subst (IsNextIn slices from to) (sym e)
-        record {
-          run = run;
-          shows = refl;
-          first = first_in (omega (arith, ap (λ (s : Slice). s.low) e));
-          alone = alone_in;
-          tuples = within_aligned (first_time run) (last_time run + 1) slices o.ordered aligned_low aligned_high ∙ ap joined alone_in ∙ append-nil run;
-          after = h.late;
-          before = omega (arith, ap (λ (s : Slice). s.low) e);
-          ordered = ends;
-          time = in_time;
-          low = aligned_low;
-          high = aligned_high;
-        }
+-- what a store found
+pub none_map : {X P Q : Type 0} (o : Option X) → (P → Q) → IfNone o P → IfNone o Q
+none_map None f h = f h
+none_map (Some x) f h = tt
 
-  -- what a search found
-  pub some_next : (slice : Slice) → Some slice ≡ option_map slice_of (find (λ r. nat_le from (first_time r)) slices) → slice.low < to → IsNextIn slices from to slice
-  some_next slice e l =
-      let a = answered (find (λ r. nat_le from (first_time r)) slices) slice e in
-      next_in a.0 (found_at from slices a.0 a.1) slice a.2 l
+pub some_next : {M : Type 0} (of_values : List ℤ → M) (slices : List (List Kept)) → AreSlices slices → (from to : ℕ) (found : Slice × M) → IsFirstWithin of_values slices from to found → IsNextIn of_values slices from to found
+some_next of_values slices o from to found h =
+    let at = found_at from slices h.run h.first in
+    subst (IsNextIn of_values slices from to) (sym h.shows)
+    record {
+      run = h.run;
+      partial = refl;
+      first = first_in slices o from to h.run at h.before;
+      after = at.late;
+      before = h.before;
+      ordered = ends slices o from to h.run at;
+      time = in_time slices o from to h.run at;
+    }
 
-  pub none_below : (slice : Slice) → Some slice ≡ option_map slice_of (find (λ r. nat_le from (first_time r)) slices) → to ≤ slice.low → runs_within from to slices ≡ []
-  none_below slice e l =
-      let a = answered (find (λ r. nat_le from (first_time r)) slices) slice e in
-      none_in a.0 (found_at from slices a.0 a.1) (omega (arith, ap (λ (s : Slice). s.low) a.2))
+pub none_left : (slices : List (List Kept)) → AreSlices slices → (from to : ℕ) → IsNoneWithin slices from to → runs_within from to slices ≡ []
+none_left slices o from to none = by none (first_from slices from) refl
+  where
+    by : IsNoneWithin slices from to → (found : Option (List Kept)) → first_from slices from ≡ found → runs_within from to slices ≡ []
+    by n None e = none_next slices o from to (sym (ap (option_map slice_of) e))
+    by n (Some run) e = none_in slices o from to run (found_at from slices run e) (subst (λ found. IfSome found (λ run. to ≤ first_time run)) e n)
 
 -- ---- the next interval
 -- slices that begin before a time, and have no tuples on both sides of it, lie before it

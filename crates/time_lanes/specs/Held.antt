@@ -2,11 +2,10 @@
 use Rattle.std.specs.Prelude.{◌≡◌, ◌≤◌, ◌<◌, ◌+◌, ◌*◌, ◌⊎◌, ℕ, ℤ, List, [], ◌∷◌, drop, length, map, max, min, All}
 use Rattle.stream_base.specs.declared.kept.Kept.{Kept}
 use Rattle.stream_base.specs.declared.limits.TheConstants.{FINAL, TIME_MAX}
-use Rattle.stream_base.specs.Model.Windows.{within}
-use Rattle.slice_lists.specs.Runs.{IsAligned, runs_within}
+use Rattle.slice_lists.specs.Runs.{runs_within}
 use Rattle.window_laws.specs.Walk.{IsFirstFrom, due_from, next_start}
 use Rattle.slice_lists.specs.declared.slice.Slice.{Slice}
-use Rattle.slice_lists.specs.Slices.{joined, slice_of, values_of}
+use Rattle.slice_lists.specs.Slices.{values_of}
 use Rattle.agg_store.specs.Stored.{Stored, tuples_of}
 
 -- the partials of slices
@@ -49,19 +48,15 @@ not_held s from to held = runs_within (max from held.to) to s.slices
 abbrev pub left_without : {M : Type 0} → Stored → ℕ → ℕ → Holding M → List M
 left_without s from to held = drop (length (runs_within from (min to held.to) s.slices)) held.partials
 
--- the slice is the first that begins in an interval, and the others begin behind its last time
-pub record IsNextIn (slices : List (List Kept)) (from to : ℕ) (slice : Slice) : Type 0 where
+-- the slice is the first that begins in an interval, the others begin behind its last time, and this is its partial
+pub record IsNextIn {M : Type 0} (of_values : List ℤ → M) (slices : List (List Kept)) (from to : ℕ) (found : Slice × M) : Type 0 where
   pub run : List Kept
-  pub shows : slice ≡ slice_of run
-  pub first : runs_within from to slices ≡ run ∷ runs_within (slice.high + 1) to slices
-  pub alone : runs_within slice.low (slice.high + 1) slices ≡ run ∷ []
-  pub tuples : within slice.low (slice.high + 1) (joined slices) ≡ run
-  pub after : from ≤ slice.low
-  pub before : slice.low < to
-  pub ordered : slice.low ≤ slice.high
-  pub time : slice.high ≤ TIME_MAX
-  pub low : IsAligned slices slice.low
-  pub high : IsAligned slices (slice.high + 1)
+  pub partial : found.1 ≡ of_values (values_of run)
+  pub first : runs_within from to slices ≡ run ∷ runs_within ((found.0).high + 1) to slices
+  pub after : from ≤ (found.0).low
+  pub before : (found.0).low < to
+  pub ordered : (found.0).low ≤ (found.0).high
+  pub time : (found.0).high ≤ TIME_MAX
 
 -- the next interval that is due starts so: no slice begins between, and the rest is due from the start behind it
 pub record IsNextDue (length slide : ℕ) (s : Stored) (from new low : ℕ) : Type 0 where

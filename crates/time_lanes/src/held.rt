@@ -5,7 +5,7 @@ ghost use Rattle.slice_lists.specs.Runs.{AreInOrder};
 ghost use Rattle.agg_store.specs.Stored.{IsStore};
 ghost use Rattle.time_lanes.specs.Held.{HasMoreRoom, HoldsOn, LetsGo, left_without, not_held, partials_of};
 
-use crate::next::next_slice;
+use crate::next::next_partial;
 use agg_laws::{AggQueue, Steps};
 use agg_store::AggStore;
 use aggregates::Partial;
@@ -104,8 +104,7 @@ impl<M: Partial, Q: AggQueue<M>> Held<M, Q> {
         ensures holds { IsStore (S.stored store.now) }
     {
         let mut at = from.max(self.to);
-        while let Some(slice) = next_slice(store, at, to) {
-            let partial = store.fold(slice.low, slice.high + 1, steps);
+        while let Some((slice, partial)) = next_partial(store, at, to, steps) {
             self.take(partial, steps);
             at = slice.high + 1;
         }
@@ -122,10 +121,9 @@ impl<M: Partial, Q: AggQueue<M>> Held<M, Q> {
         ensures ordered { AreInOrder (S.stored store.now).slices }
     {
         let end = to.min(self.to);
-        let mut at = from;
-        while let Some(slice) = next_slice(store, at, end) {
+        let many = store.slices_within(from, end);
+        for _k in 0..many {
             self.let_go(steps);
-            at = slice.high + 1;
         }
     }
 

@@ -1,5 +1,5 @@
 //! The next slice of a store, and the next interval that is due.
-ghost use Rattle.std.specs.Prelude.{◌≡◌, [], IfSome, IfNone, length};
+ghost use Rattle.std.specs.Prelude.{◌≡◌, ◌≤◌, ◌+◌, [], IfSome, IfNone};
 ghost use Rattle.slice_lists.specs.Runs.{runs_within};
 ghost use Rattle.agg_store.specs.Stored.{IsStore, tuples_of};
 ghost use Rattle.time_lanes.specs.Held.{IsEndFrom, IsNextDue, IsNextIn};
@@ -7,19 +7,27 @@ ghost use Rattle.time_lanes.specs.Walks.{MayWalk, StartsAt};
 ghost use Rattle.time_lanes.specs.Due.{due_in};
 
 use crate::span::Span;
+use agg_laws::Steps;
 use agg_store::AggStore;
 use aggregates::Partial;
 use slice_lists::Slice;
 use stream_base::FINAL;
 
-/// The first slice that begins in an interval.
-pub fn next_slice<M: Partial, S: AggStore<M>>(store: &S, from: u64, to: u64) -> Option<Slice>
-    ensures some { IfSome result (λ slice. IsNextIn (S.stored store.now).slices from to slice) }
+/// The first slice that begins in an interval, and its partial, for one step at most.
+pub fn next_partial<M: Partial, S: AggStore<M>, L>(
+    store: &S,
+    from: u64,
+    to: u64,
+    steps: &mut Steps<L>,
+) -> Option<(Slice, M)>
+    ensures some { IfSome result
+        (IsNextIn M.of_values (S.stored store.now).slices from to) }
     ensures none { IfNone result (runs_within from to (S.stored store.now).slices ≡ []) }
+    ensures idle { IfNone result (steps.new ≤ steps.old) }
+    ensures cost { steps.new ≤ steps.old + 1 }
     ensures holds { IsStore (S.stored store.now) }
 {
-    let slice = store.slice_from(from)?;
-    if slice.low < to { Some(slice) } else { None }
+    store.partial_within(from, to, steps)
 }
 
 /// The start of the next interval that is due.
