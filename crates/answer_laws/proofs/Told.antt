@@ -4,12 +4,13 @@ use Rattle.std.proofs.lemmas.List.{get_or-append-add, get_or-take, length-take-l
 use Rattle.stream_base.specs.Limits.{Definitions}
 use Rattle.stream_base.specs.declared.entry.Entry.{Entry}
 use Rattle.outside.specs.Outside.{Came, KeepsWord, Reads, back, refused}
+use Rattle.outside.specs.Whole.{all_read}
 use Rattle.source_feed.specs.FeedView.{given_then}
 use Rattle.window_defs.specs.Reading.{reading_of}
 use Rattle.std.specs.Prelude.{Ok}
 use Rattle.run_inputs.specs.Causes.{AreDefinitionsRead, HasFailedRead, IsSourceRead, stream_at}
 use Rattle.scotty_run.specs.InMemory.{Tells}
-use Rattle.run_inputs.specs.Outside.{Asks, Opens, Telling, all_read, behind, came_at}
+use Rattle.run_inputs.specs.Outside.{Asks, Opens, Telling, behind, came_at}
 use Rattle.answer_laws.specs.Once.{AreWell, IsWell}
 
 some_same : {X : Type 0} {x y : X} → Some x ≡ Some y → x ≡ y

@@ -1,11 +1,11 @@
 -- Words are those of one run of tails at most, and begin with a letter of their own.
-use Rattle.std.proofs.Common.{◌≡◌, ◌∙◌, ◌<◌, ◌≤◌, ◌^◌, ℕ, List, [], ◌∷◌, length, map, drop, get_or, Some, decimal, codes, refl, ap, sym, inl, inr, arith}
-use Rattle.std.specs.Prelude.{◌⊎◌, Option}
+use Rattle.std.proofs.Common.{◌≡◌, ◌∙◌, ℕ, List, [], get_or, Some, refl, ap, sym, inl, inr, arith}
+use Rattle.std.specs.Prelude.{◌⊎◌}
 use Rattle.std.proofs.lemmas.Fmt.{decimal_injective}
 use Rattle.stream_base.specs.declared.func.Func.{Func}
 use Rattle.stream_base.specs.declared.func.Func.TheVariants.{Count, Sum, Min, Max, Mean, First, Last, Rises, Trace}
-use Rattle.window_defs.specs.Windows.{func_named}
-use Rattle.command_words.specs.LastWords.{IsLast, IsLastOf, LastRun, func_word}
+use Rattle.window_defs.specs.Windows.{func_named, func_word}
+use Rattle.command_words.specs.LastWords.{IsLast, IsLastOf, LastRun}
 use Rattle.command_words.specs.Words.{IsCheck, IsMade, IsRun, IsWatch}
 use Rattle.command_words.proofs.WordFacts.{check_letter, letter_of, made_letter, run_letter, watch_letter}
 

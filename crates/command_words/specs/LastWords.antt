@@ -1,29 +1,11 @@
 -- The words of a run of tails.
 use Rattle.std.specs.Prelude.{◌≡◌, ◌≤◌, ℕ, List, [], ◌∷◌, length, All, codes, decimal}
 use Rattle.stream_base.specs.Limits.{Definitions, definitions_of}
-use Rattle.stream_base.specs.declared.func.Func.{Func}
-use Rattle.stream_base.specs.declared.func.Func.TheVariants.{Count, Sum, Min, Max, Mean, First, Last, Rises, Trace}
 use Rattle.stream_base.specs.declared.kind.Kind.TheVariants.{Tumbling}
-use Rattle.stream_base.specs.declared.limits.TheConstants.{TIME_MAX}
 use Rattle.tail_windows.specs.declared.def.TailDef.{TailDef}
 use Rattle.command_words.specs.Jobs.{Job, of_words}
 use Rattle.command_words.specs.Words.{AreFew, IsName}
-
--- the word of a function
-abbrev pub func_word : Func → List ℕ
-func_word Count = codes "count"
-func_word Sum = codes "sum"
-func_word Min = codes "min"
-func_word Max = codes "max"
-func_word Mean = codes "mean"
-func_word First = codes "first"
-func_word Last = codes "last"
-func_word Rises = codes "rises"
-func_word Trace = codes "trace"
-
--- the word of some function
-abbrev pub IsFunc : List ℕ → Type 0
-IsFunc word = (func : Func) × (word ≡ func_word func)
+use Rattle.window_defs.specs.Windows.{func_word}
 
 -- a run of tails: how many tuples are selected at each multiple of which period, what is shown of them, the allowed lateness, how many shards, and the names of the sources
 pub record LastRun : Type 0 where

@@ -1,11 +1,12 @@
 //! The words of a run of tails.
-ghost use Rattle.std.specs.Prelude.{◌≡◌, ℕ, List, IfSome, IfNone, map, string_bytes};
-ghost use Rattle.command_words.specs.LastWords.{IsFunc, IsLast, IsLastOf, IsTail, IsTailOf, LastRun, func_word};
+ghost use Rattle.std.specs.Prelude.{IfSome, IfNone, map, string_bytes};
+ghost use Rattle.command_words.specs.LastWords.{IsLast, IsLastOf, IsTail, IsTailOf, LastRun};
 
 use crate::words::{are_sources, number_within, says};
 use std::marker::Model;
-use stream_base::{Func, TIME_MAX};
+use stream_base::TIME_MAX;
 use tail_windows::TailDef;
+use window_defs::func_named;
 
 /// A run of tails: how many tuples are selected at each multiple of which period, what is shown of
 /// them, the allowed lateness, how many shards there are, and the names of the sources. Their numbers
@@ -64,29 +65,10 @@ fn tail_of(count: &str, period: &str, func: &str) -> Option<TailDef>
 {
     let count = number_within(count, 1, 4_194_304)?;
     let period = number_within(period, 1, TIME_MAX)?;
-    let func = func_of(func)?;
+    let func = func_named(func)?;
     Some(TailDef {
         count,
         period,
         func,
     })
-}
-
-// The function that the word names.
-fn func_of(word: &str) -> Option<Func>
-    ensures some { IfSome result (λ func. word.now ≡ func_word func) }
-    ensures none { IfNone result (¬ (IsFunc word.now)) }
-{
-    match word {
-        "count" => Some(Func::Count),
-        "sum" => Some(Func::Sum),
-        "min" => Some(Func::Min),
-        "max" => Some(Func::Max),
-        "mean" => Some(Func::Mean),
-        "first" => Some(Func::First),
-        "last" => Some(Func::Last),
-        "rises" => Some(Func::Rises),
-        "trace" => Some(Func::Trace),
-        _ => None,
-    }
 }

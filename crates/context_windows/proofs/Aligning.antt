@@ -25,7 +25,7 @@ use Rattle.window_spans.specs.Held.{AreAlignedWith, IsAlignedWith}
 use Rattle.window_spans.specs.Spans.{asked_of, due_of, is_due, is_near, joined_span, near_of, span_of, spans_with, stands, told_at}
 use Rattle.context_windows.specs.Aligned.{IsOfSessions, IsOfWindows}
 use Rattle.context_windows.specs.Marked.{IsEdge}
-use Rattle.context_windows.specs.Spanned.{Follows, IsSession, Spanned, gap_of, sessions_after}
+use Rattle.context_windows.specs.Spanned.{FollowsSessions, IsSession, Spanned, gap_of, sessions_after}
 use Rattle.context_windows.proofs.Changing.{put_follows}
 
 no_events : (kind : Kind) → IsSession kind → is_events kind ≡ false
@@ -56,28 +56,28 @@ module _ (windows : List Def) (w : Def) (kept : List Kept) (store : Stored) (o :
         high = subst (λ l. IsAligned l i.high) (sym o.sliced.sliced) (aligned windows store.marks (tuples_of store) o.sliced.in_order i.high (λ a b f g l r. end_is_cut windows store.marks kept w i a b o.sliced.kinds times o.early o.member n d (member a f) (member b g) l r));
       }
 
-  pub spans_aligned : (s : Spanned) → Follows (gap_of w.kind) kept s → AreAlignedWith store.slices s.spans
+  pub spans_aligned : (s : Spanned) → FollowsSessions (gap_of w.kind) kept s → AreAlignedWith store.slices s.spans
   spans_aligned s f =
       subst (AreAlignedWith store.slices) (sym f.spans)
       (All-map_of (IsAlignedWith store.slices) span_of (sessions_after (gap_of w.kind) s.forgotten kept)
       (All_from_members (λ i. IsAlignedWith store.slices (span_of i)) (sessions_after (gap_of w.kind) s.forgotten kept)
       (λ i c. session_aligned i (filter_members (λ (i : Instance). nat_lt s.forgotten i.high) (sessions (gap_of w.kind) kept) i c).0)))
 
-pub asked_aligned : (windows : List Def) (w : Def) (kept : List Kept) (store : Stored) (s : Spanned) (time water : ℕ) → IsOfSessions windows w kept store → Follows (gap_of w.kind) kept s → AreAlignedWith store.slices (asked_of (gap_of w.kind) time water s.spans)
+pub asked_aligned : (windows : List Def) (w : Def) (kept : List Kept) (store : Stored) (s : Spanned) (time water : ℕ) → IsOfSessions windows w kept store → FollowsSessions (gap_of w.kind) kept s → AreAlignedWith store.slices (asked_of (gap_of w.kind) time water s.spans)
 asked_aligned windows w kept store s time water o f =
     All-take (IsAlignedWith store.slices) 2 (filter (stands water) (near_of (gap_of w.kind) time s.spans))
     (All-filter (stands water) (IsAlignedWith store.slices) (near_of (gap_of w.kind) time s.spans)
     (All-filter (is_near (gap_of w.kind) time) (IsAlignedWith store.slices) s.spans (spans_aligned windows w kept store o f.in_order s f)))
 
-pub due_aligned : (windows : List Def) (w : Def) (kept : List Kept) (store : Stored) (s : Spanned) (old new : ℕ) → IsOfSessions windows w kept store → Follows (gap_of w.kind) kept s → AreAlignedWith store.slices (due_of old new s.spans)
+pub due_aligned : (windows : List Def) (w : Def) (kept : List Kept) (store : Stored) (s : Spanned) (old new : ℕ) → IsOfSessions windows w kept store → FollowsSessions (gap_of w.kind) kept s → AreAlignedWith store.slices (due_of old new s.spans)
 due_aligned windows w kept store s old new o f = All-filter (is_due old new) (IsAlignedWith store.slices) s.spans (spans_aligned windows w kept store o f.in_order s f)
 
-pub told_aligned : (windows : List Def) (w : Def) (kept : List Kept) (x : Kept) (store : Stored) (s : Spanned) (water : ℕ) → IsOfSessions windows w (put_in_order kept x) store → Follows (gap_of w.kind) kept s → s.forgotten ≤ x.time → AreAlignedWith store.slices (told_at (gap_of w.kind) x.time water s.spans)
+pub told_aligned : (windows : List Def) (w : Def) (kept : List Kept) (x : Kept) (store : Stored) (s : Spanned) (water : ℕ) → IsOfSessions windows w (put_in_order kept x) store → FollowsSessions (gap_of w.kind) kept s → s.forgotten ≤ x.time → AreAlignedWith store.slices (told_at (gap_of w.kind) x.time water s.spans)
 told_aligned windows w kept x store s water o f le =
     let gap = gap_of w.kind in
     let one : Span = joined_span (gap_of w.kind) x.time (near_of (gap_of w.kind) x.time s.spans) in
     let new : Spanned = record { spans = spans_with (gap_of w.kind) x.time s.spans; stood = []; forgotten = s.forgotten; spare = 0 } in
-    let follows : Follows (gap_of w.kind) (put_in_order kept x) new = put_follows 0 w [] (record { kept = kept; marks = []; water = 0 }) x s o.session f le new refl refl in
+    let follows : FollowsSessions (gap_of w.kind) (put_in_order kept x) new = put_follows 0 w [] (record { kept = kept; marks = []; water = 0 }) x s o.session f le new refl refl in
     let all : AreAlignedWith store.slices (spans_with (gap_of w.kind) x.time s.spans) = spans_aligned windows w (put_in_order kept x) store o follows.in_order new follows in
     All-filter (stands water) (IsAlignedWith store.slices) (one ∷ [])
     (All-cons (IsAlignedWith store.slices) one []

@@ -27,7 +27,7 @@ use Rattle.window_spans.specs.Held.{AreHeld, IsHeld}
 use Rattle.window_spans.specs.Spans.{asked_of, due_of, goes, is_due, is_near, is_same_span, joined_span, near_of, span_alone, span_of, spans_with, stands}
 use Rattle.window_spans.specs.Telling.{as_standing, come_of, gone_of, row_for, told_as}
 use Rattle.window_spans.proofs.Apart.{high_rises}
-use Rattle.context_windows.specs.Spanned.{Follows, HoldsSessions, IsSession, Remembers, Spanned, changes_of, gap_of, near_standing, sessions_after}
+use Rattle.context_windows.specs.Spanned.{FollowsSessions, HoldsSessions, IsSession, Remembers, Spanned, changes_of, gap_of, near_standing, sessions_after}
 use Rattle.context_windows.proofs.Following.{asked_is, bounds_are_ends, completions_are, due_is, gap_some, joined_is, near_complete, session_kind, session_within, spans_become, spans_near}
 use Rattle.window_laws.proofs.SessionFacts.{put_times, sessions_after_put}
 
@@ -107,7 +107,7 @@ gone_both window key water span xs ys =
     ∙ map-append (λ (s : Standing). Gone (row_for window key s)) (filter (λ s. goes water span s.span) xs) (filter (λ s. goes water span s.span) ys)
 
 -- ---- a put
-module _ (window : ℕ) (def : Def) (key : List ℕ) (m : Moment) (x : Kept) (s : Spanned) (e : IsSession def.kind) (f : Follows (gap_of def.kind) m.kept s) (le : s.forgotten ≤ x.time) where
+module _ (window : ℕ) (def : Def) (key : List ℕ) (m : Moment) (x : Kept) (s : Spanned) (e : IsSession def.kind) (f : FollowsSessions (gap_of def.kind) m.kept s) (le : s.forgotten ≤ x.time) where
   abbrev known : AreChangesOfNear window key def.func (gap_of def.kind) m x (retractions key m (with_tuple m x) (window, def)) (emissions key m (with_tuple m x) (window, def))
   known = session_changes window key (gap_of def.kind) def m x (session_kind def.kind e) (session_within def.kind e) f.in_order
 
@@ -134,7 +134,7 @@ module _ (window : ℕ) (def : Def) (key : List ℕ) (m : Moment) (x : Kept) (s 
       (Contains-append_right known.put.front (joined_session (gap_of def.kind) known.put.near x ∷ known.put.back) (joined_session (gap_of def.kind) known.put.near x) (Contains-head (joined_session (gap_of def.kind) known.put.near x) known.put.back)))
       (lt-ltb x.time (joined_session (gap_of def.kind) known.put.near x).high one_ends)
 
-  pub put_follows : (new : Spanned) → new.spans ≡ spans_with (gap_of def.kind) x.time s.spans → new.forgotten ≡ s.forgotten → Follows (gap_of def.kind) (put_in_order m.kept x) new
+  pub put_follows : (new : Spanned) → new.spans ≡ spans_with (gap_of def.kind) x.time s.spans → new.forgotten ≡ s.forgotten → FollowsSessions (gap_of def.kind) (put_in_order m.kept x) new
   put_follows new is same = record {
     in_order = put_times m.kept x f.in_order;
     spans = is
@@ -224,7 +224,7 @@ stood_are func first second r q store is b f g =
     ∙ sym (map-append (as_standing func) b.front b.back)
     ∙ ap (map (as_standing func)) (sym b.whole)
 
-pub remembered : (def : Def) (time water : ℕ) (kept : List Kept) (old new : Spanned) (store : Stored) → IsSession def.kind → Follows (gap_of def.kind) kept old → old.forgotten ≤ time → HoldsSessions (gap_of def.kind) time kept store
+pub remembered : (def : Def) (time water : ℕ) (kept : List Kept) (old new : Spanned) (store : Stored) → IsSession def.kind → FollowsSessions (gap_of def.kind) kept old → old.forgotten ≤ time → HoldsSessions (gap_of def.kind) time kept store
     → (first second : Option Span) → option_to_list first ++ option_to_list second ≡ asked_of (gap_of def.kind) time water old.spans
     → (r q : Option Standing) → new.stood ≡ option_to_list r ++ option_to_list q
     → ((is : List Instance) → AreHeld (option_to_list first) store is → option_to_list r ≡ map (as_standing def.func) is)
@@ -257,7 +257,7 @@ held_due gap old new kept store held =
     subst (λ l. AreHeld (map span_of l) store l) (sym (bounds_are_ends gap old new kept))
     (held_of gap old kept store held (λ (i : Instance). is_due old new (span_of i)) (λ i t. ltb-true old i.high (and_parts (nat_lt old i.high) (nat_le i.high new) t).0))
 
-pub move_told : (window : ℕ) (def : Def) (key : List ℕ) (m : Moment) (old new : ℕ) (s : Spanned) (store : Stored) → IsSession def.kind → Follows (gap_of def.kind) m.kept s → s.forgotten ≤ old → m.water ≡ old → HoldsSessions (gap_of def.kind) old m.kept store
+pub move_told : (window : ℕ) (def : Def) (key : List ℕ) (m : Moment) (old new : ℕ) (s : Spanned) (store : Stored) → IsSession def.kind → FollowsSessions (gap_of def.kind) m.kept s → s.forgotten ≤ old → m.water ≡ old → HoldsSessions (gap_of def.kind) old m.kept store
     → (spans : List Span) → spans ≡ due_of old new s.spans → (out all : List Change)
     → ((is : List Instance) → AreHeld spans store is → all ≡ out ++ map (λ i. New (row_of window key def.func i)) is)
     → all ≡ out ++ completions key m new (window, def)

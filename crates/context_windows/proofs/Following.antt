@@ -30,7 +30,7 @@ use Rattle.slice_lists.proofs.SliceOrder.{first_below_last}
 use Rattle.window_spans.specs.declared.span.Span.{Span}
 use Rattle.window_spans.specs.Spans.{asked_of, due_of, is_due, is_near, joined_span, near_of, span_of, spans_with, stands}
 use Rattle.window_spans.proofs.Parts.{filter_alike, filter_twice, fewer_pass, take_few}
-use Rattle.context_windows.specs.Spanned.{Follows, IsSession, Spanned, gap_of, near_standing, sessions_after}
+use Rattle.context_windows.specs.Spanned.{FollowsSessions, IsSession, Spanned, gap_of, near_standing, sessions_after}
 use Rattle.context_windows.proofs.Thirds.{InThirds, backs_later, mids_are, spans_back, spans_front, spans_mid}
 
 pub session_kind : (kind : Kind) → IsSession kind → kind ≡ Session (gap_of kind)
@@ -95,7 +95,7 @@ only_later f h b n =
     (cases_lt f h)
 
 -- forgetting more
-pub follows_later : (gap time : ℕ) (kept : List Kept) (old new : Spanned) → Follows gap kept old → new.spans ≡ filter (λ s. nat_lt time s.high) old.spans → new.forgotten ≡ max old.forgotten time → Follows gap kept new
+pub follows_later : (gap time : ℕ) (kept : List Kept) (old new : Spanned) → FollowsSessions gap kept old → new.spans ≡ filter (λ s. nat_lt time s.high) old.spans → new.forgotten ≡ max old.forgotten time → FollowsSessions gap kept new
 follows_later gap time kept old new f is at = record {
   in_order = f.in_order;
   spans = is
@@ -111,7 +111,7 @@ bounds_are_ends gap old new kept =
     filter_map_of (becomes_complete old new) (session gap) (runs_by gap kept)
     ∙ sym (filter_map_of (λ (i : Instance). is_due old new (span_of i)) (session gap) (runs_by gap kept))
 
-pub due_is : (gap old new : ℕ) (kept : List Kept) (s : Spanned) → Follows gap kept s → s.forgotten ≤ old → due_of old new s.spans ≡ map span_of (filter (becomes_complete old new) (sessions gap kept))
+pub due_is : (gap old new : ℕ) (kept : List Kept) (s : Spanned) → FollowsSessions gap kept s → s.forgotten ≤ old → due_of old new s.spans ≡ map span_of (filter (becomes_complete old new) (sessions gap kept))
 due_is gap old new kept s f le =
     ap (due_of old new) f.spans
     ∙ filter_map_of (is_due old new) span_of (sessions_after gap s.forgotten kept)
@@ -122,7 +122,7 @@ pub completions_are : (window : ℕ) (def : Def) (key : List ℕ) (m : Moment) (
 unfolding instances_of
 completions_are window def key m new e = ap (λ k. map (λ i. New (row_of window key def.func i)) (filter (becomes_complete m.water new) (instances_of k m.kept m.marks))) (session_kind def.kind e)
 
-pub completions_length : (window : ℕ) (def : Def) (key : List ℕ) (m : Moment) (old new : ℕ) (s : Spanned) → IsSession def.kind → Follows (gap_of def.kind) m.kept s → s.forgotten ≤ old → m.water ≡ old → length (due_of old new s.spans) ≡ length (completions key m new (window, def))
+pub completions_length : (window : ℕ) (def : Def) (key : List ℕ) (m : Moment) (old new : ℕ) (s : Spanned) → IsSession def.kind → FollowsSessions (gap_of def.kind) m.kept s → s.forgotten ≤ old → m.water ≡ old → length (due_of old new s.spans) ≡ length (completions key m new (window, def))
 completions_length window def key m old new s e f le at =
     ap length (due_is (gap_of def.kind) old new m.kept s f le)
     ∙ length-map (filter (becomes_complete old new) (sessions (gap_of def.kind) m.kept)) span_of

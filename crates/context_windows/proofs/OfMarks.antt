@@ -29,7 +29,7 @@ use Rattle.window_spans.specs.declared.span.Span.{Span}
 use Rattle.window_spans.specs.Ahead.{start_after}
 use Rattle.window_spans.specs.Spans.{AreApart, span_of}
 use Rattle.context_windows.specs.Marked.{FollowsMarks, HoldsStretches, IsEdge, Marked, marks_window, stretches_after}
-use Rattle.context_windows.specs.Spanned.{window_at}
+use Rattle.key_parts.specs.Calls.{window_at}
 use Rattle.key_parts.specs.Moves.{SettlesUpTo}
 use Rattle.key_parts.specs.Work.{change_work}
 use Rattle.context_windows.specs.MarksStand.{DoStandBetween, IsMarksAt}

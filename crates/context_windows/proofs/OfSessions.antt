@@ -19,8 +19,9 @@ use Rattle.agg_store.specs.Stored.{Stored, tuples_of}
 use Rattle.window_spans.specs.declared.span.Span.{Span}
 use Rattle.window_spans.specs.Spans.{asked_of, goes, joined_span, near_of, put_changes, span_of, stands, told_at}
 use Rattle.context_windows.specs.Aligned.{IsOfSessions}
-use Rattle.context_windows.specs.Spanned.{Follows, HoldsSessions, IsSession, IsSessionAt, Spanned, gap_at, gap_of, sessions_after, window_at}
+use Rattle.context_windows.specs.Spanned.{FollowsSessions, HoldsSessions, IsSession, IsSessionAt, Spanned, gap_at, gap_of, sessions_after}
 use Rattle.context_windows.proofs.Following.{session_within}
+use Rattle.key_parts.specs.Calls.{window_at}
 use Rattle.key_parts.specs.Work.{change_work}
 use Rattle.context_windows.proofs.Rest.{HoldsRest, is_window, left_over, open_alike, open_selects, rest_is_kept, rest_windows}
 
@@ -78,7 +79,7 @@ module _ (d : Definitions) (window : ℕ) (at : IsSessionAt d window) where
     }
 
 -- ---- the sessions of what is left
-pub follows_left : (d : Definitions) (window : ℕ) (at : IsSessionAt d window) (m : Moment) (n : ℕ) (p : Spanned) → MayLeave d m n → m.water - d.lateness ≤ p.forgotten → Follows (gap_at d window) m.kept p → Follows (gap_at d window) (drop n m.kept) p
+pub follows_left : (d : Definitions) (window : ℕ) (at : IsSessionAt d window) (m : Moment) (n : ℕ) (p : Spanned) → MayLeave d m n → m.water - d.lateness ≤ p.forgotten → FollowsSessions (gap_at d window) m.kept p → FollowsSessions (gap_at d window) (drop n m.kept) p
 follows_left d window at m n p may late f =
     let kind = (window_at d window).kind in
     let is : (kept : List Kept) → filter (λ (i : Instance). nat_lt p.forgotten i.high) (instances_of kind kept m.marks) ≡ sessions_after (gap_at d window) p.forgotten kept = λ kept. ap (filter (λ (i : Instance). nat_lt p.forgotten i.high)) (sessions_are kind kept m.marks at.session) in

@@ -29,7 +29,7 @@ use Rattle.window_laws.proofs.SettledFacts.{all_member, settled_by_times}
 use Rattle.agg_store.specs.Stored.{IsSliced, Stored, tuples_of}
 use Rattle.window_spans.proofs.Parts.{filter_alike}
 use Rattle.context_windows.specs.Aligned.{IsOfWindows}
-use Rattle.context_windows.specs.Spanned.{window_at}
+use Rattle.key_parts.specs.Calls.{window_at}
 use Rattle.key_parts.specs.Held.{IsHeld}
 use Rattle.key_parts.specs.Moves.{AreLists, Comes, IsMarkStep, IsPutStep, IsStored}
 use Rattle.key_parts.specs.Moves.Comes.{Enters, Leaves}

@@ -23,8 +23,9 @@ use Rattle.window_laws.proofs.SettledMoves.{session_last}
 use Rattle.window_spans.specs.declared.span.Span.{Span}
 use Rattle.window_spans.specs.Ahead.{start_after}
 use Rattle.window_spans.specs.Spans.{AreApart, span_of}
-use Rattle.context_windows.specs.Spanned.{Follows, IsSession, Spanned, gap_at, gap_of, sessions_after, window_at}
+use Rattle.context_windows.specs.Spanned.{FollowsSessions, IsSession, Spanned, gap_at, gap_of, sessions_after}
 use Rattle.context_windows.proofs.Following.{gap_some}
+use Rattle.key_parts.specs.Calls.{window_at}
 use Rattle.key_parts.specs.Moves.{SettlesUpTo}
 use Rattle.context_windows.specs.SessionsStand.{DoStand}
 use Rattle.context_windows.proofs.OfSessions.{no_events, sessions_are}
@@ -64,7 +65,7 @@ gap_few Marks h = absurd h
 gap_few (Events count) h = absurd h
 
 -- ---- the spans that are kept
-pub spans_apart : (gap : ℕ) (kept : List Kept) (p : Spanned) → 1 ≤ gap → Follows gap kept p → AreApart p.spans
+pub spans_apart : (gap : ℕ) (kept : List Kept) (p : Spanned) → 1 ≤ gap → FollowsSessions gap kept p → AreApart p.spans
 spans_apart gap kept p some f = subst AreApart (sym f.spans) (filter_apart (λ (i : Instance). nat_lt p.forgotten i.high) (sessions gap kept) (sessions_lie_apart gap kept some f.in_order))
 
 -- none ends later than the gap behind the last time
@@ -76,7 +77,7 @@ session_bounded gap most kept i some h times c =
     let t : (w.0).time ≤ most = All-contains (λ (x : Kept). x.time ≤ most) kept w.0 times m.0 in
     omega (arith, t, w.2)
 
-pub spans_bounded : (gap most : ℕ) (kept : List Kept) (p : Spanned) → 1 ≤ gap → All (λ (x : Kept). x.time ≤ most) kept → Follows gap kept p → All (λ (s : Span). s.high ≤ most + gap) p.spans
+pub spans_bounded : (gap most : ℕ) (kept : List Kept) (p : Spanned) → 1 ≤ gap → All (λ (x : Kept). x.time ≤ most) kept → FollowsSessions gap kept p → All (λ (s : Span). s.high ≤ most + gap) p.spans
 spans_bounded gap most kept p some times f =
     subst (All (λ (s : Span). s.high ≤ most + gap)) (sym f.spans)
     (All-map_of (λ (s : Span). s.high ≤ most + gap) span_of (sessions_after gap p.forgotten kept)

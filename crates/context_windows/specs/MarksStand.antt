@@ -4,10 +4,10 @@ use Rattle.stream_base.specs.Limits.{Definitions}
 use Rattle.stream_base.specs.declared.func.Func.{Func}
 use Rattle.stream_base.specs.declared.kind.Kind.TheVariants.{Marks}
 use Rattle.stream_base.specs.Model.Changes.{Moment}
+use Rattle.key_parts.specs.Calls.{window_at}
 use Rattle.window_laws.specs.After.{at_water}
 use Rattle.window_spans.proofs.Lasts.{stays_before}
 use Rattle.context_windows.specs.Marked.{FollowsMarks, Marked, RemembersHolder}
-use Rattle.context_windows.specs.Spanned.{window_at}
 
 -- one of the definitions is this window between marks
 pub record IsMarksAt (d : Definitions) (window : ℕ) : Type 0 where

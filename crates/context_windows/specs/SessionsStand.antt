@@ -3,9 +3,10 @@ use Rattle.std.specs.Prelude.{◌≤◌, ◌-◌, ℕ, drop}
 use Rattle.stream_base.specs.Limits.{Definitions}
 use Rattle.stream_base.specs.declared.func.Func.{Func}
 use Rattle.stream_base.specs.Model.Changes.{Moment}
+use Rattle.key_parts.specs.Calls.{window_at}
 use Rattle.window_laws.specs.After.{at_water}
 use Rattle.window_spans.proofs.Lasts.{stays_before}
-use Rattle.context_windows.specs.Spanned.{Follows, HasAsked, IsSessionAt, Remembers, Spanned, gap_at, window_at}
+use Rattle.context_windows.specs.Spanned.{FollowsSessions, HasAsked, IsSessionAt, Remembers, Spanned, gap_at}
 
 -- one of the definitions is this session window, and its function can be shown
 pub record IsSessionShown (serves : Func → Type 0) (d : Definitions) (window : ℕ) : Type 0 where
@@ -16,8 +17,8 @@ pub record IsSessionShown (serves : Func → Type 0) (d : Definitions) (window :
 pub record DoStand (serves : Func → Type 0) (d : Definitions) (window : ℕ) (m : Moment) (n : ℕ) (s : Spanned) : Type 0 where
   pub session : IsSessionAt d window
   pub shown : serves (window_at d window).func
-  pub follows : Follows (gap_at d window) m.kept s
-  pub left : Follows (gap_at d window) (drop n m.kept) s
+  pub follows : FollowsSessions (gap_at d window) m.kept s
+  pub left : FollowsSessions (gap_at d window) (drop n m.kept) s
   pub bounded : s.forgotten ≤ m.water - d.lateness
 
 -- of those that a tuple at a time may change is kept what they show

@@ -1,11 +1,10 @@
 -- What the sessions of a key are in contracts.
-use Rattle.std.specs.Prelude.{◌≡◌, ◌≤◌, ◌<◌, ◌++◌, ℕ, List, filter, length, map, max, nat_lt, slice_index_or, All}
+use Rattle.std.specs.Prelude.{◌≡◌, ◌≤◌, ◌<◌, ◌++◌, ℕ, List, filter, length, map, max, nat_lt, All}
 use Rattle.stream_base.specs.declared.change.Change.{Change}
 use Rattle.stream_base.specs.declared.def.Def.{Def}
-use Rattle.stream_base.specs.declared.func.Func.TheVariants.{Count}
 use Rattle.stream_base.specs.declared.kept.Kept.{Kept}
 use Rattle.stream_base.specs.declared.kind.Kind.{Kind}
-use Rattle.stream_base.specs.declared.kind.Kind.TheVariants.{Session, Marks}
+use Rattle.stream_base.specs.declared.kind.Kind.TheVariants.{Session}
 use Rattle.stream_base.specs.Laws.{TimesDoNotFall}
 use Rattle.stream_base.specs.Limits.{Definitions}
 use Rattle.stream_base.specs.Kinds.{IsKindWithin}
@@ -17,6 +16,7 @@ use Rattle.window_spans.specs.declared.span.Span.{Span}
 use Rattle.window_spans.specs.declared.standing.Standing.{Standing}
 use Rattle.window_spans.specs.Spans.{asked_of, is_near, span_of}
 use Rattle.window_spans.specs.Telling.{as_standing}
+use Rattle.key_parts.specs.Calls.{window_at}
 
 -- the spans of a key's sessions, oldest first; what was kept of those that stood before a tuple comes; up to which time sessions are forgotten; and for how many more there is room
 pub record Spanned : Type 0 where
@@ -40,10 +40,6 @@ open_after time s = record {
   forgotten = max s.forgotten time;
   spare = s.spare;
 }
-
--- the window at a place of the definitions
-abbrev pub window_at : Definitions → ℕ → Def
-window_at d window = slice_index_or d.windows window (record { kind = Marks; func = Count })
 
 -- the kind is a session window, with a gap within its limits
 abbrev pub IsSession : Kind → Type 0
@@ -69,7 +65,7 @@ abbrev pub sessions_after : ℕ → ℕ → List Kept → List Instance
 sessions_after gap time kept = filter (λ i. nat_lt time i.high) (sessions gap kept)
 
 -- these are the spans of the sessions of the tuples that are not forgotten
-pub record Follows (gap : ℕ) (kept : List Kept) (s : Spanned) : Type 0 where
+pub record FollowsSessions (gap : ℕ) (kept : List Kept) (s : Spanned) : Type 0 where
   pub in_order : TimesDoNotFall kept
   pub spans : s.spans ≡ map span_of (sessions_after gap s.forgotten kept)
 

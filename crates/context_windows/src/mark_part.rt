@@ -1,6 +1,6 @@
 //! The part of a window between marks in the state of a key.
 ghost use Rattle.std.specs.Prelude.{◌≡◌, ◌<◌, length};
-ghost use Rattle.context_windows.specs.Spanned.{window_at};
+ghost use Rattle.key_parts.specs.Calls.{window_at};
 
 use crate::mark_windows::MarkWindows;
 use crate::settled::settled_with;

@@ -3,12 +3,13 @@ ghost use Rattle.std.specs.Prelude.{◌≡◌, ◌≤◌, ◌<◌, ◌+◌, ◌-
 ghost use Rattle.stream_base.specs.declared.kept.Kept.{Kept};
 ghost use Rattle.stream_base.specs.Laws.{completions};
 ghost use Rattle.stream_base.specs.Vectors.{Adds, room};
+ghost use Rattle.key_parts.specs.Calls.{window_at};
 ghost use Rattle.window_laws.specs.After.{with_tuple};
 ghost use Rattle.window_spans.specs.Ahead.{end_after, end_of_last_begun, start_after};
 ghost use Rattle.window_spans.specs.Held.{AreAlignedWith};
 ghost use Rattle.window_spans.specs.Spans.{AreApart, asked_of, due_of, put_changes, spans_with};
 ghost use Rattle.context_windows.specs.Calls.{DiffersInStood, MayComeAt, MayTake, Promises, TakesOne, TellsEach};
-ghost use Rattle.context_windows.specs.Spanned.{Follows, HasAsked, IsAsBefore, IsSessionAt, Remembers, changes_of, gap_at, open_after, window_at};
+ghost use Rattle.context_windows.specs.Spanned.{FollowsSessions, HasAsked, IsAsBefore, IsSessionAt, Remembers, changes_of, gap_at, open_after};
 ghost use Rattle.context_windows.specs.SessionCalls.{FollowTuple, WhereFollowed, WhereFollowedHeld, WhereSessionsHeld, WhereTupleCame, asked_in, told_in};
 
 use crate::windows::{gap_of, window_at};
@@ -57,7 +58,7 @@ impl Model for Sessions {
 impl Sessions {
     /// No session yet.
     pub fn new(alloc: Global) -> Sessions
-        ensures follows { (gap : ℕ) → Follows gap [] result }
+        ensures follows { (gap : ℕ) → FollowsSessions gap [] result }
         ensures spans { (result).spans ≡ [] }
         ensures stood { (result).stood ≡ [] }
         ensures forgotten { (result).forgotten ≡ 0 }
@@ -248,8 +249,8 @@ impl Sessions {
     /// Forgets the sessions that end at or before a time. No tuple comes at an earlier time.
     pub fn drop_settled(&mut self, time: u64)
         ensures kept { IsAsBefore (open_after time self.old) self.new }
-        ensures follows { (gap : ℕ) (kept : List Kept) → Follows gap kept self.old
-            → Follows gap kept self.new }
+        ensures follows { (gap : ℕ) (kept : List Kept) → FollowsSessions gap kept self.old
+            → FollowsSessions gap kept self.new }
     {
         self.spans.retain(|s| time < s.high);
         self.forgotten = self.forgotten.max(time);

@@ -1,7 +1,8 @@
 //! The window that a call is for.
 ghost use Rattle.std.specs.Prelude.{◌≡◌, ◌≤◌, ◌<◌, length};
 ghost use Rattle.stream_base.specs.declared.limits.TheConstants.{TIME_MAX};
-ghost use Rattle.context_windows.specs.Spanned.{IsSession, gap_of, window_at};
+ghost use Rattle.key_parts.specs.Calls.{window_at};
+ghost use Rattle.context_windows.specs.Spanned.{IsSession, gap_of};
 
 use stream_base::{Def, Defs, Kind};
 

@@ -15,9 +15,10 @@ use Rattle.stream_base.specs.declared.limits.TheConstants.{FINAL}
 use Rattle.stream_base.specs.Laws.{TimesDoNotFall, completions}
 use Rattle.stream_base.specs.Model.Changes.{row_of, former_of, emissions}
 use Rattle.stream_base.specs.Model.Journal.{put_in_order}
+use Rattle.stream_base.specs.Model.Moments.{moment}
 use Rattle.stream_base.specs.Model.Windows.{last_time, ranks}
-use Rattle.count_shift.specs.Counting.{IsEvents, IsNextPosition, again_behind, again_of, count_of, later, moment, move_changes, new_behind, new_of, next_filled, put_changes, ranks_behind, upper, upper_after}
-use Rattle.count_shift.specs.Lane.{Follows, HasMoreRoom, Laned, TakesIn}
+use Rattle.count_shift.specs.Counting.{IsEvents, IsNextPosition, again_behind, again_of, count_of, later, move_changes, new_behind, new_of, next_filled, put_changes, ranks_behind, upper, upper_after}
+use Rattle.count_shift.specs.Lane.{FollowsTuples, HasMoreRoom, Laned, TakesIn}
 use Rattle.count_shift.proofs.Upper.{PartsAt, parts_at_upper, parts_once, put_at_upper, times_behind, times_of_put, upper_put, upper_rises}
 use Rattle.count_shift.proofs.Shift.{count_is_within, put_changes_are, move_changes_are}
 
@@ -88,7 +89,7 @@ put_behind kept gone x h early =
 
 -- ---- a lane
 -- it follows a key at each later time
-pub follows_later : (count early late : ℕ) (kept : List Kept) (lane : Laned) → early ≤ late → Follows count early kept lane → Follows count late kept lane
+pub follows_later : (count early late : ℕ) (kept : List Kept) (lane : Laned) → early ≤ late → FollowsTuples count early kept lane → FollowsTuples count late kept lane
 follows_later count early late kept lane le f = record {
   ordered = f.ordered;
   stay = f.stay;
@@ -97,7 +98,7 @@ follows_later count early late kept lane le f = record {
 }
 
 -- and with one tuple more that comes behind those that left
-pub follows_put : (count from : ℕ) (kept : List Kept) (x : Kept) (old new : Laned) → from ≤ x.time → Follows count from kept old → TakesIn x old new → Follows count from (put_in_order kept x) new
+pub follows_put : (count from : ℕ) (kept : List Kept) (x : Kept) (old new : Laned) → from ≤ x.time → FollowsTuples count from kept old → TakesIn x old new → FollowsTuples count from (put_in_order kept x) new
 follows_put count from kept x old new le f t = record {
   ordered = times_of_put kept x f.ordered;
   stay =
@@ -110,7 +111,7 @@ follows_put count from kept x old new le f t = record {
 }
 
 -- the tuples that it has itself where none has left
-pub follows_own : (count time : ℕ) (lane : Laned) → lane.gone ≡ 0 → TimesDoNotFall lane.kept → Follows count time lane.kept lane
+pub follows_own : (count time : ℕ) (lane : Laned) → lane.gone ≡ 0 → TimesDoNotFall lane.kept → FollowsTuples count time lane.kept lane
 follows_own count time lane none h = record {
   ordered = h;
   stay = ap (λ g. drop g lane.kept) (sym none);
@@ -119,7 +120,7 @@ follows_own count time lane none h = record {
 }
 
 -- and with more room
-pub follows_with_room : (count time : ℕ) (kept : List Kept) (old new : Laned) → HasMoreRoom old new → Follows count time kept old → Follows count time kept new
+pub follows_with_room : (count time : ℕ) (kept : List Kept) (old new : Laned) → HasMoreRoom old new → FollowsTuples count time kept old → FollowsTuples count time kept new
 follows_with_room count time kept old new same f = record {
   ordered = f.ordered;
   stay = same.kept ∙ f.stay ∙ ap (λ g. drop g kept) (sym same.gone);
@@ -127,7 +128,7 @@ follows_with_room count time kept old new same f = record {
   early = omega (arith, same.gone, f.early);
 }
 
-module _ (count from : ℕ) (kept : List Kept) (lane : Laned) (f : Follows count from kept lane) where
+module _ (count from : ℕ) (kept : List Kept) (lane : Laned) (f : FollowsTuples count from kept lane) where
   -- how many lie at or before a time
   pub reached : (time : ℕ) → from ≤ time → upper kept time ≡ lane.gone + upper lane.kept time
   reached time le =
@@ -194,7 +195,7 @@ run_behind count gone i kept whole =
 former_behind : (func : Func) (count gone i : ℕ) (kept : List Kept) → gone / count * count ≡ gone → former_of func (ranks count kept (gone / count + i)) ≡ former_of func (ranks count (drop gone kept) i)
 former_behind func count gone i kept whole = ap (former_of func) (run_behind count gone i kept whole)
 
-module _ (window : ℕ) (def : Def) (key : List ℕ) (events : IsEvents def.kind) (from : ℕ) (kept : List Kept) (lane : Laned) (f : Follows (count_of def.kind) from kept lane) (marks : List ℕ) where
+module _ (window : ℕ) (def : Def) (key : List ℕ) (events : IsEvents def.kind) (from : ℕ) (kept : List Kept) (lane : Laned) (f : FollowsTuples (count_of def.kind) from kept lane) (marks : List ℕ) where
   abbrev count : ℕ
   count = count_of def.kind
 
@@ -282,7 +283,7 @@ module _ (window : ℕ) (def : Def) (key : List ℕ) (events : IsEvents def.kind
 
 -- ---- first tuples leave
 -- those of whole instances at or before a time, of a lane that follows a key
-pub follows_without : (count time : ℕ) (kept : List Kept) (old new : Laned) → 1 ≤ count → Follows count time kept old → new.gone ≡ old.gone + upper old.kept time / count * count → new.kept ≡ drop (upper old.kept time / count * count) old.kept → Follows count time kept new
+pub follows_without : (count time : ℕ) (kept : List Kept) (old new : Laned) → 1 ≤ count → FollowsTuples count time kept old → new.gone ≡ old.gone + upper old.kept time / count * count → new.kept ≡ drop (upper old.kept time / count * count) old.kept → FollowsTuples count time kept new
 follows_without count time kept old new some f goes stays = record {
   ordered = f.ordered;
   stay =

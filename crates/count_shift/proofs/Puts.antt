@@ -10,8 +10,9 @@ use Rattle.stream_base.specs.declared.kept.Kept.{Kept}
 use Rattle.stream_base.specs.Laws.{TimesDoNotFall, completions}
 use Rattle.stream_base.specs.Model.Changes.{emissions}
 use Rattle.stream_base.specs.Model.Journal.{put_in_order}
-use Rattle.count_shift.specs.Counting.{IsEvents, IsNextPosition, again_behind, count_of, moment, new_behind, put_changes, upper, upper_after}
-use Rattle.count_shift.specs.Lane.{Follows, Laned}
+use Rattle.stream_base.specs.Model.Moments.{moment}
+use Rattle.count_shift.specs.Counting.{IsEvents, IsNextPosition, again_behind, count_of, new_behind, put_changes, upper, upper_after}
+use Rattle.count_shift.specs.Lane.{FollowsTuples, Laned}
 use Rattle.count_shift.proofs.Behind.{move_told_behind, put_told_behind}
 use Rattle.count_shift.proofs.Upper.{parts_at_upper, put_at_upper, put_taken_out, times_of_put, next_position_of_put}
 use Rattle.count_shift.proofs.Shift.{count_is_within, put_numbers}
@@ -49,7 +50,7 @@ module _ (window : ℕ) (def : Def) (key : List ℕ) (lane : Laned) (items : Lis
       within : rank ≤ length lane.kept
       within = omega (arith, f.rank_is, (parts_at_upper lane.kept x.time f.ordered).within)
 
-  pub put_told_by : (kept : List Kept) (marks : List ℕ) (out again all : List Change) → Follows (count_of def.kind) (min x.time water) kept lane → IsNextPosition kept x.position
+  pub put_told_by : (kept : List Kept) (marks : List ℕ) (out again all : List Change) → FollowsTuples (count_of def.kind) (min x.time water) kept lane → IsNextPosition kept x.position
       → again ≡ out ++ map (again_behind gone window key def.func count (remove items rank) items) (range_with_len (rank / count) (reached / count - rank / count))
       → all ≡ again ++ map (new_behind gone window key def.func count items) (range_with_len (reached / count) (after / count - reached / count))
       → all ≡ out ++ emissions key (moment kept marks water) (moment (put_in_order kept x) marks water) (window, def)
@@ -67,7 +68,7 @@ module _ (window : ℕ) (def : Def) (key : List ℕ) (lane : Laned) (items : Lis
 
 -- what is told of a move of the watermark
 pub move_told : (window : ℕ) (def : Def) (key : List ℕ) (lane : Laned) (old new count gone stood stand : ℕ) → IsEvents def.kind → count ≡ count_of def.kind → gone ≡ lane.gone → stood ≡ upper lane.kept old → stand ≡ upper lane.kept new
-    → (kept : List Kept) (marks : List ℕ) (out all : List Change) → Follows (count_of def.kind) (min old new) kept lane
+    → (kept : List Kept) (marks : List ℕ) (out all : List Change) → FollowsTuples (count_of def.kind) (min old new) kept lane
     → all ≡ out ++ map (new_behind gone window key def.func count lane.kept) (range_with_len (stood / count) (stand / count - stood / count))
     → all ≡ out ++ completions key (moment kept marks old) new (window, def)
 move_told window def key lane old new count gone stood stand e count_is gone_is stood_is stand_is kept marks out all follows told =

@@ -20,7 +20,8 @@ use Rattle.stream_base.specs.Model.Windows.{last_time, ranks, instances_of, stan
 use Rattle.stream_base.proofs.Members.{map_has, range_has}
 use Rattle.stream_base.proofs.Distinct.{standing_rises, find_same, is_same_itself}
 use Rattle.stream_base.proofs.ChangeFacts.{not_emitted, any_from_member}
-use Rattle.count_shift.specs.Counting.{IsEvents, count_of, upper, moment, IsNextPosition, upper_after, move_changes, put_changes, new_of, again_of}
+use Rattle.stream_base.specs.Model.Moments.{moment}
+use Rattle.count_shift.specs.Counting.{IsEvents, count_of, upper, IsNextPosition, upper_after, move_changes, put_changes, new_of, again_of}
 use Rattle.count_shift.proofs.Upper.{PartsAt, upper_rises, parts_at_upper, put_at_upper, upper_put, times_of_put, Side, Front, Here, Back, side_of}
 use Rattle.count_shift.proofs.Standing.{filled, within_quotient, quotients_rise, next_run, standing_events, completed_events}
 

@@ -12,7 +12,8 @@ use Rattle.stream_base.specs.declared.kind.Kind.TheVariants.{Events}
 use Rattle.stream_base.specs.Laws.{TimesDoNotFall, becomes_complete}
 use Rattle.stream_base.specs.Model.Windows.{last_time, ranks, instances_of, is_complete, standing_of}
 use Rattle.stream_base.proofs.Members.{range_members, filter_map_of, filter_same}
-use Rattle.count_shift.specs.Counting.{upper, kept_at}
+use Rattle.stream_base.specs.Model.Moments.{kept_at}
+use Rattle.count_shift.specs.Counting.{upper}
 use Rattle.count_shift.proofs.Upper.{PartsAt, parts_at_upper}
 
 -- ---- runs of so many

@@ -10,7 +10,8 @@ use Rattle.std.proofs.lemmas.List.Sums.{sum_by-cons, sum_by-insert, position_or_
 use Rattle.stream_base.specs.declared.kept.Kept.{Kept}
 use Rattle.stream_base.specs.Laws.{TimesDoNotFall}
 use Rattle.stream_base.specs.Model.Journal.{put_in_order}
-use Rattle.count_shift.specs.Counting.{upper, kept_at, HaveOwnPositions, IsNextPosition}
+use Rattle.stream_base.specs.Model.Moments.{kept_at}
+use Rattle.count_shift.specs.Counting.{upper, HaveOwnPositions, IsNextPosition}
 
 -- the first so many times lie at or before this one, and the others behind it
 pub record PartsAt (kept : List Kept) (time n : ℕ) : Type 0 where

@@ -1,5 +1,5 @@
 -- Windows of so many tuples: how far the watermark has come, and what one tuple changes.
-use Rattle.std.specs.Prelude.{◌≢◌, ◌<◌, ◌+◌, ◌-◌, ◌*◌, ◌/◌, ◌++◌, ℕ, ℤ, List, length, take, drop, map, All, AllPairs, count_by, nat_le, if◌then◌else◌, slice_get}
+use Rattle.std.specs.Prelude.{◌≢◌, ◌<◌, ◌+◌, ◌-◌, ◌*◌, ◌/◌, ◌++◌, ℕ, List, length, take, drop, map, All, AllPairs, count_by, nat_le, if◌then◌else◌, slice_get}
 use Rattle.std.specs.List.{range_with_len}
 use Rattle.std.specs.Option.{option_map_or}
 use Rattle.stream_base.specs.declared.change.Change.{Change}
@@ -11,7 +11,7 @@ use Rattle.stream_base.specs.declared.kind.Kind.{Kind}
 use Rattle.stream_base.specs.declared.kind.Kind.TheVariants.{Events}
 use Rattle.stream_base.specs.declared.limits.TheConstants.{FINAL}
 use Rattle.stream_base.specs.Kinds.{IsKindWithin}
-use Rattle.stream_base.specs.Model.Changes.{Moment, row_of, former_of}
+use Rattle.stream_base.specs.Model.Changes.{row_of, former_of}
 use Rattle.stream_base.specs.Model.Journal.{put_in_order}
 use Rattle.stream_base.specs.Model.Windows.{Instance, last_time, ranks}
 
@@ -32,14 +32,6 @@ count_of other = 0
 -- an events window of this count and function
 abbrev pub events : ℕ → Func → Def
 events count func = record { kind = Events count; func = func }
-
--- a key's tuples and marks under a watermark
-abbrev pub moment : List Kept → List ℕ → ℕ → Moment
-moment kept marks water = record { kept = kept; marks = marks; water = water }
-
--- a tuple at a position
-abbrev pub kept_at : ℕ → ℕ → ℤ → Kept
-kept_at position time value = record { position = position; time = time; value = value }
 
 -- how many of the tuples have a time at or before this one
 abbrev pub upper : List Kept → ℕ → ℕ

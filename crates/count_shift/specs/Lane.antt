@@ -21,7 +21,7 @@ abbrev pub room_for : ℕ → ℕ → ℕ
 room_for memory came = min memory (2 ^ 64 - 1 - came)
 
 -- a lane has the tuples of a key but for first ones that have left: those of whole instances of so many, all of them at or before a time
-pub record Follows (count time : ℕ) (kept : List Kept) (lane : Laned) : Type 0 where
+pub record FollowsTuples (count time : ℕ) (kept : List Kept) (lane : Laned) : Type 0 where
   pub ordered : TimesDoNotFall kept
   pub stay : lane.kept ≡ drop lane.gone kept
   pub whole : lane.gone / count * count ≡ lane.gone

@@ -7,8 +7,9 @@ use Rattle.stream_base.specs.declared.row.Row.{Row}
 use Rattle.stream_base.specs.Laws.{TimesDoNotFall}
 use Rattle.stream_base.specs.Model.Changes.{Moment, row_of}
 use Rattle.stream_base.specs.Model.Journal.{put_in_order}
+use Rattle.stream_base.specs.Model.Moments.{moment}
 use Rattle.stream_base.specs.Model.Windows.{Instance, ranks}
-use Rattle.count_shift.specs.Counting.{IsEvents, again_behind, count_of, moment, new_behind, numbers, ranks_behind, told_by_move, told_by_put, upper}
+use Rattle.count_shift.specs.Counting.{IsEvents, again_behind, count_of, new_behind, numbers, ranks_behind, told_by_move, told_by_put, upper}
 use Rattle.count_shift.specs.declared.events_window.EventsWindow.{EventsWindow}
 
 -- the row of the i-th instance

@@ -4,7 +4,7 @@ ghost use Rattle.stream_base.specs.declared.kept.Kept.{Kept};
 ghost use Rattle.stream_base.specs.Laws.{completions};
 ghost use Rattle.stream_base.specs.Model.Changes.{emissions, retractions};
 ghost use Rattle.stream_base.specs.Vectors.{Adds, room};
-ghost use Rattle.count_shift.specs.Lane.{Follows, HasMoreRoom, HasRoom, IsPaidFor, LosesFirst, TakesIn};
+ghost use Rattle.count_shift.specs.Lane.{FollowsTuples, HasMoreRoom, HasRoom, IsPaidFor, LosesFirst, TakesIn};
 ghost use Rattle.count_shift.specs.Counting.{IsCount, IsEvents, IsNextPosition, count_of, later, move_changes, next_filled, put_changes, upper};
 ghost use Rattle.count_shift.specs.Followed.{AtFollowed, FollowsTuple, OfEachFollowed, OfEachNext, WhereTaken, WhereTakenNext};
 
@@ -46,7 +46,7 @@ impl CountLane {
     pub fn new(alloc: Global) -> CountLane
         ensures empty { result.kept ≡ [] }
         ensures none_gone { result.gone ≡ 0 }
-        ensures follows { (count time : ℕ) → Follows count time [] result }
+        ensures follows { (count time : ℕ) → FollowsTuples count time [] result }
         ensures first { (position : ℕ) → IsNextPosition result.kept position }
     {
         CountLane {
@@ -97,7 +97,7 @@ impl CountLane {
         requires spare { put_changes (count_of (def.now).kind) self.old.kept x.time water
             ≤ room out.old }
         ensures rank { (kept : List Kept)
-            → Follows (count_of (def.now).kind) (min x.time water) kept self.old
+            → FollowsTuples (count_of (def.now).kind) (min x.time water) kept self.old
             → result.from_rank ≡ upper kept x.time }
         ensures stands { slice_get self.new.kept (result.from_rank - self.old.gone) ≡ Some x }
         ensures takes { TakesIn x self.old self.new }
@@ -149,7 +149,7 @@ impl CountLane {
     /// the final time where there are too few: a move of the watermark to before it completes none.
     pub fn next_filled(&self, count: u64, water: u64) -> u64
         requires { IsCount count }
-        ensures { (kept : List Kept) → Follows count water kept self.now
+        ensures { (kept : List Kept) → FollowsTuples count water kept self.now
             → result ≡ next_filled count kept water }
     {
         next_filled(&self.items, count, water)
@@ -194,8 +194,8 @@ impl CountLane {
     /// comes before that time any more, and nothing is asked of an earlier watermark.
     pub fn drop_settled(&mut self, count: u64, time: u64)
         requires { IsCount count }
-        ensures follows { (kept : List Kept) → Follows count time kept self.old
-            → Follows count time kept self.new }
+        ensures follows { (kept : List Kept) → FollowsTuples count time kept self.old
+            → FollowsTuples count time kept self.new }
         ensures loses { LosesFirst self.old self.new }
         ensures paid { IsPaidFor self.old self.new }
         ensures few { length self.new.kept < 2 * (later self.new.kept time + count) }

@@ -7,7 +7,7 @@ ghost use Rattle.stream_base.specs.Laws.{TimesDoNotFall, completions};
 ghost use Rattle.stream_base.specs.Model.Changes.{emissions, retractions};
 ghost use Rattle.stream_base.specs.Model.Windows.{standing_of};
 ghost use Rattle.count_shift.specs.Counting.{IsNextPosition, upper, upper_after};
-ghost use Rattle.count_shift.specs.Lane.{Follows, Laned};
+ghost use Rattle.count_shift.specs.Lane.{FollowsTuples, Laned};
 ghost use Rattle.count_shift.specs.Told.{WhereTupleComes, WhereWaterMoves, filled_by, move_told, put_told};
 
 /// A tuple is put behind all that have its time or an earlier one.
@@ -48,10 +48,10 @@ pub fn watermark_completes_the_next_instances()
 /// to each later one, and its ranks from there on are those among all, less those that left.
 pub fn tuples_that_stay_are_enough()
     ensures own { (count time : ℕ) (lane : Laned) → lane.gone ≡ 0 → TimesDoNotFall lane.kept
-        → Follows count time lane.kept lane }
+        → FollowsTuples count time lane.kept lane }
     ensures later { (count early late : ℕ) (kept : List Kept) (lane : Laned) → early ≤ late
-        → Follows count early kept lane → Follows count late kept lane }
+        → FollowsTuples count early kept lane → FollowsTuples count late kept lane }
     ensures ranks { (count from : ℕ) (kept : List Kept) (lane : Laned) (time : ℕ)
-        → Follows count from kept lane → from ≤ time
+        → FollowsTuples count from kept lane → from ≤ time
         → upper kept time ≡ lane.gone + upper lane.kept time }
 {}

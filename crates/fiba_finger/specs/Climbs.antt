@@ -57,6 +57,6 @@ pub record IsRaised {M : Type 0} (IsValue : M → Type 0) (empty : M) (op : M �
   pub front : below + 1 < grown.height → (grown.height ≡ root.height) × (left_edge (plain new) (grown.height - 1) grown.at ≡ left_edge (plain old) (root.height - 1) root.at)
 
 -- an item was put into a tree, be it in the place of another
-pub record IsPut {M : Type 0} (IsValue : M → Type 0) (empty : M) (op : M → M → M) (old new : Store M) (root grown : Root) (change : Change M) : Type 0 where
+pub record IsPutInTree {M : Type 0} (IsValue : M → Type 0) (empty : M) (op : M → M → M) (old new : Store M) (root grown : Root) (change : Change M) : Type 0 where
   pub taken : Option (Item M)
   pub changed : IsChanged IsValue empty op old new root grown true true change taken

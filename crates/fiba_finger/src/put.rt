@@ -5,7 +5,7 @@ ghost use Rattle.fiba_nodes.specs.Arena.{pairs_in};
 ghost use Rattle.fiba_nodes.specs.Stores.{full_nodes};
 ghost use Rattle.fiba_nodes.specs.Roots.{CanChange, IsTree};
 ghost use Rattle.fiba_nodes.specs.declared.change.Change.TheVariants.{Insert};
-ghost use Rattle.fiba_finger.specs.Climbs.{IsPut};
+ghost use Rattle.fiba_finger.specs.Climbs.{IsPutInTree};
 ghost use Rattle.fiba_finger.specs.Fingers.{IsFinger, IsFront, KeepsFront};
 
 use crate::ascending::climb;
@@ -39,7 +39,7 @@ pub fn put_near<M: Monoid, L>(
     requires rising { AreRising (pairs_in nodes.old root) }
     requires front { IsFront nodes.old root front }
     requires finger { IsFinger nodes.old root finger }
-    ensures put { IsPut M.is_value M.empty M.op nodes.old nodes.new root result.root
+    ensures put { IsPutInTree M.is_value M.empty M.op nodes.old nodes.new root result.root
         (Insert item) }
     ensures front { IsFront nodes.new result.root result.front }
     ensures finger { IsFinger nodes.new result.root result.finger }

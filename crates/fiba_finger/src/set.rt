@@ -5,7 +5,7 @@ ghost use Rattle.fiba_nodes.specs.Arena.{pairs_in};
 ghost use Rattle.fiba_nodes.specs.Stores.{full_nodes};
 ghost use Rattle.fiba_nodes.specs.Roots.{CanChange};
 ghost use Rattle.fiba_nodes.specs.declared.change.Change.TheVariants.{Set};
-ghost use Rattle.fiba_finger.specs.Climbs.{IsNear, IsPut};
+ghost use Rattle.fiba_finger.specs.Climbs.{IsNear, IsPutInTree};
 ghost use Rattle.fiba_finger.specs.Fingers.{IsFinger, IsFront};
 
 use crate::ascending::climb;
@@ -40,7 +40,7 @@ pub fn set_near<M: Monoid, L>(
     requires some { 1 ≤ root.height }
     requires front { IsFront nodes.old root front }
     requires finger { IsFinger nodes.old root finger }
-    ensures put { IsPut M.is_value M.empty M.op nodes.old nodes.new root root (Set item) }
+    ensures put { IsPutInTree M.is_value M.empty M.op nodes.old nodes.new root root (Set item) }
     ensures front { IsFront nodes.new root result.front }
     ensures finger { IsFinger nodes.new root result.finger }
     ensures full { full_nodes nodes.new ≡ full_nodes nodes.old }

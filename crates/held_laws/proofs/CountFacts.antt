@@ -14,8 +14,8 @@ use Rattle.window_laws.specs.After.{at_water}
 use Rattle.slice_lists.specs.Runs.{IsAligned}
 use Rattle.window_laws.specs.Settled.{without_first}
 use Rattle.stream_base.proofs.Filters.{filter_none}
+use Rattle.stream_base.specs.Places.{IsPlaceOf}
 use Rattle.slice_lists.specs.Touched.{slices_from}
-use Rattle.slice_lists.specs.Places.{IsPlaceOf}
 use Rattle.slice_lists.specs.Slices.{joined}
 use Rattle.agg_store.specs.Stored.{IsStore, Stored}
 use Rattle.slice_lists.proofs.LeaveFacts.{from_place, left_sliced, tuples_left}

@@ -19,6 +19,7 @@ use Rattle.stream_base.specs.Model.Slices.{is_settled, is_settled_in}
 use Rattle.stream_base.proofs.Distinct.{All_from_members}
 use Rattle.stream_base.proofs.Members.{Contains-insert_cases}
 use Rattle.stream_base.proofs.Rising.{Contains-insert_key, Contains-insert_key_cases, Contains-insert_key_self}
+use Rattle.stream_base.specs.Model.Moments.{moment}
 use Rattle.window_laws.specs.After.{at_water, with_mark, with_tuple}
 use Rattle.window_laws.specs.Positions.{AreKept}
 use Rattle.window_laws.proofs.KeptFacts.{put_is_kept}
@@ -28,7 +29,6 @@ use Rattle.window_laws.proofs.SettledFacts.{all_from, all_member, not_all}
 use Rattle.slice_lists.specs.Slices.{joined}
 use Rattle.agg_store.specs.Stored.{IsSliced, Stored, tuples_of}
 use Rattle.slice_lists.proofs.SliceEdits.{put_length}
-use Rattle.key_windows.specs.Calls.{moment}
 use Rattle.key_parts.specs.Held.{AreSameBehind, IsHeld}
 use Rattle.key_parts.specs.Moves.{Comes, Enters, IsMarkStep, IsPutStep, IsStored, Leaves, all_count_events}
 

@@ -18,6 +18,7 @@ use Rattle.stream_base.specs.Model.Windows.{first_time, last_time}
 use Rattle.stream_base.proofs.Distinct.{All_from_members}
 use Rattle.stream_base.proofs.Members.{filter_has, filter_members, flat_map_has, flat_map_members}
 use Rattle.stream_base.proofs.Rising.{Contains-cons_cases, Contains-head, Contains-tail, none_in_nil}
+use Rattle.stream_base.specs.Places.{IsPlaceOf}
 use Rattle.slice_lists.specs.Runs.{AreParted, IsAligned, IsRun}
 use Rattle.window_laws.specs.Positions.{AreKept}
 use Rattle.window_laws.specs.Settled.{MayLeave, without_first}
@@ -25,7 +26,6 @@ use Rattle.window_laws.proofs.EdgeFacts.{aligned}
 use Rattle.slice_lists.proofs.Order.{IsApart, IsNear, pieces_in_order, run_spans, runs_are_runs}
 use Rattle.window_laws.proofs.SettledFacts.{cut_behind_settled}
 use Rattle.slice_lists.specs.Touched.{marks_left}
-use Rattle.slice_lists.specs.Places.{IsPlaceOf}
 use Rattle.slice_lists.specs.Slices.{joined}
 use Rattle.agg_store.specs.Stored.{IsSliced, IsStore, Stored, tuples_of}
 use Rattle.slice_lists.proofs.LeaveFacts.{from_place}

@@ -11,9 +11,9 @@ use Rattle.stream_base.specs.Model.Changes.{Moment}
 use Rattle.stream_base.specs.Model.Slices.{runs_of}
 use Rattle.stream_base.specs.Model.Windows.{first_time, last_time}
 use Rattle.stream_base.proofs.ChangeFacts.{any_from_member}
+use Rattle.stream_base.specs.Places.{IsPlaceOf}
 use Rattle.slice_lists.specs.Runs.{AreInOrder}
 use Rattle.slice_lists.proofs.Order.{All-split, runs_behind}
-use Rattle.slice_lists.specs.Places.{IsPlaceOf}
 use Rattle.slice_lists.specs.Slices.{joined}
 use Rattle.agg_store.specs.Stored.{IsStore, Stored, tuples_of}
 use Rattle.slice_lists.proofs.LeaveFacts.{left_sliced}

@@ -9,8 +9,9 @@ use Rattle.stream_base.specs.declared.kind.Kind.{Kind}
 use Rattle.stream_base.specs.declared.kind.Kind.TheVariants.{Marks}
 use Rattle.stream_base.specs.declared.limits.TheConstants.{TIME_MAX}
 use Rattle.stream_base.specs.Model.Changes.{Moment}
+use Rattle.stream_base.specs.Model.Moments.{IsWater}
 use Rattle.agg_store.specs.Stored.{IsStore, Stored}
-use Rattle.key_windows.specs.Calls.{IsWater, LeadsOn}
+use Rattle.key_windows.specs.Calls.{LeadsOn}
 use Rattle.key_parts.specs.Held.{IsHeld}
 use Rattle.key_parts.specs.Moves.{AreLists, IsMarkStep, IsPurge, IsPutStep}
 

@@ -6,10 +6,10 @@ use Rattle.stream_base.specs.declared.change.Change.{Change}
 use Rattle.stream_base.specs.declared.kept.Kept.{Kept}
 use Rattle.stream_base.specs.declared.limits.TheConstants.{FINAL}
 use Rattle.stream_base.specs.Model.Changes.{Moment, emissions, retractions}
+use Rattle.stream_base.specs.Model.Moments.{IsWater}
 use Rattle.window_laws.specs.After.{at_water, with_mark, with_tuple}
 use Rattle.window_laws.specs.Settled.{without_first}
 use Rattle.agg_store.specs.Stored.{Stored}
-use Rattle.key_windows.specs.Calls.{IsWater}
 use Rattle.key_parts.specs.Calls.{LosesSettled, Prepares, Standing, StandsAt, TakesMark, TakesTuple, window_at, window_kind}
 use Rattle.key_parts.specs.Moves.{SettlesUpTo}
 use Rattle.key_parts.specs.Work.{CostsAtMost, most_moved, paid_work}

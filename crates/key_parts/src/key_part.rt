@@ -1,9 +1,10 @@
 //! What the part of one window in the state of a key promises.
 ghost use Rattle.std.specs.Prelude.{◌≡◌, ◌≤◌, ◌<◌, ◌*◌, [], ℕ, length};
 ghost use Rattle.stream_base.specs.Model.Changes.{Moment};
+ghost use Rattle.stream_base.specs.Model.Moments.{moment};
 ghost use Rattle.stream_base.specs.Vectors.{room};
 ghost use Rattle.agg_store.specs.Stored.{Stored};
-ghost use Rattle.key_windows.specs.Calls.{IsAccepted, moment};
+ghost use Rattle.key_windows.specs.Calls.{IsAccepted};
 ghost use Rattle.key_parts.specs.Calls.{MayCome, MayLeadTo, MayMove, MayTell, MissesNoMore, StandsAsBefore, StandsAt, StandsForSome, StandsOnUnder, window_kind};
 ghost use Rattle.key_parts.specs.Promises.{AddsByMark, AddsByMove, AddsByTuple, AheadAfterLoss, AheadMoved, AheadOfMark, AheadOfTuple, MarkComes, NoneCompleteBefore, PaysAhead, PaysBehind, PreparesEntry, PreparesMove, SettlesTo, SettlesToEach, SomeCompleteAt, StandsAfterLoss, StandsMoved, StandsWithMark, StandsWithTuple, StepsAtMost, TupleComes, WasAsked};
 ghost use Rattle.key_parts.specs.Work.{AddsAtMost, SpendsOn, added, change_work, fold_work};

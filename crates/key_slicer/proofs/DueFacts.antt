@@ -22,6 +22,7 @@ use Rattle.stream_base.specs.Model.Slices.{is_settled, is_settled_in, unsettled}
 use Rattle.stream_base.proofs.ChangeFacts.{changes_at_water}
 use Rattle.stream_base.proofs.Distinct.{All_from_members}
 use Rattle.stream_base.proofs.Members.{Contains-insert_cases, Contains-insert_new, Contains-insert_old, filter_has, filter_members, filter_same, flat_map_has, map_has, map_members}
+use Rattle.stream_base.specs.Model.Moments.{IsWater, moment}
 use Rattle.window_laws.specs.After.{at_water, with_tuple}
 use Rattle.window_laws.specs.Positions.{AreKept}
 use Rattle.window_laws.specs.Settled.{IsSettledAt}
@@ -35,7 +36,7 @@ use Rattle.agg_store.specs.Entered.{slices_near}
 use Rattle.agg_store.specs.Stored.{IsStore, Stored, tuples_of}
 use Rattle.slice_store.specs.Placing.{is_last, placed_in}
 use Rattle.slice_store.specs.declared.placed.Placed.TheVariants.{Appended}
-use Rattle.key_windows.specs.Calls.{IsWater, changes_by_move, moment}
+use Rattle.key_windows.specs.Calls.{changes_by_move}
 use Rattle.key_windows.specs.Dues.{IsExact}
 use Rattle.key_parts.specs.Calls.{Standing, StandsAt, window_at}
 use Rattle.key_parts.specs.Held.{IsHeld}

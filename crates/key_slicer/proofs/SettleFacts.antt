@@ -17,13 +17,13 @@ use Rattle.window_laws.specs.After.{at_water}
 use Rattle.window_laws.specs.Settled.{without_first}
 use Rattle.window_laws.proofs.SettledMoves.{move_keeps_settled}
 use Rattle.stream_base.proofs.Filters.{filter_all}
+use Rattle.stream_base.specs.Model.Moments.{IsWater, moment}
 use Rattle.slice_lists.proofs.Order.{runs_behind}
 use Rattle.slice_lists.specs.declared.slice.Slice.{Slice}
 use Rattle.slice_lists.specs.Touched.{slices_from}
 use Rattle.slice_lists.specs.Slices.{AreSlices, joined, slice_of}
 use Rattle.agg_store.specs.Stored.{Stored, tuples_of}
 use Rattle.slice_lists.proofs.SliceOrder.{IsApart, IsNear, first_below_last}
-use Rattle.key_windows.specs.Calls.{IsWater, moment}
 use Rattle.key_parts.specs.Calls.{Standing, window_at}
 use Rattle.key_parts.specs.Held.{IsHeld}
 use Rattle.key_parts.specs.Moves.{SettlesUpTo}

@@ -27,6 +27,7 @@ use Rattle.stream_base.specs.Model.Journal.{put_in_order}
 use Rattle.stream_base.proofs.Distinct.{All_from_members}
 use Rattle.stream_base.proofs.Members.{Contains-insert_cases}
 use Rattle.stream_base.proofs.Rising.{Contains-insert_key_cases, none_in_nil}
+use Rattle.stream_base.specs.Model.Moments.{IsWater, moment}
 use Rattle.window_laws.specs.After.{at_water, with_mark, with_tuple}
 use Rattle.slice_lists.specs.Runs.{IsAligned, parted_at}
 use Rattle.window_laws.specs.Settled.{without_first}
@@ -38,7 +39,7 @@ use Rattle.slice_lists.specs.Slices.{joined}
 use Rattle.agg_store.specs.Stored.{IsAsBefore, IsSliced, Stored, tuples_of}
 use Rattle.slice_lists.proofs.MarkFacts.{rising_more}
 use Rattle.slice_lists.proofs.SliceEdits.{put_length}
-use Rattle.key_windows.specs.Calls.{IsWater, changes_by_move, moment}
+use Rattle.key_windows.specs.Calls.{changes_by_move}
 use Rattle.key_parts.specs.Calls.{Standing, StandsAt, window_at}
 use Rattle.key_parts.specs.Held.{IsHeld}
 use Rattle.key_parts.specs.Moves.{AreLists, Comes, IsMarkStep, IsPurge, IsPutStep, SettlesUpTo, all_count_events}

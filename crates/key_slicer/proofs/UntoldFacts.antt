@@ -15,10 +15,11 @@ use Rattle.stream_base.specs.declared.limits.TheConstants.{TIME_MAX}
 use Rattle.stream_base.specs.Model.Changes.{Moment}
 use Rattle.stream_base.specs.Model.Journal.{put_in_order}
 use Rattle.stream_base.proofs.ChangeFacts.{no_changes, standing_at_rises}
+use Rattle.stream_base.specs.Model.Moments.{moment}
 use Rattle.window_laws.specs.After.{with_tuple}
 use Rattle.window_laws.proofs.AfterFacts.{tuple_at_stands}
 use Rattle.agg_store.specs.Stored.{Stored}
-use Rattle.key_windows.specs.Calls.{changes_by_put, moment}
+use Rattle.key_windows.specs.Calls.{changes_by_put}
 use Rattle.key_parts.specs.Calls.{Standing, window_at}
 use Rattle.key_parts.specs.Moves.{IsPutStep}
 use Rattle.key_slicer.specs.Parts.{AreStanding, EachPart}

@@ -2,11 +2,11 @@
 use Rattle.std.specs.Prelude.{◌≡◌, ◌≢◌, ◌≤◌, ◌<◌, ℕ, List, true}
 use Rattle.std.specs.List.{Contains}
 use Rattle.stream_base.specs.Limits.{Definitions}
+use Rattle.stream_base.specs.Model.Moments.{IsWater, moment}
 use Rattle.stream_base.specs.declared.kept.Kept.{Kept}
 use Rattle.stream_base.specs.declared.limits.TheConstants.{FINAL}
 use Rattle.stream_base.specs.Model.Slices.{is_settled, unsettled}
 use Rattle.agg_store.specs.Stored.{tuples_of}
-use Rattle.key_windows.specs.Calls.{IsWater, moment}
 use Rattle.key_parts.specs.Calls.{Standing}
 use Rattle.key_parts.specs.Promises.{BeingAhead}
 use Rattle.held_laws.specs.Settling.{NoneSettled}

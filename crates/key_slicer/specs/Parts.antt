@@ -6,9 +6,9 @@ use Rattle.stream_base.specs.declared.change.Change.{Change}
 use Rattle.stream_base.specs.declared.def.Def.{Def}
 use Rattle.stream_base.specs.declared.kept.Kept.{Kept}
 use Rattle.stream_base.specs.Model.Changes.{Moment, emissions, retractions}
+use Rattle.stream_base.specs.Model.Moments.{IsWater}
 use Rattle.slice_lists.specs.Touched.{marks_left}
 use Rattle.agg_store.specs.Stored.{IsStore, Stored}
-use Rattle.key_windows.specs.Calls.{IsWater}
 use Rattle.key_parts.specs.Calls.{Standing}
 use Rattle.key_parts.specs.Held.{IsHeld}
 use Rattle.key_parts.specs.Moves.{AreLists, IsMarkStep, IsPurge, IsPutStep}

@@ -7,10 +7,11 @@ use Rattle.stream_base.specs.declared.change.Change.{Change}
 use Rattle.stream_base.specs.declared.kept.Kept.{Kept}
 use Rattle.stream_base.specs.declared.limits.TheConstants.{TIME_MAX}
 use Rattle.stream_base.specs.Model.Changes.{Moment}
+use Rattle.stream_base.specs.Model.Moments.{IsWater, moment}
 use Rattle.stream_base.specs.Model.Windows.{first_time}
 use Rattle.partials.specs.Apart.{IsReachOver}
 use Rattle.agg_store.specs.Stored.{IsSliced, IsStore, Stored, tuples_of}
-use Rattle.key_windows.specs.Calls.{Call, IsWater, moment}
+use Rattle.key_windows.specs.Calls.{Call}
 use Rattle.key_windows.specs.Calls.Call.{Put, Mark, Move}
 use Rattle.key_parts.specs.Calls.{Standing}
 use Rattle.key_parts.specs.Held.{IsHeld}

@@ -3,10 +3,10 @@ ghost use Rattle.std.specs.Prelude.{◌≡◌, ◌≤◌, ◌+◌, ◌-◌, [], 
 ghost use Rattle.std.specs.List.{list_all};
 ghost use Rattle.stream_base.specs.Kinds.{is_events, is_timed};
 ghost use Rattle.stream_base.specs.Model.Journal.{put_in_order};
+ghost use Rattle.stream_base.specs.Model.Moments.{IsWater};
 ghost use Rattle.partials.specs.Apart.{IsReachOver};
 ghost use Rattle.agg_store.specs.Stored.{tuples_of};
 ghost use Rattle.slice_lists.specs.Slices.{joined};
-ghost use Rattle.key_windows.specs.Calls.{IsWater};
 ghost use Rattle.key_parts.specs.Moves.{Comes, all_count_events};
 ghost use Rattle.key_slicer.specs.States.{IsFirstTime, MayEnter, needs_no_part};
 ghost use Rattle.key_slicer.specs.Work.{enter_work};

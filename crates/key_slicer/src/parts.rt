@@ -1,9 +1,9 @@
 //! The parts of a key's windows.
 ghost use Rattle.std.specs.Prelude.{◌≡◌, ◌≤◌, ◌+◌, [], ℕ, length, All, IfOk};
 ghost use Rattle.stream_base.specs.Limits.{AreWithinLimits};
+ghost use Rattle.stream_base.specs.Model.Moments.{moment};
 ghost use Rattle.stream_base.specs.declared.limits.TheConstants.{WINDOWS_MAX};
 ghost use Rattle.agg_store.specs.Stored.{Stored};
-ghost use Rattle.key_windows.specs.Calls.{moment};
 ghost use Rattle.key_slicer.specs.Parts.{AllAhead, AreStanding, all_credit};
 
 use aggregates::Partial;

@@ -3,7 +3,7 @@ ghost use Rattle.std.specs.Prelude.{◌≡◌, ◌≤◌, ℕ, false};
 ghost use Rattle.std.specs.List.{list_all};
 ghost use Rattle.stream_base.specs.declared.limits.TheConstants.{FINAL};
 ghost use Rattle.stream_base.specs.Kinds.{is_events};
-ghost use Rattle.key_windows.specs.Calls.{IsWater};
+ghost use Rattle.stream_base.specs.Model.Moments.{IsWater};
 ghost use Rattle.key_slicer.specs.States.{IsFirstTime};
 ghost use Rattle.key_slicer.specs.Keys.{AreSettledAt, FitsSomeKey, NoneSettledBefore, SomeSettledAcross, SomeSettledAt};
 

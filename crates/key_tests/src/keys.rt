@@ -1,6 +1,5 @@
 //! The plain engine, by its trait.
 ghost use Rattle.std.specs.Prelude.{◌≡◌, ◌≤◌, ◌<◌, ◌+◌, ℕ, List, IfOk, OnOk};
-ghost use Rattle.key_windows.specs.Calls.{IsWater};
 ghost use Rattle.stream_base.specs.declared.kept.Kept.{Kept};
 ghost use Rattle.stream_base.specs.declared.limits.TheConstants.{JOURNAL_MAX, TIME_MAX};
 

@@ -1,13 +1,14 @@
 -- The calls that make room for one to come, what the coming call is to change, and what the calls of each kind ask and promise alike.
-use Rattle.std.specs.Prelude.{◌≡◌, ◌≢◌, ◌≤◌, ◌+◌, ◌++◌, ◌⊎◌, ℕ, ℤ, List, [], Result, IfOk, Vec, vec_capacity}
+use Rattle.std.specs.Prelude.{◌≡◌, ◌≢◌, ◌≤◌, ◌+◌, ◌++◌, ◌⊎◌, ℕ, List, [], Result, IfOk, Vec, vec_capacity}
 use Rattle.std.specs.BTreeSet.{insert_key}
 use Rattle.std.specs.Ordering.{nat_cmp}
 use Rattle.stream_base.specs.Limits.{Definitions}
 use Rattle.stream_base.specs.declared.change.Change.{Change}
 use Rattle.stream_base.specs.declared.kept.Kept.{Kept}
-use Rattle.stream_base.specs.declared.limits.TheConstants.{FINAL, TIME_MAX}
+use Rattle.stream_base.specs.declared.limits.TheConstants.{TIME_MAX}
 use Rattle.stream_base.specs.Model.Changes.{Moment, changes_between}
 use Rattle.stream_base.specs.Model.Journal.{put_in_order}
+use Rattle.stream_base.specs.Model.Moments.{IsWater, moment}
 use Rattle.stream_base.specs.Model.Slices.{runs_of, unsettled}
 use Rattle.stream_base.specs.Vectors.{room}
 
@@ -16,18 +17,6 @@ pub data Call : Type 0 where
   Put : (time water : ℕ) → Call
   Mark : (time water : ℕ) → Call
   Move : (old new : ℕ) → Call
-
--- a watermark: a time, or the final one
-abbrev pub IsWater : ℕ → Type 0
-IsWater water = (water ≤ TIME_MAX) ⊎ (water ≡ FINAL)
-
--- a key's lists under a watermark
-abbrev pub moment : List Kept → List ℕ → ℕ → Moment
-moment kept marks water = record { kept = kept; marks = marks; water = water }
-
--- a tuple at a position
-abbrev pub kept_at : ℕ → ℕ → ℤ → Kept
-kept_at position time value = record { position = position; time = time; value = value }
 
 -- the changes of a key by one tuple more
 abbrev pub changes_by_put : Definitions → List ℕ → List Kept → List ℕ → ℕ → Kept → List Change

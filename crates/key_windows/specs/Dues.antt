@@ -3,8 +3,9 @@ use Rattle.std.specs.Prelude.{◌≡◌, ◌≤◌, ◌<◌, ℕ, List, []}
 use Rattle.stream_base.specs.Limits.{Definitions}
 use Rattle.stream_base.specs.declared.kept.Kept.{Kept}
 use Rattle.stream_base.specs.Model.Journal.{put_in_order}
+use Rattle.stream_base.specs.Model.Moments.{IsWater}
 use Rattle.stream_base.specs.declared.limits.TheConstants.{FINAL}
-use Rattle.key_windows.specs.Calls.{BringsMore, IsWater, changes_by_move}
+use Rattle.key_windows.specs.Calls.{BringsMore, changes_by_move}
 
 -- up to a due number, a move of the watermark changes nothing of a key, and its state stands there as it is
 pub record IsQuiet {K : Type 0} (fits : Definitions → List Kept → List ℕ → ℕ → K → Type 0) (d : Definitions) (key : List ℕ) (kept : List Kept) (marks : List ℕ) (water : ℕ) (state : K) (due : ℕ) : Type 0 where

@@ -8,7 +8,8 @@ use Rattle.stream_base.specs.declared.kept.Kept.{Kept}
 use Rattle.stream_base.specs.declared.limits.TheConstants.{FINAL}
 use Rattle.stream_base.specs.Model.Changes.{Moment}
 use Rattle.stream_base.specs.Model.Journal.{put_in_order}
-use Rattle.key_windows.specs.Calls.{BringsMore, Fitting, IsWater, TakesIn, changes_by_move, moment, slices_at}
+use Rattle.stream_base.specs.Model.Moments.{IsWater, moment}
+use Rattle.key_windows.specs.Calls.{BringsMore, Fitting, TakesIn, changes_by_move, slices_at}
 use Rattle.key_windows.specs.Dues.{IsExact}
 
 -- a key's lists under a watermark with a tuple more

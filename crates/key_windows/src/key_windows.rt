@@ -1,8 +1,9 @@
 //! What an engine for the windows of one key promises.
 ghost use Rattle.std.specs.Prelude.{◌≡◌, ◌≤◌, ◌<◌, ◌+◌, [], ℕ, List, true, IfOk, vec_len};
+ghost use Rattle.stream_base.specs.Model.Moments.{IsWater};
 ghost use Rattle.stream_base.specs.declared.kept.Kept.{Kept};
 ghost use Rattle.stream_base.specs.declared.limits.TheConstants.{JOURNAL_MAX};
-ghost use Rattle.key_windows.specs.Calls.{IsWater, MakesRoom, MayReserve, MayTakeIn, StandsUnder, StaysAhead};
+ghost use Rattle.key_windows.specs.Calls.{MakesRoom, MayReserve, MayTakeIn, StandsUnder, StaysAhead};
 ghost use Rattle.key_windows.specs.Calls.Call.{Mark, Move, Put};
 ghost use Rattle.key_windows.specs.Dues.{LeavesDue, LeavesExact};
 ghost use Rattle.key_windows.specs.Promises.{CountsSlices, IsExactlyDue, MarkIsBounded, MarkWithin, MoveIsBounded, MovePaysAhead, MovePaysBehind, NothingDueBefore, PutIsBounded, PutWithin, SomethingDueAt, TakesInMark, TakesInMove, TakesInTuple, WaitsBefore};

@@ -4,3 +4,4 @@ pub mod MemFile
 pub mod NameLogs
 pub mod ReadLogs
 pub mod FileLogs
+pub mod Whole

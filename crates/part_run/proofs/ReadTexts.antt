@@ -1,5 +1,5 @@
 -- Reports that are read one after another.
-use Rattle.std.proofs.Common.{◌≡◌, ◌∙◌, ◌<◌, ◌≤◌, ◌+◌, ◌++◌, ◌⊎◌, ℕ, List, [], ◌∷◌, length, take, get_or, Option, Some, None, Result, Ok, Err, ap, sym, subst, refl, arith, inl, inr, ⊎_elim, append-nil, length-append}
+use Rattle.std.proofs.Common.{◌≡◌, ◌∙◌, ◌<◌, ◌≤◌, ◌+◌, ◌++◌, ◌⊎◌, ℕ, List, [], ◌∷◌, length, take, get_or, Some, None, Result, Ok, Err, ap, sym, subst, refl, arith, ⊎_elim, append-nil, length-append}
 use Rattle.std.specs.Prelude.{IfOk, IfErr, Vec}
 use Rattle.std.specs.declared.alloc.Global.{Global}
 use Rattle.std.proofs.lemmas.Bool.{cases_lt}
@@ -10,9 +10,10 @@ use Rattle.source_feed.specs.declared.whole_fault.WholeFault.{WholeFault}
 use Rattle.source_feed.specs.declared.whole_fault.WholeFault.TheVariants.{Read as WholeRead, TooLong as WholeTooLong, NoMemory as WholeMemory}
 use Rattle.emission_text.specs.declared.fault.Fault.{Fault}
 use Rattle.emission_text.specs.declared.fault.Fault.TheVariants as stop
+use Rattle.outside.specs.Whole.{all_read}
 use Rattle.run_inputs.specs.Causes.{HasFailedRead}
 use Rattle.run_inputs.specs.Judging.{IsReportRead}
-use Rattle.run_inputs.specs.Outside.{AreOver, Asks, CameBack, IsOver, Opens, OpensInOrder, Telling, WasReadWhole, all_read, came_at, opens_of}
+use Rattle.run_inputs.specs.Outside.{AreOver, Asks, CameBack, IsOver, Opens, OpensInOrder, Telling, WasReadWhole, came_at, opens_of}
 use Rattle.run_inputs.proofs.Opened.{more_in_order}
 use Rattle.run_inputs.proofs.Results.{if_ok}
 use Rattle.run_inputs.proofs.WholeFiles.{IsReadSo, report_read}

@@ -5,20 +5,7 @@ use Rattle.stream_base.specs.Limits.{Definitions}
 use Rattle.stream_base.specs.declared.def.Def.{Def}
 use Rattle.stream_base.specs.declared.kind.Kind.{Kind}
 use Rattle.stream_base.specs.declared.kind.Kind.TheVariants.{Tumbling, Sliding, Session, Marks, Events}
-use Rattle.stream_base.specs.declared.func.Func.{Func}
-use Rattle.stream_base.specs.declared.func.Func.TheVariants.{Count, Sum, Min, Max, Mean, First, Last, Rises, Trace}
-
--- the word of a function
-abbrev pub func_word : Func → List ℕ
-func_word Count = codes "count"
-func_word Sum = codes "sum"
-func_word Min = codes "min"
-func_word Max = codes "max"
-func_word Mean = codes "mean"
-func_word First = codes "first"
-func_word Last = codes "last"
-func_word Rises = codes "rises"
-func_word Trace = codes "trace"
+use Rattle.window_defs.specs.Windows.{func_word}
 
 -- pieces of text, one behind the other
 abbrev pub pieces : List (List ℕ) → List ℕ

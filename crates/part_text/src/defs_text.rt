@@ -2,8 +2,9 @@
 ghost use Rattle.std.specs.Prelude.{◌≡◌, ◌++◌, Ok, IfOk, IsErrOf, OnOk, IsTrue, ◌↔◌};
 ghost use Rattle.std.specs.List.{flat_map};
 ghost use Rattle.window_defs.specs.Reading.{reading_of};
+ghost use Rattle.window_defs.specs.Windows.{func_word};
 ghost use Rattle.part_laws.specs.Joined.{part_definitions};
-ghost use Rattle.part_text.specs.DefinitionsText.{HasNumbers, definitions_text, func_word, kind_text, numbers_text, window_text};
+ghost use Rattle.part_text.specs.DefinitionsText.{HasNumbers, definitions_text, kind_text, numbers_text, window_text};
 
 use crate::defs_text_fault::DefsTextFault;
 use itoa::Buffer;

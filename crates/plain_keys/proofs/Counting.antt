@@ -19,7 +19,7 @@ use Rattle.stream_base.proofs.EventOrder.{put_in_order_cons}
 use Rattle.stream_base.proofs.Members.{filter_members, flat_map_has, map_members}
 use Rattle.stream_base.proofs.Pieces.{pieces_joined}
 use Rattle.stream_base.proofs.Rising.{none_in_nil, Contains-cons_cases, Contains-head, Contains-tail}
-use Rattle.key_windows.specs.Calls.{moment}
+use Rattle.stream_base.specs.Model.Moments.{moment}
 use Rattle.plain_keys.proofs.Standins.{come_mapped, gone_mapped, mapped, standing_mapped}
 
 -- ---- what an instance selects is kept

@@ -18,6 +18,7 @@ use Rattle.stream_base.specs.Model.Journal.{put_in_order}
 use Rattle.stream_base.proofs.ChangeFacts.{changes_at_water, no_changes, standing_at_rises}
 use Rattle.stream_base.proofs.EventOrder.{All_put, event_order_total, put_in_event_order, put_in_order_cons, times_do_not_fall}
 use Rattle.stream_base.proofs.Rising.{none_in_nil, sorted_insert_key, sorted_nil}
+use Rattle.stream_base.specs.Model.Moments.{IsWater, kept_at, moment}
 use Rattle.window_laws.proofs.KeptFacts.{put_distinct}
 use Rattle.stream_base.specs.declared.kind.Kind.{Kind}
 use Rattle.stream_base.specs.declared.kind.Kind.TheVariants.{Tumbling, Sliding, Session, Marks, Events}
@@ -26,9 +27,9 @@ use Rattle.std.proofs.Math.Nat.{zero-div}
 use Rattle.plain_windows.specs.Changing.{IsDue}
 use Rattle.plain_windows.specs.Extents.{AreKeyLists}
 use Rattle.plain_windows.proofs.Ahead.{completes_across, nothing_ahead, something_due}
-use Rattle.key_windows.specs.Calls.{IsWater, changes_by_mark, changes_by_move, changes_by_put, kept_at, moment}
+use Rattle.key_windows.specs.Calls.{changes_by_mark, changes_by_move, changes_by_put}
 use Rattle.key_windows.specs.Dues.{IsExact}
-use Rattle.plain_keys.specs.States.{Fits, IsMarked, IsOfSame, IsPut, IsReadyToMove, IsState, State, stand_in}
+use Rattle.plain_keys.specs.States.{Fits, IsMarked, IsOfSame, HasOneMore, IsReadyToMove, IsState, State, stand_in}
 use Rattle.plain_keys.proofs.After.{stands_after_mark, stands_after_put}
 use Rattle.plain_keys.proofs.Counting.{as_many, IsNew}
 
@@ -102,7 +103,7 @@ due_same windows k k' m m' water e e' ks ms es h =
     (subst (λ (l : List ℕ). IsDue windows k l water e') (sym ms) (subst (λ (n : ℕ). IsDue windows k m water n) (sym es) h))
 
 -- with a tuple more in its lists, where the due number follows
-pub fits_put : (d : Definitions) (kept : List Kept) (marks : List ℕ) (water time : ℕ) (s mid new : State) (x y : Kept) → Fits d kept marks water s → IsPut s x mid → IsOfSame mid new → x ≡ y → x.time ≡ time
+pub fits_put : (d : Definitions) (kept : List Kept) (marks : List ℕ) (water time : ℕ) (s mid new : State) (x y : Kept) → Fits d kept marks water s → HasOneMore s x mid → IsOfSame mid new → x ≡ y → x.time ≡ time
     → ((k : List Kept) (z : Kept) → z.time ≡ time → mid.kept ≡ put_in_order k z → IsDue d.windows k mid.marks water mid.due → IsDue d.windows new.kept new.marks water new.due)
     → Fits d (put_in_order kept y) marks water new
 fits_put d kept marks water time s mid new x y fits put same is at ahead =

@@ -12,7 +12,7 @@ use Rattle.std.proofs.lemmas.List.Sums.{position_or_len_is}
 use Rattle.stream_base.specs.declared.kept.Kept.{Kept}
 use Rattle.stream_base.specs.Laws.{TimesDoNotFall}
 use Rattle.stream_base.specs.Model.Journal.{put_in_order}
-use Rattle.plain_windows.specs.Places.{IsPlaceOf}
+use Rattle.stream_base.specs.Places.{IsPlaceOf}
 
 -- behind the tuples of its time and of earlier ones
 pub place_is : (kept : List Kept) (time place : ℕ) (d : Kept) → IsPlaceOf (λ x. x.time) kept (time + 1) place → position_or_len (λ (y : Kept). nat_lt time y.time) kept ≡ place

@@ -11,10 +11,11 @@ use Rattle.stream_base.specs.Laws.{TimesDoNotFall}
 use Rattle.stream_base.specs.Limits.{Definitions}
 use Rattle.stream_base.specs.Model.Changes.{changes_between}
 use Rattle.stream_base.specs.Model.Journal.{put_in_order}
+use Rattle.stream_base.specs.Model.Moments.{kept_at, moment}
 use Rattle.window_laws.specs.Positions.{HaveDistinctPositions}
 use Rattle.plain_windows.specs.Changing.{IsDue}
 use Rattle.plain_windows.specs.Extents.{AreKeyLists}
-use Rattle.key_windows.specs.Calls.{Call, changes_by_mark, changes_by_move, changes_by_put, kept_at, moment}
+use Rattle.key_windows.specs.Calls.{Call, changes_by_mark, changes_by_move, changes_by_put}
 use Rattle.key_windows.specs.Calls.Call.{Put, Mark, Move}
 
 -- what contracts see: the key and its lists, the position that the next tuple has at least, the first watermark at which something becomes complete, what was promised to the call to come, and the drafts of its lists and room for one more in each
@@ -131,7 +132,7 @@ pub record MayMark (marks : List ℕ) (mark : ℕ) : Type 0 where
   pub within : mark ≤ TIME_MAX
 
 -- one tuple more is kept
-pub record IsPut (old : State) (x : Kept) (new : State) : Type 0 where
+pub record HasOneMore (old : State) (x : Kept) (new : State) : Type 0 where
   pub key : new.key ≡ old.key
   pub kept : new.kept ≡ put_in_order old.kept x
   pub marks : new.marks ≡ old.marks

@@ -3,7 +3,7 @@ ghost use Rattle.std.specs.Prelude.{◌≡◌, ◌<◌, ◌+◌, ◌==◌, ◌&&
 ghost use Rattle.std.specs.BTreeSet.{insert_key};
 ghost use Rattle.std.specs.Ordering.{nat_cmp};
 ghost use Rattle.stream_base.specs.Model.Journal.{put_in_order};
-ghost use Rattle.plain_windows.specs.Places.{IsPlaceOf};
+ghost use Rattle.stream_base.specs.Places.{IsPlaceOf};
 ghost use Rattle.plain_keys.specs.States.{HasPlace, MayMark, stand_in};
 
 use plain_windows::{marks_before, tuples_before};

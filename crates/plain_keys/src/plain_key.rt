@@ -1,16 +1,15 @@
 //! The plain engine: a key's lists, and each change from them anew.
-ghost use Rattle.std.specs.Prelude.{◌≡◌, ◌≤◌, ◌<◌, ◌-◌, ◌++◌, ℕ, List, length, IfOk, OnOk, vec_len, vec_capacity};
+ghost use Rattle.std.specs.Prelude.{◌≡◌, ◌≤◌, ◌<◌, ◌-◌, ◌++◌, ℕ, List, length, OnOk, vec_len, vec_capacity};
 ghost use Rattle.std.specs.BTreeSet.{insert_key};
-ghost use Rattle.std.specs.List.{enumerate_from, flat_map};
 ghost use Rattle.std.specs.Ordering.{nat_cmp};
 ghost use Rattle.stream_base.specs.declared.limits.TheConstants.{JOURNAL_MAX};
-ghost use Rattle.stream_base.specs.Laws.{completions};
-ghost use Rattle.stream_base.specs.Model.Changes.{changes_between, rows_at};
+ghost use Rattle.stream_base.specs.Model.Changes.{rows_at};
 ghost use Rattle.stream_base.specs.Model.Journal.{put_in_order};
+ghost use Rattle.stream_base.specs.Model.Moments.{moment};
 ghost use Rattle.stream_base.specs.Vectors.{Appends, room};
 ghost use Rattle.plain_windows.specs.Changing.{IsDue};
-ghost use Rattle.key_windows.specs.Calls.{IsAccepted, IsEntryAt, kept_at, moment};
-ghost use Rattle.plain_keys.specs.States.{CatchesUp, Fits, HasDrawnMark, HasDrawnTuple, IsMarked, IsOfSame, IsPut, IsReady, IsState, MayMark, MayPut, Prepares, by_one_mark, by_tuple, most_steps, stand_in};
+ghost use Rattle.key_windows.specs.Calls.{IsAccepted, IsEntryAt};
+ghost use Rattle.plain_keys.specs.States.{CatchesUp, Fits, HasDrawnMark, HasDrawnTuple, IsMarked, IsOfSame, HasOneMore, IsReady, IsState, MayMark, MayPut, Prepares, by_one_mark, by_tuple, most_steps, stand_in};
 
 use crate::drafts::{add_mark, draw_mark, draw_put, fill_in, put_in};
 use agg_laws::Steps;
@@ -202,7 +201,7 @@ impl PlainKey {
     fn put_ahead(&mut self, x: Kept)
         requires next { MayPut self.old x }
         requires room { 1 ≤ self.old.kept_spare }
-        ensures { IsPut self.old x self.new }
+        ensures { HasOneMore self.old x self.new }
     {
         put_in(&mut self.kept, x);
         self.next = x.position + 1;
@@ -221,7 +220,7 @@ impl PlainKey {
         requires drawn { self.old.next_kept ≡ put_in_order self.old.kept (stand_in x.time) }
         requires spare { length (by_tuple (defs.now).windows self.old.key self.old water x)
             ≤ room out.old }
-        ensures put { IsPut self.old x self.new }
+        ensures put { HasOneMore self.old x self.new }
         ensures changes { Appends (by_tuple (defs.now).windows self.old.key self.old water x)
             out.old out.new }
     {

@@ -18,7 +18,7 @@ use Rattle.stream_base.specs.Model.Windows.{Instance, interval, is_within, withi
 use Rattle.stream_base.proofs.Distinct.{instances_rise, lt_from_less}
 use Rattle.stream_base.proofs.Members.{filter_members, filter_has}
 use Rattle.stream_base.proofs.Rising.{none_in_nil, Contains-head, Contains-at_head, Contains-tail, Contains-cons_cases, Contains-from_rising, Contains-rising, below_tail, nat_rising_is_sorted}
-use Rattle.plain_windows.specs.Places.{IsPlaceOf}
+use Rattle.stream_base.specs.Places.{IsPlaceOf}
 use Rattle.plain_windows.specs.Runs.{edges_of}
 use Rattle.plain_windows.proofs.Found.{find_first, find_none, find_agree}
 use Rattle.plain_windows.proofs.PlaceFacts.{some_tuple, first_behind, is_behind, marks_do_not_fall}

@@ -8,7 +8,7 @@ use Rattle.std.proofs.lemmas.Bool.Decides.{nat_tests}
 use Rattle.std.proofs.lemmas.List.{drop_all, drop_more, get_or_default}
 use Rattle.std.proofs.lemmas.List.Folds.{list_any_at, list_any_none}
 use Rattle.stream_base.specs.Model.Windows.{glued, pieces_of}
-use Rattle.plain_windows.specs.Places.{IsPlaceOf}
+use Rattle.stream_base.specs.Places.{IsPlaceOf}
 use Rattle.plain_windows.proofs.PieceFacts.{HasHead, pieces_head}
 use Rattle.plain_windows.proofs.PlaceFacts.{marks_do_not_fall}
 

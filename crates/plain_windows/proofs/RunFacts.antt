@@ -7,7 +7,7 @@ use Rattle.std.proofs.lemmas.List.{drop_more, drop_all, map-append}
 use Rattle.std.proofs.lemmas.List.Elements.{All-cons, All-nil, All-head, All-tail, All-map, All-weaker, All-contains}
 use Rattle.stream_base.specs.declared.kept.Kept.{Kept}
 use Rattle.stream_base.specs.Model.Windows.{glued, first_time, last_time, session, sessions}
-use Rattle.plain_windows.specs.Places.{IsPlaceOf}
+use Rattle.stream_base.specs.Places.{IsPlaceOf}
 use Rattle.plain_windows.specs.Runs.{is_apart, runs_of}
 use Rattle.plain_windows.proofs.Found.{find_behind, find_at, find_here, find_none}
 use Rattle.plain_windows.proofs.PlaceFacts.{all_before, all_in_front, all_where_none_behind}

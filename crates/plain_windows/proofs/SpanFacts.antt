@@ -15,8 +15,8 @@ use Rattle.stream_base.specs.Model.Windows.{Instance, interval, starts_of, spans
 use Rattle.stream_base.proofs.Distinct.{instances_rise}
 use Rattle.stream_base.proofs.Members.{Contains-insert_new, Contains-insert_old, map_members, map_has}
 use Rattle.stream_base.proofs.Spans.{starts_holding_members, starts_of_members, starts_of_has, starts_of_put_cases}
+use Rattle.stream_base.specs.Places.{IsPlaceOf}
 use Rattle.plain_windows.specs.Changing.{HasBound}
-use Rattle.plain_windows.specs.Places.{IsPlaceOf}
 use Rattle.plain_windows.proofs.Found.{find_first, find_none, find_agree}
 use Rattle.plain_windows.proofs.PlaceFacts.{first_behind}
 use Rattle.plain_windows.proofs.RankFacts.{times_mono, quotient_times, above_quotient}

@@ -1,5 +1,4 @@
 pub mod Extents
-pub mod Places
 pub mod Runs
 pub mod Rows
 pub mod Walks

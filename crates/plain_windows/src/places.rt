@@ -1,7 +1,7 @@
 //! Places in lists that are sorted by time, found by halves.
 ghost use Rattle.std.specs.List.Sorted.{IsStrictlyIncreasing};
 ghost use Rattle.stream_base.specs.Laws.{TimesDoNotFall};
-ghost use Rattle.plain_windows.specs.Places.{IsPlaceOf};
+ghost use Rattle.stream_base.specs.Places.{IsPlaceOf};
 
 use stream_base::Kept;
 

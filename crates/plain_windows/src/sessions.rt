@@ -1,12 +1,11 @@
 //! The instances of a session window: runs of tuples whose neighbours lie less than the gap apart.
-ghost use Rattle.std.specs.Prelude.{◌≡◌, ◌≤◌, ◌<◌, ◌-◌, ◌∷◌, ◌++◌, ℕ, [], IfSome, length, take, drop, nat_le, nat_lt};
+ghost use Rattle.std.specs.Prelude.{◌≡◌, ◌≤◌, ◌<◌, ◌-◌, ◌∷◌, ◌++◌, ℕ, length, take, drop, nat_le, nat_lt};
 ghost use Rattle.std.specs.List.{find};
-ghost use Rattle.std.specs.Option.{option_map};
 ghost use Rattle.stream_base.specs.declared.kind.Kind.TheVariants.{Session};
 ghost use Rattle.stream_base.specs.Kinds.{IsKindWithin};
 ghost use Rattle.stream_base.specs.Model.Windows.{session, sessions};
+ghost use Rattle.stream_base.specs.Places.{IsPlaceOf};
 ghost use Rattle.plain_windows.specs.Extents.{IsExtentIn, Tells, instance_in};
-ghost use Rattle.plain_windows.specs.Places.{IsPlaceOf};
 ghost use Rattle.plain_windows.specs.Runs.{IsFirstRun, is_apart, runs_of};
 
 use crate::extent::Extent;

@@ -20,11 +20,11 @@ pub struct ToldText {
 
 impl Model for ToldText {
     ghost use Rattle.row_laws.specs.Told.{Told};
-    ghost use Rattle.report_rows.specs.Places.{place_of};
+    ghost use Rattle.report_rows.specs.Places.{where_of};
 
     ghost Value = { Told };
 
-    ghost view = { λ t. record { place = place_of t.place; shards = (t.shards).items } };
+    ghost view = { λ t. record { place = where_of t.place; shards = (t.shards).items } };
 }
 
 impl ToldText {

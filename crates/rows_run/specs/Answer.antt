@@ -2,6 +2,7 @@
 -- `taken` says which bytes the sink took so far, and `faults` how many writes failed.
 use Rattle.std.specs.Prelude.{◌≡◌, ◌<◌, ◌++◌, ◌⊎◌, ℕ, true, List}
 use Rattle.outside.specs.Outside.{Came, Reads, back, refused}
+use Rattle.outside.specs.Whole.{all_read}
 use Rattle.row_laws.specs.Told.{ToldShard, read_text, tells, refused as refuses}
 use Rattle.row_text.specs.Lines.{rows_text}
 use Rattle.rows_run.specs.Sending.{Appends, Fails}
@@ -13,10 +14,6 @@ use Rattle.rows_run.specs.declared.fault.RowsFault.{RowsFault}
 use Rattle.rows_run.specs.declared.fault.RowsFault.TheVariants as cause
 use Rattle.rows_run.specs.declared.status.Status.{Status}
 use Rattle.rows_run.specs.declared.status.Status.TheVariants.{Done, WriteFault}
-
--- all that the source of this open gave: these bytes up to its end; and no read of it failed
-abbrev pub all_read : ℕ → List ℕ → Reads
-all_read place bytes = record { place = place; given = bytes; ended = true; faults = 0 }
 
 -- the report was read whole, and this is what it tells of its shards
 pub record IsToldBy (place : ℕ) (came : Came) (shards : List ToldShard) : Type 0 where

@@ -1,7 +1,8 @@
 //! A report, read piece by piece.
 ghost use Rattle.std.specs.Prelude.{◌≡◌, ◌++◌, ◌∷◌, [], length, IfOk, IfErr};
+ghost use Rattle.outside.specs.Whole.{all_read};
 ghost use Rattle.row_laws.specs.Told.{read_text, tells};
-ghost use Rattle.rows_run.specs.Answer.{IsRefusedAtEnd, IsToldBy, StopsAt, StopsReading, all_read, fault_of};
+ghost use Rattle.rows_run.specs.Answer.{IsRefusedAtEnd, IsToldBy, StopsAt, StopsReading, fault_of};
 
 use crate::fault::RowsFault;
 use outside::{Files, Source};

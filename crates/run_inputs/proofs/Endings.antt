@@ -3,11 +3,12 @@ use Rattle.std.proofs.Common.{◌≡◌, ◌∙◌, ◌<◌, ◌+◌, ◌++◌, 
 use Rattle.std.proofs.lemmas.Bool.{cases_lt}
 use Rattle.std.proofs.lemmas.List.{get_or_append_left}
 use Rattle.outside.specs.Outside.{Came, back}
+use Rattle.outside.specs.Whole.{all_read}
 use Rattle.stream_base.specs.Limits.{Definitions}
 use Rattle.emission_text.specs.declared.fault.Fault.{Fault}
 use Rattle.run_inputs.specs.Causes.{AreDefinitionsRead}
 use Rattle.run_inputs.specs.Judging.{IsReportRead}
-use Rattle.run_inputs.specs.Outside.{Asks, Ends, IsOver, Opens, OpensInOrder, ReadsFile, Telling, all_read, behind, came_at, opens_of}
+use Rattle.run_inputs.specs.Outside.{Asks, Ends, IsOver, Opens, OpensInOrder, ReadsFile, Telling, behind, came_at, opens_of}
 use Rattle.run_inputs.proofs.Results.{if_err, if_ok}
 
 -- definitions that were read at the first open stay read

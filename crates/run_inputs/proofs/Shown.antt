@@ -5,6 +5,7 @@ use Rattle.std.proofs.lemmas.Bool.Decides.{nat_tests}
 use Rattle.stream_base.specs.Limits.{Definitions}
 use Rattle.stream_base.specs.declared.entry.Entry.{Entry}
 use Rattle.outside.specs.Outside.{Reads, back}
+use Rattle.outside.specs.Whole.{all_read}
 use Rattle.csv.specs.Reading.{default_config, records, strip_bom}
 use Rattle.stream_base.specs.declared.what.What.{What}
 use Rattle.source_feed.specs.Record.{is_header, what_of}
@@ -18,7 +19,7 @@ use Rattle.source_feed.specs.declared.feed_fault.FeedFault.{FeedFault}
 use Rattle.source_feed.specs.declared.feed_fault.FeedFault.TheVariants.{Read as FeedRead, TooLong as FeedTooLong, Row as FeedRow, NoMemory as FeedMemory}
 use Rattle.source_feed.specs.declared.whole.TheConstants.{SOURCE_MAX}
 use Rattle.run_inputs.specs.Causes.{HasFailedRead, IsRefusedAt, IsSourceRead}
-use Rattle.run_inputs.specs.Outside.{CameBack, Opens, all_read, came_at}
+use Rattle.run_inputs.specs.Outside.{CameBack, Opens, came_at}
 
 -- the reads of a source whose end was seen, with no fault
 same_reads : (place : ℕ) (reads : Reads) → reads.place ≡ place → reads.ended ≡ true → reads.faults ≡ 0 → reads ≡ all_read place reads.given

@@ -1,10 +1,10 @@
 -- What a file gave that was opened, read whole, and given back.
-use Rattle.std.proofs.Common.{◌≡◌, ◌∙◌, ◌<◌, ◌≤◌, ◌+◌, ◌⊎◌, ℕ, List, [], ◌∷◌, length, Result, Ok, Err, inl, inr, refl, ap, sym, subst, arith, true, false, leb}
-use Rattle.std.proofs.lemmas.Bool.Decides.{nat_tests}
+use Rattle.std.proofs.Common.{◌≡◌, ◌∙◌, ◌<◌, ◌≤◌, ◌+◌, ◌⊎◌, ℕ, List, [], ◌∷◌, length, Result, Ok, Err, inl, inr, refl, ap, sym, subst, arith, true}
 use Rattle.std.specs.Prelude.{IfOk, IfErr, IsErrOf, IsOkAnd, Vec}
 use Rattle.std.specs.declared.alloc.Global.{Global}
 use Rattle.stream_base.specs.Limits.{Definitions}
 use Rattle.outside.specs.Outside.{Reads, Rose, back, nothing_read}
+use Rattle.outside.specs.Whole.{all_read}
 use Rattle.source_feed.specs.Whole.{PassesLimit, with_given}
 use Rattle.source_feed.specs.declared.whole.TheConstants.{SOURCE_MAX}
 use Rattle.source_feed.specs.declared.whole_fault.WholeFault.{WholeFault}
@@ -16,7 +16,7 @@ use Rattle.window_defs.specs.declared.defs_fault.DefsFault.TheVariants.{Long, To
 use Rattle.emission_text.specs.declared.fault.Fault.{Fault}
 use Rattle.run_inputs.specs.Causes.{AreDefinitionsRead, AreRefused, StopsAtBytes, StopsAtDefs, StopsAtReading}
 use Rattle.run_inputs.specs.Judging.{IsReportRead, StopsAtReport, report_fault}
-use Rattle.run_inputs.specs.Outside.{Asks, Opens, all_read, came_at}
+use Rattle.run_inputs.specs.Outside.{Asks, Opens, came_at}
 
 -- a fault is in the bytes, or memory ran out
 pub in_bytes_or_memory : (bytes : List ℕ) (cause : DefsFault) → (¬ (cause ≡ NoRoom) → reading_of bytes ≡ Err cause) → (reading_of bytes ≡ Err cause) ⊎ (cause ≡ NoRoom)

@@ -1,7 +1,8 @@
 -- What a call opened and what was read there, and how calls that open and read files end.
-use Rattle.std.specs.Prelude.{◌≡◌, ◌≤◌, ◌<◌, ◌+◌, ◌++◌, ◌⊎◌, ℕ, true, List, [], ◌∷◌, length, map, take, Option, Result, IfOk, IfErr, IfSome, slice_index_or, string_bytes, String, ⊤}
+use Rattle.std.specs.Prelude.{◌≡◌, ◌≤◌, ◌<◌, ◌+◌, ◌++◌, ◌⊎◌, ℕ, List, [], ◌∷◌, length, map, take, Option, Result, IfOk, IfErr, IfSome, slice_index_or, string_bytes, String, ⊤}
 use Rattle.std.specs.declared.alloc.Global.{Global}
 use Rattle.outside.specs.Outside.{Came, KeepsWord, Reads, back, nothing_read, out, refused, unasked}
+use Rattle.outside.specs.Whole.{all_read}
 use Rattle.emission_text.specs.declared.fault.Fault.{Fault}
 
 -- the bytes under each name, where they are told
@@ -29,10 +30,6 @@ behind names opens = record { before = opens.before ++ names; after = opens.afte
 -- what became of the open at this place among those of the call
 abbrev pub came_at : Opens → ℕ → Came
 came_at opens i = opens.came (length opens.before + i)
-
--- all that a source gave: these bytes up to its end; and no read of it failed
-abbrev pub all_read : ℕ → List ℕ → Reads
-all_read place bytes = record { place = place; given = bytes; ended = true; faults = 0 }
 
 -- the source that was opened there was read whole, and came back: these are its bytes
 abbrev pub WasReadWhole : Opens → ℕ → List ℕ → Type 0

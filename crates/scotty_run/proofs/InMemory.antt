@@ -3,9 +3,10 @@ use Rattle.std.proofs.Common.{◌≡◌, ◌∙◌, ◌<◌, ◌+◌, ◌++◌, 
 use Rattle.std.specs.Prelude.{IfSome}
 use Rattle.std.proofs.lemmas.List.{get_or-append-add}
 use Rattle.outside.specs.Outside.{Came, KeepsWord, back}
+use Rattle.outside.specs.Whole.{all_read}
 use Rattle.scotty_run.specs.Answer.{IsReportOfFiles}
 use Rattle.scotty_run.specs.InMemory.{AllTell, IsReportOfTold, Tells}
-use Rattle.run_inputs.specs.Outside.{AreOver, IsOver, Opens, Telling, all_read}
+use Rattle.run_inputs.specs.Outside.{AreOver, IsOver, Opens, Telling}
 use Rattle.command_words.specs.Words.{Run}
 
 -- what was read up to its end is what is told

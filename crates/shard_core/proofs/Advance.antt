@@ -17,7 +17,7 @@ use Rattle.std.proofs.lemmas.List.Kept.{AllPairs-cons, AllPairs-filter}
 use Rattle.std.proofs.lemmas.Map.Keys.{IsDistinct-from_sorted, sorted_tail}
 use Rattle.std.proofs.lemmas.Map.Lookups.{exact_bytes}
 use Rattle.std.proofs.lemmas.Map.Views.{Contains-from_lookup, lookup-from_Contains, tells_apart}
-use Rattle.key_windows.specs.Calls.{BringsMore, IsWater, changes_by_move, moment}
+use Rattle.key_windows.specs.Calls.{BringsMore, changes_by_move}
 use Rattle.key_windows.specs.Dues.{IsDueNumber, IsExact}
 use Rattle.stream_base.specs.Limits.{AreWithinLimits, Definitions}
 use Rattle.stream_base.specs.declared.change.Change.{Change}
@@ -40,9 +40,10 @@ use Rattle.stream_base.proofs.Members.{filter_has, filter_members, map_has, map_
 use Rattle.stream_base.proofs.Rising.{below_tail, Contains-head, Contains-tail, not_below_itself, sorted_cons, sorted_nil}
 use Rattle.model_laws.proofs.WatermarkFacts.{water_of_same, water_rises}
 use Rattle.stream_base.proofs.Growing.{kept_of_late, marks_of_late}
+use Rattle.stream_base.specs.Model.Moments.{IsWater, moment}
 use Rattle.shard_core.specs.declared.keys.KeyTable.{KeyTable}
 use Rattle.shard_core.specs.declared.slot.Slot.{Slot}
-use Rattle.shard_core.specs.Engines.{AreApart, AreCurrent, AreMovable, AreMovedWithin, ArePlaces, AreSameSlots, BoundsMove, IsCurrent, IsMovedSlot, IsSameOutside, StandAt, StandsIn, due_places, moves_of, place_of}
+use Rattle.shard_core.specs.Engines.{AreApart, AreCurrent, AreMovable, AreMovedWithin, ArePlaces, AreSameSlots, BoundsMove, IsCurrent, IsMovedSlot, IsSameOutside, StandAt, StandsIn, due_places, moves_of, place_of_key}
 use Rattle.shard_core.specs.Shard.{Sharded}
 use Rattle.shard_core.specs.Work.{IsDueBy, IsMoveWithin}
 use Rattle.shard_core.proofs.Moves.{changes_since, map_none, no_changes_of_none, same_for_keys}
@@ -245,17 +246,17 @@ places_apart (e ∷ es) s one =
 
 module _ {K : Type 0} (key_of : K → List ℕ) (fits : Definitions → List Kept → List ℕ → ℕ → K → Type 0) (next_position : K → ℕ) (d : Definitions) (sources : ℕ) (journal : List Entry) (t : KeyTable K) (c : AreCurrent key_of fits next_position d sources journal t) where
   -- a place is a key's exactly where the index has it so
-  has_place : (key : List ℕ) (p : ℕ) → Contains t.index (key, p) → place_of t key ≡ Some p
+  has_place : (key : List ℕ) (p : ℕ) → Contains t.index (key, p) → place_of_key t key ≡ Some p
   has_place key p m = lookup-from_Contains (eq_by_cmp_equiv nat_list_cmp_total) key p t.index (IsDistinct-from_sorted (slice_cmp nat_cmp) (map (λ (e : List ℕ × ℕ). e.0) t.index) c.in_order) m
 
-  pub is_entry : (key : List ℕ) (p : ℕ) → place_of t key ≡ Some p → Contains t.index (key, p)
+  pub is_entry : (key : List ℕ) (p : ℕ) → place_of_key t key ≡ Some p → Contains t.index (key, p)
   is_entry key p at = Contains-from_lookup (tells_apart exact_bytes) key p t.index at
 
   module _ (new : ℕ) where
     -- a place that is due is that of a key
     pub record IsDuePlace (p : ℕ) : Type 0 where
       pub key : List ℕ
-      pub at : place_of t key ≡ Some p
+      pub at : place_of_key t key ≡ Some p
       pub due : get_or t.dues.items p 0 ≤ new
 
     due_place : (p : ℕ) → Contains (due_places t new) p → IsDuePlace p
@@ -271,7 +272,7 @@ module _ {K : Type 0} (key_of : K → List ℕ) (fits : Definitions → List Kep
     pub due_at : (i : ℕ) → i < length (due_places t new) → IsDuePlace (get_or (due_places t new) i 0)
     due_at i l = due_place (get_or (due_places t new) i 0) (Contains-get_or (due_places t new) i 0 l)
 
-    pub is_due : (key : List ℕ) (p : ℕ) → place_of t key ≡ Some p → get_or t.dues.items p 0 ≤ new → Contains (due_places t new) p
+    pub is_due : (key : List ℕ) (p : ℕ) → place_of_key t key ≡ Some p → get_or t.dues.items p 0 ≤ new → Contains (due_places t new) p
     is_due key p at due = filter_has (λ q. nat_le (get_or t.dues.items q 0) new) (values_of t.index) p (map_has (λ (g : List ℕ × ℕ). g.1) t.index (key, p) (is_entry key p at)) (le-leb (get_or t.dues.items p 0) new due)
 
     pub due_places_apart : AreApart (due_places t new)
@@ -326,9 +327,9 @@ module _ {K : Type 0} (key_of : K → List ℕ) (fits : Definitions → List Kep
           nothing key none = no_changes_of_none d.windows key (moment (kept_of d.lateness sources key journal) (marks_of d.lateness sources key journal) (water_of sources journal)) (moment (kept_of d.lateness sources key journal) (marks_of d.lateness sources key journal) new) none none
 
           not_due : (key : List ℕ) → Contains (keys_of journal) key → (Contains due_keys key → ⊥) → key_moves d sources journal e progress new key ≡ []
-          not_due key known not = by (place_of t key) refl
+          not_due key known not = by (place_of_key t key) refl
             where
-              by : (o : Option ℕ) → place_of t key ≡ o → key_moves d sources journal e progress new key ≡ []
+              by : (o : Option ℕ) → place_of_key t key ≡ o → key_moves d sources journal e progress new key ≡ []
               by None at = nothing key (c.nothing_kept key at)
               by (Some p) at =
                   let x : Slot K = any_slot t.slots.items (omega (arith, c.placed key p at)) in
@@ -480,7 +481,7 @@ module _ {K : Type 0} (key_of : K → List ℕ) (fits : Definitions → List Kep
       longer : length journal ≤ length (journal ++ e ∷ [])
       longer = rw length-append (omega arith)
 
-      on : (key : List ℕ) (p : ℕ) (x : Slot K) → place_of old key ≡ Some p → get_or old.dues.items p 0 ≤ water → IsCurrent key_of fits next_position d sources (journal ++ e ∷ []) key (get_or new.slots.items p x) (get_or new.dues.items p 0)
+      on : (key : List ℕ) (p : ℕ) (x : Slot K) → place_of_key old key ≡ Some p → get_or old.dues.items p 0 ≤ water → IsCurrent key_of fits next_position d sources (journal ++ e ∷ []) key (get_or new.slots.items p x) (get_or new.dues.items p 0)
       on key p x at due =
           let m : Contains (due_places old water) p = is_due key_of fits next_position d sources journal old c water key p at due in
           moved_on key_of fits next_position d sources journal limits key (get_or old.slots.items p x) (get_or old.dues.items p 0) (c.current key p x at) (journal ++ e ∷ []) (get_or new.slots.items p x) (get_or new.dues.items p 0)
@@ -489,7 +490,7 @@ module _ {K : Type 0} (key_of : K → List ℕ) (fits : Definitions → List Kep
           subst (λ q. IsMovedSlot key_of fits next_position d (water_of sources (journal ++ e ∷ [])) (get_or old.slots.items q x) (get_or new.slots.items q x) (get_or new.dues.items q 0)) same
           (rw (← is) (moved x m.0 m.1)))
 
-      waiting : (key : List ℕ) (p : ℕ) (x : Slot K) → place_of old key ≡ Some p → water < get_or old.dues.items p 0 → IsCurrent key_of fits next_position d sources (journal ++ e ∷ []) key (get_or new.slots.items p x) (get_or new.dues.items p 0)
+      waiting : (key : List ℕ) (p : ℕ) (x : Slot K) → place_of_key old key ≡ Some p → water < get_or old.dues.items p 0 → IsCurrent key_of fits next_position d sources (journal ++ e ∷ []) key (get_or new.slots.items p x) (get_or new.dues.items p 0)
       waiting key p x at early =
           let apart : (j : ℕ) → j < length (due_places old water) → get_or (due_places old water) j 0 ≢ p =
           λ j jl same. let q : IsDuePlace key_of fits next_position d sources journal old c water (get_or (due_places old water) j 0) = due_at key_of fits next_position d sources journal old c water j jl in

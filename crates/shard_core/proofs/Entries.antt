@@ -5,7 +5,7 @@ use Rattle.std.specs.Ordering.{nat_cmp}
 use Rattle.std.specs.Str.{bytes_eq}
 use Rattle.std.proofs.lemmas.Bool.Decides.{nat_tests}
 use Rattle.std.proofs.lemmas.Bool.{false_from_ne_true, le-ltb}
-use Rattle.key_windows.specs.Calls.{changes_by_mark, changes_by_put, kept_at, moment}
+use Rattle.key_windows.specs.Calls.{changes_by_mark, changes_by_put}
 use Rattle.key_windows.specs.Dues.{IsDueNumber}
 use Rattle.stream_base.specs.Limits.{AreWithinLimits, Definitions}
 use Rattle.stream_base.specs.declared.entry.Entry.{Entry}
@@ -19,9 +19,10 @@ use Rattle.stream_base.specs.Model.What.{is_late, key_in, mark_in, tuple_in}
 use Rattle.model_laws.proofs.Absent.{bytes_eq_true}
 use Rattle.model_laws.proofs.ChangesAfter.{changes_of_keyed, water_of_keyed}
 use Rattle.stream_base.proofs.Growing.{kept_of_other, kept_of_tuple, marks_of_mark, marks_of_other}
+use Rattle.stream_base.specs.Model.Moments.{kept_at, moment}
 use Rattle.shard_core.specs.declared.keys.KeyTable.{KeyTable}
 use Rattle.shard_core.specs.declared.slot.Slot.{Slot}
-use Rattle.shard_core.specs.Engines.{AreCurrent, IsCurrent, place_of}
+use Rattle.shard_core.specs.Engines.{AreCurrent, IsCurrent, place_of_key}
 use Rattle.shard_core.specs.Shard.{Sharded}
 use Rattle.shard_core.specs.Work.{IsTakenWithin}
 use Rattle.shard_core.proofs.Places.{IsSameFor, current_at, replaced}
@@ -130,7 +131,7 @@ module _ {K : Type 0} (key_of : K → List ℕ) (fits : Definitions → List Kep
   -- where the slot of the entry's key is that of the longer journal, and its due number is one there, so is the table
   pub numbered_table : (old new : KeyTable K) (p : ℕ) (slot new_slot : Slot K) (due : ℕ)
       → AreCurrent key_of fits next_position d sources journal old
-      → place_of old key ≡ Some p
+      → place_of_key old key ≡ Some p
       → slot ≡ get_or old.slots.items p slot
       → slot.water ≡ water_of sources journal
       → new.index ≡ old.index
@@ -162,7 +163,7 @@ module _ {K : Type 0} (key_of : K → List ℕ) (fits : Definitions → List Kep
   -- and where the due number is one for whatever lists the slot stands for
   pub keyed_table : (old new : KeyTable K) (p : ℕ) (slot new_slot : Slot K) (due : ℕ)
       → AreCurrent key_of fits next_position d sources journal old
-      → place_of old key ≡ Some p
+      → place_of_key old key ≡ Some p
       → slot ≡ get_or old.slots.items p slot
       → slot.water ≡ water_of sources journal
       → new.index ≡ old.index

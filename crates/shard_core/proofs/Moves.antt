@@ -8,7 +8,6 @@ use Rattle.std.specs.Ordering.{nat_cmp}
 use Rattle.std.proofs.lemmas.Bool.{cases_lt, false_from_ne_true, and_cases, both_ways, leb-false, le-ltb, lt-ltb}
 use Rattle.std.proofs.lemmas.Cmp.{nat_list_cmp_total}
 use Rattle.std.proofs.lemmas.List.Kept.{IsStrictlySortedBy-filter}
-use Rattle.key_windows.specs.Calls.{moment}
 use Rattle.stream_base.specs.Kinds.{IsKindWithin}
 use Rattle.stream_base.specs.declared.change.Change.TheVariants.{New}
 use Rattle.stream_base.specs.declared.def.Def.{Def}
@@ -21,6 +20,7 @@ use Rattle.stream_base.proofs.ChangeFacts.{changes_at_water, flat_map_same, no_c
 use Rattle.stream_base.proofs.Distinct.{by_start_total}
 use Rattle.stream_base.proofs.Members.{filter_has, filter_members, filter_same}
 use Rattle.stream_base.proofs.Rising.{sorted_nil, none_in_nil, Contains-cons_cases, same_members_same_list}
+use Rattle.stream_base.specs.Model.Moments.{moment}
 
 -- ---- lists that are empty
 append_none : {X : Type 0} (xs ys : List X) → xs ++ ys ≡ [] → (xs ≡ []) × (ys ≡ [])

@@ -10,18 +10,18 @@ use Rattle.std.proofs.Math.ListN.{length-set}
 use Rattle.std.proofs.lemmas.Bool.Decides.{eqb_tells}
 use Rattle.std.proofs.lemmas.List.{get_or_append_left, get_or_push}
 use Rattle.std.proofs.lemmas.Map.Text.{is_eq-slice_cmp}
-use Rattle.key_windows.specs.Calls.{IsWater}
 use Rattle.key_windows.specs.Dues.{IsDueNumber}
 use Rattle.stream_base.specs.Limits.{Definitions}
 use Rattle.stream_base.specs.declared.entry.Entry.{Entry}
 use Rattle.stream_base.specs.declared.kept.Kept.{Kept}
 use Rattle.stream_base.specs.Model.Journal.{kept_of, marks_of}
+use Rattle.stream_base.specs.Model.Moments.{IsWater}
 use Rattle.stream_base.specs.Model.Watermark.{water_of}
 use Rattle.model_laws.proofs.Absent.{bytes_eq_true}
 use Rattle.shard_core.specs.Placed.{AreByKey}
 use Rattle.shard_core.specs.declared.keys.KeyTable.{KeyTable}
 use Rattle.shard_core.specs.declared.slot.Slot.{Slot}
-use Rattle.shard_core.specs.Engines.{AreCurrent, HasLists, IsCurrent, IsSameSlot, place_of}
+use Rattle.shard_core.specs.Engines.{AreCurrent, HasLists, IsCurrent, IsSameSlot, place_of_key}
 
 -- a key tells itself from every other
 pub same_key : (key other : List ℕ) → is_at (slice_cmp nat_cmp key) other ≡ true → key ≡ other
@@ -51,14 +51,14 @@ module _ {K : Type 0} (key_of : K → List ℕ) (fits : Definitions → List Kep
     no_marks = λ q at. c.no_marks q (there q ∙ at);
   }
     where
-      there : (q : List ℕ) → place_of old q ≡ place_of new q
+      there : (q : List ℕ) → place_of_key old q ≡ place_of_key new q
       there q = ap (lookup (is_at (slice_cmp nat_cmp q))) (sym index)
 
   -- a fresh slot behind the others, at the place of a key that had none
   pub added : (old new : KeyTable K) (key : List ℕ) (slot : Slot K) (due : ℕ)
       → AreCurrent key_of fits next_position d sources journal old
-      → place_of old key ≡ None
-      → ((q : List ℕ) → place_of new q ≡ cond (is_at (slice_cmp nat_cmp key) q) (Some (length old.slots.items)) (place_of old q))
+      → place_of_key old key ≡ None
+      → ((q : List ℕ) → place_of_key new q ≡ cond (is_at (slice_cmp nat_cmp key) q) (Some (length old.slots.items)) (place_of_key old q))
       → AreByKey new.index
       → length new.index ≡ length old.index + 1
       → new.slots.items ≡ old.slots.items ++ slot ∷ []
@@ -83,22 +83,22 @@ module _ {K : Type 0} (key_of : K → List ℕ) (fits : Definitions → List Kep
       longer : length new.slots.items ≡ length old.slots.items + 1
       longer = ap length slots ∙ length-append old.slots.items (slot ∷ [])
 
-      placed : (q : List ℕ) (p : ℕ) (b : Bool) → is_at (slice_cmp nat_cmp key) q ≡ b → cond b (Some (length old.slots.items)) (place_of old q) ≡ Some p → p < length new.slots.items
+      placed : (q : List ℕ) (p : ℕ) (b : Bool) → is_at (slice_cmp nat_cmp key) q ≡ b → cond b (Some (length old.slots.items)) (place_of_key old q) ≡ Some p → p < length new.slots.items
       placed q p true is at = let e : length old.slots.items ≡ p = some_is (length old.slots.items) p at in omega (arith, longer)
       placed q p false is at = omega (arith, longer, c.placed q p at)
 
-      other : (q : List ℕ) (b : Bool) → cond b (Some (length old.slots.items)) (place_of old q) ≡ None → place_of old q ≡ None
+      other : (q : List ℕ) (b : Bool) → cond b (Some (length old.slots.items)) (place_of_key old q) ≡ None → place_of_key old q ≡ None
       other q true at = cc
       other q false at = at
 
-      current : (q : List ℕ) (p : ℕ) (x : Slot K) (b : Bool) → is_at (slice_cmp nat_cmp key) q ≡ b → cond b (Some (length old.slots.items)) (place_of old q) ≡ Some p → IsCurrent key_of fits next_position d sources journal q (get_or new.slots.items p x) (get_or new.dues.items p 0)
+      current : (q : List ℕ) (p : ℕ) (x : Slot K) (b : Bool) → is_at (slice_cmp nat_cmp key) q ≡ b → cond b (Some (length old.slots.items)) (place_of_key old q) ≡ Some p → IsCurrent key_of fits next_position d sources journal q (get_or new.slots.items p x) (get_or new.dues.items p 0)
       current q p x true is at =
           let e : length old.slots.items ≡ p = some_is (length old.slots.items) p at in
           let own : key ≡ q = same_key key q is in
           let there : get_or new.slots.items p x ≡ slot = ap (λ l. get_or l p x) slots ∙ get_or_push old.slots.items slot x p e in
           let due_there : get_or new.dues.items p 0 ≡ due = ap (λ l. get_or l p 0) dues ∙ get_or_push old.dues.items due 0 p (c.aligned ∙ e) in
-          let kept : kept_of d.lateness sources q journal ≡ [] = c.nothing_kept q (subst (λ k. place_of old k ≡ None) own absent) in
-          let marks : marks_of d.lateness sources q journal ≡ [] = c.no_marks q (subst (λ k. place_of old k ≡ None) own absent) in
+          let kept : kept_of d.lateness sources q journal ≡ [] = c.nothing_kept q (subst (λ k. place_of_key old k ≡ None) own absent) in
+          let marks : marks_of d.lateness sources q journal ≡ [] = c.no_marks q (subst (λ k. place_of_key old k ≡ None) own absent) in
           rw (there, due_there) (record {
             of_key = of_key ∙ own;
             stands = rw (kept, marks) empty;
@@ -116,7 +116,7 @@ module _ {K : Type 0} (key_of : K → List ℕ) (fits : Definitions → List Kep
 
 -- the state at a place is of one key alone
 pub one_key : {K : Type 0} (key_of : K → List ℕ) (fits : Definitions → List Kept → List ℕ → ℕ → K → Type 0) (next_position : K → ℕ) (d : Definitions) (sources : ℕ) (journal : List Entry) (t : KeyTable K) (a b : List ℕ) (p : ℕ) (x : Slot K)
-    → AreCurrent key_of fits next_position d sources journal t → place_of t a ≡ Some p → place_of t b ≡ Some p → a ≡ b
+    → AreCurrent key_of fits next_position d sources journal t → place_of_key t a ≡ Some p → place_of_key t b ≡ Some p → a ≡ b
 one_key key_of fits next_position d sources journal t a b p x c at_a at_b = sym (c.current a p x at_a).of_key ∙ (c.current b p x at_b).of_key
 
 -- what is kept of a key is as before
@@ -146,7 +146,7 @@ module _ {K : Type 0} (key_of : K → List ℕ) (fits : Definitions → List Kep
   -- one slot changed, and nothing of any other key
   pub replaced : (journal longer : List Entry) (old new : KeyTable K) (key : List ℕ) (p : ℕ) (slot : Slot K) (due : ℕ)
       → AreCurrent key_of fits next_position d sources journal old
-      → place_of old key ≡ Some p
+      → place_of_key old key ≡ Some p
       → new.index ≡ old.index
       → new.slots.items ≡ set old.slots.items p slot
       → new.dues.items ≡ set old.dues.items p due
@@ -165,13 +165,13 @@ module _ {K : Type 0} (key_of : K → List ℕ) (fits : Definitions → List Kep
     no_marks = λ q is. (same q (other q (there q ∙ is))).marks ∙ c.no_marks q (there q ∙ is);
   }
     where
-      there : (q : List ℕ) → place_of old q ≡ place_of new q
+      there : (q : List ℕ) → place_of_key old q ≡ place_of_key new q
       there q = ap (lookup (is_at (slice_cmp nat_cmp q))) (sym index)
 
-      other : (q : List ℕ) → place_of old q ≡ None → q ≡ key → ⊥
-      other q none e = let some : place_of old q ≡ Some p = ap (place_of old) e ∙ at in cc
+      other : (q : List ℕ) → place_of_key old q ≡ None → q ≡ key → ⊥
+      other q none e = let some : place_of_key old q ≡ Some p = ap (place_of_key old) e ∙ at in cc
 
-      here : (q : List ℕ) (n : ℕ) (x : Slot K) → place_of old q ≡ Some n → p ≡ n → IsCurrent key_of fits next_position d sources longer q (get_or new.slots.items n x) (get_or new.dues.items n 0)
+      here : (q : List ℕ) (n : ℕ) (x : Slot K) → place_of_key old q ≡ Some n → p ≡ n → IsCurrent key_of fits next_position d sources longer q (get_or new.slots.items n x) (get_or new.dues.items n 0)
       here q n x is e =
           let mine : key ≡ q = one_key key_of fits next_position d sources journal old key q n x c (at ∙ ap (λ k. Some k) e) is in
           let small : p < length old.slots.items = c.placed key p at in
@@ -180,21 +180,21 @@ module _ {K : Type 0} (key_of : K → List ℕ) (fits : Definitions → List Kep
           let due_is : get_or new.dues.items n 0 ≡ due = (λ i. get_or (dues i) (sym e i) 0) ∙ get_or-set_same old.dues.items p due 0 small_due in
           rw (slot_is, due_is) (subst (λ k. IsCurrent key_of fits next_position d sources longer k slot due) mine own)
 
-      elsewhere : (q : List ℕ) (n : ℕ) (x : Slot K) → place_of old q ≡ Some n → (p ≡ n → ⊥) → IsCurrent key_of fits next_position d sources longer q (get_or new.slots.items n x) (get_or new.dues.items n 0)
+      elsewhere : (q : List ℕ) (n : ℕ) (x : Slot K) → place_of_key old q ≡ Some n → (p ≡ n → ⊥) → IsCurrent key_of fits next_position d sources longer q (get_or new.slots.items n x) (get_or new.dues.items n 0)
       elsewhere q n x is ne =
-          let not_mine : q ≡ key → ⊥ = λ e. ne (some_is p n (sym at ∙ ap (place_of old) (sym e) ∙ is)) in
+          let not_mine : q ≡ key → ⊥ = λ e. ne (some_is p n (sym at ∙ ap (place_of_key old) (sym e) ∙ is)) in
           let slot_is : get_or new.slots.items n x ≡ get_or old.slots.items n x = ap (λ l. get_or l n x) slots ∙ get_or-set_other old.slots.items p n slot x (λ e. ne (sym e)) in
           let due_is : get_or new.dues.items n 0 ≡ get_or old.dues.items n 0 = ap (λ l. get_or l n 0) dues ∙ get_or-set_other old.dues.items p n due 0 (λ e. ne (sym e)) in
           rw (slot_is, due_is) (still_current journal longer q (get_or old.slots.items n x) (get_or old.dues.items n 0) (same q not_mine) long water (c.current q n x is))
 
 module _ {K : Type 0} (key_of : K → List ℕ) (fits : Definitions → List Kept → List ℕ → ℕ → K → Type 0) (next_position : K → ℕ) (d : Definitions) (sources : ℕ) (journal : List Entry) where
   -- the slot that a key has
-  pub current_at : (t : KeyTable K) (key : List ℕ) (p : ℕ) (slot : Slot K) → AreCurrent key_of fits next_position d sources journal t → place_of t key ≡ Some p → slot ≡ get_or t.slots.items p slot
+  pub current_at : (t : KeyTable K) (key : List ℕ) (p : ℕ) (slot : Slot K) → AreCurrent key_of fits next_position d sources journal t → place_of_key t key ≡ Some p → slot ≡ get_or t.slots.items p slot
       → IsCurrent key_of fits next_position d sources journal key slot (get_or t.dues.items p 0)
   current_at t key p slot c at is = subst (λ s. IsCurrent key_of fits next_position d sources journal key s (get_or t.dues.items p 0)) (sym is) (c.current key p slot at)
 
   -- there are lists for which it stands
-  pub has_lists : (t : KeyTable K) (key : List ℕ) (p : ℕ) (slot : Slot K) → AreCurrent key_of fits next_position d sources journal t → place_of t key ≡ Some p → slot ≡ get_or t.slots.items p slot → HasLists fits d slot
+  pub has_lists : (t : KeyTable K) (key : List ℕ) (p : ℕ) (slot : Slot K) → AreCurrent key_of fits next_position d sources journal t → place_of_key t key ≡ Some p → slot ≡ get_or t.slots.items p slot → HasLists fits d slot
   has_lists t key p slot c at is = (kept_of d.lateness sources key journal, marks_of d.lateness sources key journal, (current_at t key p slot c at is).stands)
 
   -- a state that can do no more and no less

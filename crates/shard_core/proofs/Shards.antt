@@ -13,7 +13,7 @@ use Rattle.stream_base.specs.Model.Changes.{changes_after}
 use Rattle.stream_base.proofs.Growing.{kept_of_nil, marks_of_nil}
 use Rattle.stream_base.proofs.Rising.{sorted_nil}
 use Rattle.shard_core.specs.declared.keys.KeyTable.{KeyTable}
-use Rattle.shard_core.specs.Engines.{AreCurrent, IsTableWith, place_of}
+use Rattle.shard_core.specs.Engines.{AreCurrent, IsTableWith, place_of_key}
 use Rattle.shard_core.specs.Flat.{IsShard, ends_from, joined}
 use Rattle.shard_core.specs.Recorded.{IsSameShard, Recorded}
 use Rattle.shard_core.specs.Shard.{changes_behind}
@@ -34,7 +34,7 @@ module _ {K : Type 0} (key_of : K → List ℕ) (fits : Definitions → List Kep
     no_marks = λ key at. marks_of_nil d.lateness sources key;
   }
     where
-      nowhere : (key : List ℕ) → place_of t key ≡ None
+      nowhere : (key : List ℕ) → place_of_key t key ≡ None
       nowhere key = ap (lookup (is_at (slice_cmp nat_cmp key))) index
 
   pub empty_shard : (past : Recorded) (t : KeyTable K) (changes : List Change) (ends : List ℕ) → AreWithinLimits past.defs → past.journal ≡ [] → t.index ≡ [] → t.slots.items ≡ [] → t.dues.items ≡ [] → changes ≡ [] → ends ≡ []

@@ -4,7 +4,6 @@ use Rattle.std.specs.Prelude.{◌==◌, fold}
 use Rattle.std.specs.List.{All, range_with_len}
 use Rattle.std.proofs.lemmas.Bool.Decides.{nat_tests}
 use Rattle.std.proofs.lemmas.List.Elements.{All-head, All-map, All-tail}
-use Rattle.key_windows.specs.Calls.{IsWater}
 use Rattle.stream_base.specs.declared.limits.TheConstants.{FINAL, TIME_MAX}
 use Rattle.stream_base.specs.declared.entry.Entry.{Entry}
 use Rattle.stream_base.specs.declared.what.What.{What}
@@ -13,6 +12,7 @@ use Rattle.stream_base.specs.Model.Journals.{is_entry_within}
 use Rattle.stream_base.specs.Model.What.{water_time}
 use Rattle.stream_base.specs.Model.Watermark.{all_ended, awake_waters, has_ended, is_awake, latest_water, least_or_zero, least_water, source_water, water_of}
 use Rattle.stream_base.proofs.EventOrder.{from_the_front}
+use Rattle.stream_base.specs.Model.Moments.{IsWater}
 use Rattle.model_laws.proofs.Fronts.{All_front}
 use Rattle.model_laws.proofs.WatermarkFacts.{water_of_nil, water_of_push}
 

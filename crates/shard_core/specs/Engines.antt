@@ -1,6 +1,6 @@
 -- What the table of keys keeps of each key.
 use Rattle.std.specs.Prelude.{◌≡◌, ◌≤◌, ◌<◌, ◌⊎◌, ℕ, List, [], ◌∷◌, ◌++◌, Option, None, Some, ◌+◌, Result, OnOk, OnErr, length, slice_index, slice_index_or, sum_by, ◌≢◌, EachIndex}
-use Rattle.key_windows.specs.Calls.{Call, IsWater, changes_by_move, moment}
+use Rattle.key_windows.specs.Calls.{Call, changes_by_move}
 use Rattle.key_windows.specs.Dues.{IsDueNumber}
 use Rattle.key_windows.specs.Calls.Call.{Move}
 use Rattle.std.specs.List.{HoldsAt}
@@ -12,6 +12,7 @@ use Rattle.stream_base.specs.declared.limits.TheConstants.{TIME_MAX}
 use Rattle.stream_base.specs.declared.what.What.{What}
 use Rattle.stream_base.specs.Model.Changes.{Moment, changes_after}
 use Rattle.stream_base.specs.Model.Journal.{kept_of, marks_of}
+use Rattle.stream_base.specs.Model.Moments.{IsWater, moment}
 use Rattle.stream_base.specs.Model.Watermark.{water_of}
 use Rattle.shard_core.specs.Placed.{AreByKey, place_in, places_reached}
 use Rattle.shard_core.specs.Recorded.{Recorded}
@@ -66,8 +67,8 @@ abbrev pub CanMove : {K : Type 0} → (Call → K → Type 0) → ℕ → Slot K
 CanMove is_ready water slot = is_ready (Move slot.water water) slot.state
 
 -- the place of a key in the table
-abbrev pub place_of : {K : Type 0} → KeyTable K → List ℕ → Option ℕ
-place_of t key = place_in t.index key
+abbrev pub place_of_key : {K : Type 0} → KeyTable K → List ℕ → Option ℕ
+place_of_key t key = place_in t.index key
 
 module _ {K : Type 0} (key_of : K → List ℕ) (fits : Definitions → List Kept → List ℕ → ℕ → K → Type 0) (next_position : K → ℕ) (d : Definitions) (sources : ℕ) (journal : List Entry) where
   -- a slot has the state of a key after a journal, under a watermark of its own: the journal's, or an earlier one up from which nothing was due yet
@@ -85,10 +86,10 @@ module _ {K : Type 0} (key_of : K → List ℕ) (fits : Definitions → List Kep
     pub in_order : AreByKey t.index
     pub aligned : length t.dues.items ≡ length t.slots.items
     pub counted : length t.slots.items ≡ length t.index
-    pub placed : (key : List ℕ) (p : ℕ) → place_of t key ≡ Some p → p < length t.slots.items
-    pub current : (key : List ℕ) (p : ℕ) (slot : Slot K) → place_of t key ≡ Some p → IsCurrent key (slice_index_or t.slots.items p slot) (slice_index t.dues.items p)
-    pub nothing_kept : (key : List ℕ) → place_of t key ≡ None → kept_of d.lateness sources key journal ≡ []
-    pub no_marks : (key : List ℕ) → place_of t key ≡ None → marks_of d.lateness sources key journal ≡ []
+    pub placed : (key : List ℕ) (p : ℕ) → place_of_key t key ≡ Some p → p < length t.slots.items
+    pub current : (key : List ℕ) (p : ℕ) (slot : Slot K) → place_of_key t key ≡ Some p → IsCurrent key (slice_index_or t.slots.items p slot) (slice_index t.dues.items p)
+    pub nothing_kept : (key : List ℕ) → place_of_key t key ≡ None → kept_of d.lateness sources key journal ≡ []
+    pub no_marks : (key : List ℕ) → place_of_key t key ≡ None → marks_of d.lateness sources key journal ≡ []
 
 -- the table of keys is that of a past
 abbrev pub IsTableOf : {K : Type 0} → (K → List ℕ) → (Definitions → List Kept → List ℕ → ℕ → K → Type 0) → (K → ℕ) → Recorded → KeyTable K → Type 0
@@ -188,7 +189,7 @@ pub record AreMovedWithin {K : Type 0} (bounds : Definitions → List ℕ → Mo
 
 -- each of these places is that of a key
 abbrev pub ArePlaces : {K : Type 0} → KeyTable K → List ℕ → Type 0
-ArePlaces t places = EachIndex places (λ i. (key : List ℕ) × (place_of t key ≡ Some (slice_index places i)))
+ArePlaces t places = EachIndex places (λ i. (key : List ℕ) × (place_of_key t key ≡ Some (slice_index places i)))
 
 -- the slots at the first so many places stand under a watermark
 abbrev pub StandAt : {K : Type 0} → ℕ → List (Slot K) → List ℕ → ℕ → Type 0

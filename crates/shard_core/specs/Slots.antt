@@ -2,13 +2,14 @@
 use Rattle.std.specs.Prelude.{◌≡◌, ◌≤◌, ◌+◌, ◌++◌, ℕ, Bool, true, List, Result, IfOk, OnOk}
 use Rattle.std.specs.BTreeSet.{insert_key}
 use Rattle.std.specs.Ordering.{nat_cmp}
-use Rattle.key_windows.specs.Calls.{Fitting, changes_by_mark, changes_by_move, changes_by_put, moment}
+use Rattle.key_windows.specs.Calls.{Fitting, changes_by_mark, changes_by_move, changes_by_put}
 use Rattle.key_windows.specs.Dues.{IsDueNumber}
 use Rattle.stream_base.specs.Limits.{Definitions}
 use Rattle.stream_base.specs.declared.change.Change.{Change}
 use Rattle.stream_base.specs.declared.kept.Kept.{Kept}
 use Rattle.stream_base.specs.Model.Changes.{Moment}
 use Rattle.stream_base.specs.Model.Journal.{put_in_order}
+use Rattle.stream_base.specs.Model.Moments.{moment}
 use Rattle.shard_core.specs.Engines.{SlotFits}
 use Rattle.shard_core.specs.Told.{spare_of}
 use Rattle.shard_core.specs.declared.slot.Slot.{Slot}

@@ -2,7 +2,7 @@ ghost use Rattle.std.specs.Prelude.{◌≡◌, ◌<◌, ℕ, List, [], IfOk, OnO
 ghost use Rattle.std.specs.List.{HoldsAt};
 ghost use Rattle.stream_base.specs.declared.limits.TheConstants.{JOURNAL_MAX};
 ghost use Rattle.stream_base.specs.declared.what.What.TheVariants.{Tuple, Mark};
-ghost use Rattle.shard_core.specs.Engines.{ArePlaces, HasSameDues, IsSameElsewhere, IsTableOf, MayTake, StandAt, StaysTableOf, TakesInAs, place_of};
+ghost use Rattle.shard_core.specs.Engines.{ArePlaces, HasSameDues, IsSameElsewhere, IsTableOf, MayTake, StandAt, StaysTableOf, TakesInAs, place_of_key};
 ghost use Rattle.shard_core.specs.Flat.{sharded};
 ghost use Rattle.shard_core.specs.Recorded.{water_behind};
 ghost use Rattle.shard_core.specs.Told.{IsSettled};
@@ -50,7 +50,7 @@ impl<K: AnyKey> KeyTable<K> {
         told: &mut Told,
     ) -> Result<usize, NoMemory>
         ensures told { told.new ≡ told.old }
-        ensures place { IfOk result (λ p. place_of self.new key.now ≡ Some p) }
+        ensures place { IfOk result (λ p. place_of_key self.new key.now ≡ Some p) }
         ensures current { StaysTableOf K.key_of K.fits K.next_position past.now
             self.old self.new }
     {
@@ -69,9 +69,9 @@ impl<K: AnyKey> KeyTable<K> {
         key: &KeyText,
         told: &mut Told,
     ) -> Result<usize, NoMemory>
-        requires { place_of self.old key.now ≡ None }
+        requires { place_of_key self.old key.now ≡ None }
         ensures told { told.new ≡ told.old }
-        ensures place { IfOk result (λ p. place_of self.new key.now ≡ Some p) }
+        ensures place { IfOk result (λ p. place_of_key self.new key.now ≡ Some p) }
         ensures current { StaysTableOf K.key_of K.fits K.next_position past.now
             self.old self.new }
     {
@@ -92,7 +92,7 @@ impl<K: AnyKey> KeyTable<K> {
     // due of it up to there, so it stands there as it is.
     fn catch_up(&mut self, past: &Past, place: usize)
         requires current { IsTableOf K.key_of K.fits K.next_position past.now self.old }
-        requires place { (key : List ℕ) × (place_of self.old key ≡ Some place) }
+        requires place { (key : List ℕ) × (place_of_key self.old key ≡ Some place) }
         ensures current { IsTableOf K.key_of K.fits K.next_position past.now self.new }
         ensures index { self.new.index ≡ self.old.index }
         ensures dues { self.new.dues ≡ self.old.dues }
@@ -129,7 +129,7 @@ impl<K: AnyKey> KeyTable<K> {
         requires { IsTableOf K.key_of K.fits K.next_position past.now self.old }
         ensures told { told.new ≡ told.old }
         ensures current { IsTableOf K.key_of K.fits K.next_position past.now self.new }
-        ensures place { IfOk result (λ p. place_of self.new key.now ≡ Some p) }
+        ensures place { IfOk result (λ p. place_of_key self.new key.now ≡ Some p) }
         ensures water { IfOk result (λ p. HoldsAt (λ slot. slot.water ≡ water_behind past.now)
             self.new.slots.items p) }
     {

@@ -1,6 +1,6 @@
 ghost use Rattle.std.specs.Prelude.{◌≡◌, ◌≤◌, ◌<◌, ◌+◌, ◌++◌, ◌∷◌, [], true, IfOk, OnOk, length};
 ghost use Rattle.std.specs.List.{HoldsAt};
-ghost use Rattle.key_windows.specs.Calls.{IsWater};
+ghost use Rattle.stream_base.specs.Model.Moments.{IsWater};
 ghost use Rattle.stream_base.specs.Model.What.{is_progress};
 ghost use Rattle.stream_base.specs.Model.Watermark.{water_of};
 ghost use Rattle.shard_core.specs.Engines.{AreMovable, AreSameSlots, CanMove, HasSameDues, HasSamePlaces, IsSameElsewhere, IsSameOutside, IsTableOf, MayMoveAt, TakesIn, due_places};

@@ -1,8 +1,8 @@
-ghost use Rattle.std.specs.Prelude.{◌≡◌, ◌≤◌, ◌<◌, ◌++◌, ◌∷◌, [], List, true, IfOk, OnOk, Some, length, slice_get};
-ghost use Rattle.key_windows.specs.Calls.{IsWater};
+ghost use Rattle.std.specs.Prelude.{◌≡◌, ◌≤◌, ◌<◌, ◌++◌, ◌∷◌, [], true, IfOk, OnOk, Some, length, slice_get};
 ghost use Rattle.stream_base.specs.Limits.{AreWithinLimits};
 ghost use Rattle.stream_base.specs.declared.entry.Entry.{Entry};
 ghost use Rattle.stream_base.specs.Model.Journals.{is_entry_within};
+ghost use Rattle.stream_base.specs.Model.Moments.{IsWater};
 ghost use Rattle.stream_base.specs.Model.Watermark.{has_ended, water_of};
 ghost use Rattle.stream_base.specs.Model.What.{is_late};
 ghost use Rattle.watermark_table.specs.Watched.{CanTake, IsSameTable};

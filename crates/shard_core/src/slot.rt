@@ -1,5 +1,5 @@
 ghost use Rattle.std.specs.Prelude.{◌≡◌, ◌≤◌, ◌<◌, ◌+◌, [], IfOk, OnOk, OnErr};
-ghost use Rattle.key_windows.specs.Calls.{IsWater};
+ghost use Rattle.stream_base.specs.Model.Moments.{IsWater};
 ghost use Rattle.stream_base.specs.declared.limits.TheConstants.{JOURNAL_MAX};
 ghost use Rattle.shard_core.specs.Engines.{Accepts, CanMove, HasLists, HasRefused, IsSameSlot, MayMove};
 ghost use Rattle.shard_core.specs.Slots.{IsDueOfSlot, KeepsDueNumbers, MarkStaysWithin, MoveStaysWithin, PutStaysWithin, SlotFitsMoved, SlotFitsWithMark, SlotFitsWithTuple, TakesPromised, TellsMark, TellsMove, TellsPut};

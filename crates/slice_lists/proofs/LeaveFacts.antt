@@ -20,11 +20,11 @@ use Rattle.stream_base.proofs.Distinct.{All_from_members}
 use Rattle.stream_base.proofs.Members.{filter_map_of, filter_members}
 use Rattle.slice_lists.specs.Runs.{AreInOrder, AreRuns, IsAligned, IsPartFrom, IsRun}
 use Rattle.stream_base.proofs.Filters.{filter_all, filter_none}
+use Rattle.stream_base.specs.Places.{IsPlaceOf}
 use Rattle.slice_lists.proofs.Order.{All-split}
 use Rattle.slice_lists.proofs.RunEdits.{parted}
 use Rattle.slice_lists.specs.declared.slice.Slice.{Slice}
 use Rattle.slice_lists.specs.Touched.{marks_left, slices_from}
-use Rattle.slice_lists.specs.Places.{IsPlaceOf}
 use Rattle.slice_lists.specs.Slices.{AreSlices, joined, slice_of}
 use Rattle.slice_lists.proofs.WithinFacts.{all_joined}
 use Rattle.slice_lists.proofs.NearFacts.{stretch}

@@ -20,10 +20,10 @@ use Rattle.stream_base.specs.Model.Cuts.{has_cut}
 use Rattle.stream_base.specs.Model.Slices.{runs_of}
 use Rattle.stream_base.specs.Model.Windows.{first_time, last_time}
 use Rattle.stream_base.proofs.Pieces.{pieces_joined}
+use Rattle.stream_base.specs.Places.{IsPlaceOf}
 use Rattle.slice_lists.specs.Runs.{AreInOrder, parted_at}
 use Rattle.slice_lists.proofs.MarkRuns.{runs_after_mark}
 use Rattle.slice_lists.specs.Touched.{is_across}
-use Rattle.slice_lists.specs.Places.{IsPlaceOf}
 use Rattle.slice_lists.specs.Sides.{IsAcrossAt}
 use Rattle.slice_lists.specs.Slices.{joined, split_at}
 use Rattle.slice_lists.proofs.NearFacts.{neighbours, stretch}

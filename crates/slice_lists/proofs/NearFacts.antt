@@ -16,9 +16,9 @@ use Rattle.stream_base.specs.Model.Windows.{first_time, last_time}
 use Rattle.slice_lists.specs.Runs.{AreInOrder, AreParted, ArePartFrom, AreRuns, IsPartFrom}
 use Rattle.slice_lists.proofs.MarkRuns.{earlier_cut, later_cut}
 use Rattle.stream_base.proofs.Filters.{filter_all, filter_none}
+use Rattle.stream_base.specs.Places.{IsPlaceOf}
 use Rattle.slice_lists.proofs.RunEdits.{added, entered, extended, fronted, merged}
 use Rattle.slice_lists.specs.Touched.{is_near}
-use Rattle.slice_lists.specs.Places.{IsPlaceOf}
 use Rattle.slice_lists.specs.Sides.{IsApartBefore, IsApartBehind, IsFirstEntered, IsLastEntered, IsNearBefore, IsNearBehind}
 use Rattle.slice_lists.specs.Slices.{entered_at, slices_between}
 use Rattle.slice_lists.proofs.SliceFacts.{entered_none, entered_one, entered_two, put_at_end, put_at_front, put_between, run_of}

@@ -15,7 +15,7 @@ use Rattle.std.proofs.lemmas.Map.Keys.{sorted_from_strictly_increasing, non_decr
 use Rattle.stream_base.specs.declared.kept.Kept.{Kept}
 use Rattle.stream_base.specs.Laws.{TimesDoNotFall}
 use Rattle.stream_base.specs.Model.Windows.{last_time}
-use Rattle.slice_lists.specs.Places.{IsPlaceOf}
+use Rattle.stream_base.specs.Places.{IsPlaceOf}
 
 -- some tuple, for lemmas that want one
 abbrev pub some_tuple : Kept

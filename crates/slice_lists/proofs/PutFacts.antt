@@ -10,10 +10,10 @@ use Rattle.stream_base.specs.Model.Cuts.{has_cut}
 use Rattle.stream_base.specs.Model.Journal.{put_in_order}
 use Rattle.stream_base.specs.Model.Slices.{runs_of}
 use Rattle.stream_base.specs.Model.Windows.{first_time}
+use Rattle.stream_base.specs.Places.{IsPlaceOf}
 use Rattle.slice_lists.specs.Runs.{AreRuns}
 use Rattle.slice_lists.proofs.RunEdits.{pieces_are_runs, runs_are_pieces}
 use Rattle.slice_lists.specs.Touched.{is_near}
-use Rattle.slice_lists.specs.Places.{IsPlaceOf}
 use Rattle.slice_lists.specs.Sides.{IsFirstEntered, IsLastEntered}
 use Rattle.slice_lists.specs.Slices.{AreSlices, CanEnter, Sliced, entered_at, joined, slices_between}
 use Rattle.slice_lists.proofs.NearFacts.{IsEdit, edit}

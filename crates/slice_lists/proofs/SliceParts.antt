@@ -8,8 +8,8 @@ use Rattle.std.proofs.lemmas.List.Elements.{All-append, All-head, All-tail, All-
 use Rattle.std.proofs.Math.Seq.{split_at, take-length}
 use Rattle.stream_base.specs.declared.kept.Kept.{Kept}
 use Rattle.stream_base.specs.Model.Windows.{first_time, last_time}
+use Rattle.stream_base.specs.Places.{IsPlaceOf}
 use Rattle.slice_lists.specs.Runs.{AreInOrder, IsRun}
-use Rattle.slice_lists.specs.Places.{IsPlaceOf}
 use Rattle.slice_lists.specs.Slices.{joined}
 use Rattle.slice_lists.proofs.PlaceFacts.{some_tuple}
 use Rattle.slice_lists.proofs.SliceEdits.{drop_own, take_own}

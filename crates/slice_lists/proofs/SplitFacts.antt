@@ -13,9 +13,9 @@ use Rattle.stream_base.specs.Laws.{TimesDoNotFall}
 use Rattle.stream_base.specs.Model.Windows.{first_time, last_time}
 use Rattle.slice_lists.specs.Runs.{AreInOrder, IsPartFrom, IsRun}
 use Rattle.stream_base.proofs.Filters.{filter_all, filter_none}
+use Rattle.stream_base.specs.Places.{IsPlaceOf}
 use Rattle.slice_lists.proofs.RunEdits.{parted, replaced}
 use Rattle.slice_lists.specs.declared.slice.Slice.{Slice}
-use Rattle.slice_lists.specs.Places.{IsPlaceOf}
 use Rattle.slice_lists.specs.Slices.{AreSlices, joined, slice_of, split_at}
 use Rattle.slice_lists.proofs.PlaceFacts.{last_is, some_tuple}
 use Rattle.slice_lists.proofs.SliceOrder.{IsApart, IsNear, times_of_order}

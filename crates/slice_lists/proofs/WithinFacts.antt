@@ -8,7 +8,7 @@ use Rattle.stream_base.specs.declared.kept.Kept.{Kept}
 use Rattle.stream_base.specs.Model.Windows.{first_time, is_within, last_time, within}
 use Rattle.slice_lists.specs.Runs.{AreInOrder, IsAligned, runs_within}
 use Rattle.stream_base.proofs.Filters.{filter_all, filter_none}
-use Rattle.slice_lists.specs.Places.{IsPlaceOf}
+use Rattle.stream_base.specs.Places.{IsPlaceOf}
 use Rattle.slice_lists.specs.Slices.{joined}
 use Rattle.slice_lists.proofs.SliceOrder.{first_below_last, run_above_first, run_below_last}
 

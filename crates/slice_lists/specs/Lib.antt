@@ -1,6 +1,5 @@
 pub mod Runs
 pub mod Slices
-pub mod Places
 pub mod Sides
 pub mod Touched
 pub mod Bounds

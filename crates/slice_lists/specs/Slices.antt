@@ -33,10 +33,6 @@ pub record Sliced : Type 0 where
   pub slices : List (List Kept)
   pub spare : ℕ
 
--- a tuple at a position
-abbrev pub kept_at : ℕ → ℕ → ℤ → Kept
-kept_at position time value = record { position = position; time = time; value = value }
-
 -- the slices from one place up to another
 abbrev pub slices_between : ℕ → ℕ → List (List Kept) → List (List Kept)
 slices_between from to slices = take (to - from) (drop from slices)

@@ -4,7 +4,7 @@ ghost use Rattle.std.specs.BTreeSet.{insert_key};
 ghost use Rattle.std.specs.List.{list_any};
 ghost use Rattle.std.specs.List.Sorted.{IsStrictlyIncreasing};
 ghost use Rattle.std.specs.Ordering.{nat_cmp};
-ghost use Rattle.slice_lists.specs.Places.{IsPlaceOf};
+ghost use Rattle.stream_base.specs.Places.{IsPlaceOf};
 ghost use Rattle.slice_lists.specs.Touched.{marks_left};
 ghost use Rattle.slice_runs.specs.Marked.{Reserves};
 

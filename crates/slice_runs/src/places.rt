@@ -1,7 +1,7 @@
 //! Places among slices, which are sorted by time.
 ghost use Rattle.std.specs.Prelude.{◌≡◌, ◌+◌, length, true};
 ghost use Rattle.std.specs.List.Sorted.{IsNonDecreasingBy};
-ghost use Rattle.slice_lists.specs.Places.{IsPlaceOf};
+ghost use Rattle.stream_base.specs.Places.{IsPlaceOf};
 
 use slice_lists::Slice;
 

@@ -1,11 +1,11 @@
 //! Tuples in event order, parted into slices.
 ghost use Rattle.std.specs.Prelude.{◌≡◌, ◌≤◌, ◌<◌, ◌+◌, [], length, drop, slice_index_or, nat_le, OnOk, IfSome, IfNone, All, false};
 ghost use Rattle.stream_base.specs.Model.Windows.{first_time, last_time};
+ghost use Rattle.stream_base.specs.Places.{IsPlaceOf};
 ghost use Rattle.slice_lists.specs.Runs.{IsAligned};
 ghost use Rattle.aggregates.specs.Bundled.{bundle_of};
 ghost use Rattle.slice_lists.specs.Touched.{is_across};
 ghost use Rattle.slice_lists.specs.Sides.{IsAcrossAt};
-ghost use Rattle.slice_lists.specs.Places.{IsPlaceOf};
 ghost use Rattle.slice_runs.specs.Begun.{AreBefore};
 ghost use Rattle.slice_lists.specs.Slices.{AreSlices, CanEnter, CanSplit, entered_at, joined, slice_of, split_at, values_of};
 

@@ -6,8 +6,8 @@ use Rattle.stream_base.specs.declared.def.Def.{Def}
 use Rattle.stream_base.specs.declared.kept.Kept.{Kept}
 use Rattle.stream_base.specs.Model.Cuts.{has_cut}
 use Rattle.stream_base.specs.Model.Windows.{first_time}
+use Rattle.stream_base.specs.Places.{IsPlaceOf}
 use Rattle.partials.specs.Apart.{SpendsNear}
-use Rattle.slice_lists.specs.Places.{IsPlaceOf}
 use Rattle.slice_lists.specs.Sides.{IsLastEntered}
 use Rattle.slice_lists.specs.Slices.{joined}
 use Rattle.slice_lists.specs.Touched.{is_near, slices_from}

@@ -7,8 +7,8 @@ use Rattle.std.proofs.lemmas.List.{length-drop, length-take}
 use Rattle.stream_base.specs.declared.kept.Kept.{Kept}
 use Rattle.stream_base.specs.Model.Windows.{first_time}
 use Rattle.stream_base.proofs.Filters.{filter_none}
+use Rattle.stream_base.specs.Places.{IsPlaceOf}
 use Rattle.slice_lists.specs.Runs.{runs_within}
-use Rattle.slice_lists.specs.Places.{IsPlaceOf}
 use Rattle.slice_lists.proofs.NearFacts.{stretch}
 
 abbrev begins_in : ℕ → ℕ → List Kept → Bool

@@ -15,6 +15,7 @@ use Rattle.stream_base.proofs.Distinct.{All_from_members}
 use Rattle.stream_base.proofs.EventOrder.{put_in_order_cons}
 use Rattle.stream_base.proofs.Members.{filter_members}
 use Rattle.stream_base.proofs.Rising.{Contains-cons_cases, Contains-head, Contains-insert_key, Contains-insert_key_self, Contains-tail, nat_rising_is_sorted, nat_rising_members, none_in_nil}
+use Rattle.key_parts.specs.Calls.{window_at}
 use Rattle.slice_lists.specs.Runs.{IsAligned}
 use Rattle.window_laws.proofs.InstanceFacts.{between_ends}
 use Rattle.slice_lists.proofs.Order.{All-map_of}
@@ -27,7 +28,7 @@ use Rattle.window_spans.specs.Parted.{back_of, first_or, front_of, head_before, 
 use Rattle.window_spans.specs.Spans.{head_standing, near_of, is_near, span_of, stands}
 use Rattle.context_windows.specs.Aligned.{IsOfSessions, IsOfWindows}
 use Rattle.context_windows.specs.Marked.{FollowsMarks, HoldsStretches, IsEdge, IsMarkedAsBefore, Marked, holder_in, parted_of, stretches_after, with_parts}
-use Rattle.context_windows.specs.Spanned.{Follows, IsAsBefore, IsSessionAt, Spanned, window_at}
+use Rattle.context_windows.specs.Spanned.{FollowsSessions, IsAsBefore, IsSessionAt, Spanned}
 use Rattle.slice_tests.specs.Together.{AreOfMarks, AreOfSessions}
 
 pub cut_for : (d : Definitions) (store : Stored) → AreWithinLimits d → IsStore store → IsSliced d.windows store → IsOfWindows d.windows store
@@ -55,7 +56,7 @@ sessions_stay d store new s t h b k = record {
   follows = record { in_order = rw b.slices h.follows.in_order; spans = rw (k.spans, k.forgotten, b.slices) h.follows.spans };
 }
 
-pub sessions_after_before : (gap : ℕ) (kept : List Kept) (s t : Spanned) → Follows gap kept s → t.spans ≡ s.spans → t.forgotten ≡ s.forgotten → Follows gap kept t
+pub sessions_after_before : (gap : ℕ) (kept : List Kept) (s t : Spanned) → FollowsSessions gap kept s → t.spans ≡ s.spans → t.forgotten ≡ s.forgotten → FollowsSessions gap kept t
 sessions_after_before gap kept s t f e k = record { in_order = f.in_order; spans = rw (e, k) f.spans }
 
 -- ---- intervals between marks

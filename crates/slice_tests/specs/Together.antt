@@ -4,13 +4,13 @@ use Rattle.stream_base.specs.declared.limits.TheConstants.{TIME_MAX}
 use Rattle.stream_base.specs.Limits.{Definitions}
 use Rattle.agg_store.specs.Stored.{IsSliced, Stored, tuples_of}
 use Rattle.context_windows.specs.Marked.{FollowsMarks, Marked}
-use Rattle.context_windows.specs.Spanned.{Follows, IsSessionAt, Spanned, gap_at}
+use Rattle.context_windows.specs.Spanned.{FollowsSessions, IsSessionAt, Spanned, gap_at}
 
 -- the sessions are those of all tuples in the store, whose slices are those of the definitions
 pub record AreOfSessions (d : Definitions) (store : Stored) (s : Spanned) : Type 0 where
   pub session : IsSessionAt d 0
   pub sliced : IsSliced d.windows store
-  pub follows : Follows (gap_at d 0) (tuples_of store) s
+  pub follows : FollowsSessions (gap_at d 0) (tuples_of store) s
 
 -- the intervals are those of all tuples and marks in the store, whose slices are those of the definitions
 pub record AreOfMarks (d : Definitions) (store : Stored) (s : Marked) : Type 0 where

@@ -1,8 +1,9 @@
 ghost use Rattle.std.specs.Prelude.{◌≡◌, ◌≤◌, IfOk, true};
 ghost use Rattle.stream_base.specs.declared.limits.TheConstants.{TIME_MAX};
 ghost use Rattle.stream_base.specs.Kinds.{is_timed};
+ghost use Rattle.stream_base.specs.Model.Moments.{IsWater};
 ghost use Rattle.agg_store.specs.Stored.{IsSliced};
-ghost use Rattle.time_lanes.specs.Spans.{IsWater, is_served};
+ghost use Rattle.time_lanes.specs.Spans.{is_served};
 
 use crate::told::{Work, again, new};
 use agg_laws::{AggQueue, AggTree, Steps};

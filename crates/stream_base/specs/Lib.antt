@@ -6,3 +6,4 @@ pub mod Model
 pub mod Examples
 pub mod Laws
 pub mod Vectors
+pub mod Places

@@ -6,6 +6,7 @@ pub mod Journal
 pub mod Routes
 pub mod Windows
 pub mod Changes
+pub mod Moments
 pub mod Text
 pub mod Journals
 pub mod Slices

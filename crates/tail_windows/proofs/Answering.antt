@@ -15,7 +15,7 @@ use Rattle.stream_base.specs.Model.Journal.{kept_of, put_in_order}
 use Rattle.stream_base.specs.Model.Watermark.{water_of}
 use Rattle.stream_base.specs.Model.What.{is_late, is_progress, key_in}
 use Rattle.watermark_table.specs.Watched as table
-use Rattle.tail_windows.specs.Following.{Followed, Follows, IsOfSame, StandsFor, changes_behind, lateness_of, list_of, number_of_sources}
+use Rattle.tail_windows.specs.Following.{Followed, FollowsEntry, IsOfSame, StandsFor, changes_behind, lateness_of, list_of, number_of_sources}
 use Rattle.tail_windows.specs.Samples.{put_sample, sample_at, sample_of, samples_of}
 use Rattle.tail_windows.specs.Tails.{tail_changes_between}
 use Rattle.tail_windows.specs.Walks.{HasAppended, moved_changes}
@@ -45,7 +45,7 @@ unchanged : (f : Followed) → IsOfSame f f
 unchanged f = record { def = refl; lateness = refl; sources = refl }
 
 -- after want of memory nothing is done
-pub nothing_follows : {E : Type 0} (f : Followed) (e : Entry) (before : List TailChange) (steps : ℕ) (x : E) → Follows f e (Err x) f before before steps steps
+pub nothing_follows : {E : Type 0} (f : Followed) (e : Entry) (before : List TailChange) (steps : ℕ) (x : E) → FollowsEntry f e (Err x) f before before steps steps
 nothing_follows f e before steps x = record {
   same = unchanged f;
   stands = λ j s. tt;
@@ -58,7 +58,7 @@ module _ {E : Type 0} (f : Followed) (e : Entry) (before : List TailChange) (ste
   -- a late entry is dropped
   pub late_follows : (key : List ℕ) (answer : Result (Unit {0}) E) (after : List TailChange) → key_in e.what ≡ Some key
       → ((journal : List Entry) → StandsFor f journal → is_late (lateness_of f) (water_of (number_of_sources f) journal) e.what ≡ true)
-      → OnOk answer (after ≡ before ++ Dropped ∷ []) → HasAppended (f.def).count before after steps steps → Follows f e answer f before after steps steps
+      → OnOk answer (after ≡ before ++ Dropped ∷ []) → HasAppended (f.def).count before after steps steps → FollowsEntry f e answer f before after steps steps
   late_follows key answer after keyed late dropped appended = record {
     same = unchanged f;
     stands = λ j s. on_ok answer (StandsFor f (j ++ e ∷ [])) (stands_behind_late f j e s key keyed (late j s));
@@ -71,7 +71,7 @@ module _ {E : Type 0} (f : Followed) (e : Entry) (before : List TailChange) (ste
   -- a mark that isn't late changes nothing
   pub mark_follows : (key : List ℕ) (time : ℕ) (answer : Result (Unit {0}) E) → e.what ≡ Mark key time
       → ((journal : List Entry) → StandsFor f journal → is_late (lateness_of f) (water_of (number_of_sources f) journal) e.what ≡ false)
-      → HasAppended (f.def).count before before steps steps → Follows f e answer f before before steps steps
+      → HasAppended (f.def).count before before steps steps → FollowsEntry f e answer f before before steps steps
   mark_follows key time answer is on_time appended = record {
     same = unchanged f;
     stands = λ j s. on_ok answer (StandsFor f (j ++ e ∷ [])) (stands_behind_mark f j e s key time is);
@@ -90,7 +90,7 @@ module _ {E : Type 0} (f : Followed) (e : Entry) (before : List TailChange) (ste
         → ((other : List ℕ) → OnErr answer (list_of lists other ≡ list_of f.lists other))
         → ((kept : List Kept) (x : Kept) → samples_of kept ≡ list_of f.lists key → sample_of x ≡ record { time = time; value = value } → All (λ y. y.position < x.position) kept
         → OnOk answer (after ≡ before ++ tail_changes_between f.def key kept water (put_in_order kept x) water))
-        → Follows f e answer (record { def = f.def; waters = f.waters; lists = lists }) before after steps later
+        → FollowsEntry f e answer (record { def = f.def; waters = f.waters; lists = lists }) before after steps later
     tuple_follows key time value water lists is on_time at put refused changes = record {
       same = record { def = refl; lateness = refl; sources = refl };
       stands = λ j s. taken answer put j s;
@@ -121,7 +121,7 @@ module _ {E : Type 0} (f : Followed) (e : Entry) (before : List TailChange) (ste
         → ((other : List ℕ) → OnErr answer (list_of lists other ≡ list_of f.lists other))
         → ((kept : List Kept) (x : Kept) → samples_of kept ≡ list_of f.lists key → sample_of x ≡ s → All (λ y. y.position < x.position) kept
         → OnOk answer (after ≡ before ++ tail_changes_between f.def key kept water (put_in_order kept x) water))
-        → Follows f e answer (record { def = f.def; waters = f.waters; lists = lists }) before after steps later
+        → FollowsEntry f e answer (record { def = f.def; waters = f.waters; lists = lists }) before after steps later
     sample_follows s key time value water lists same is on_time at put refused changes =
         tuple_follows key time value water lists is on_time at
         (λ other. subst (λ (t : Sample). OnOk answer (list_of lists other ≡ cond (is_at (slice_cmp nat_cmp key) other) (put_sample (list_of f.lists key) t) (list_of f.lists other))) same (put other))
@@ -130,7 +130,7 @@ module _ {E : Type 0} (f : Followed) (e : Entry) (before : List TailChange) (ste
   -- a word on progress is taken in
   word_taken : (after : List TailChange) (later : ℕ) (new : table.Watched) (water : ℕ) → is_progress e.what ≡ true → table.HasTaken f.waters e new water → HasAppended (f.def).count before after steps later
       → ((journal : List Entry) → StandsFor f journal → StandsFor f journal → after ≡ before ++ changes_behind f journal e)
-      → Follows {E = E} f e (Ok tt) (record { def = f.def; waters = new; lists = f.lists }) before after steps later
+      → FollowsEntry {E = E} f e (Ok tt) (record { def = f.def; waters = new; lists = f.lists }) before after steps later
   word_taken after later new water word takes appended changes = record {
     same = record { def = refl; lateness = (takes.same).lateness; sources = (takes.same).sources };
     stands = λ j s. stands_behind_word f j e s new word takes.same (takes.stands j s.waters);
@@ -142,10 +142,10 @@ module _ {E : Type 0} (f : Followed) (e : Entry) (before : List TailChange) (ste
 -- so is it for a follower that is told in another way
 pub word_follows : {E : Type 0} (f h : Followed) → f ≡ h → (e : Entry) (before : List TailChange) (steps : ℕ) (after : List TailChange) (later : ℕ) (new : table.Watched) (water : ℕ) → HasAppended (h.def).count before after steps later → is_progress e.what ≡ true → table.HasTaken f.waters e new water
     → ((journal : List Entry) → StandsFor f journal → StandsFor h journal → after ≡ before ++ changes_behind h journal e)
-    → Follows {E = E} h e (Ok tt) (record { def = f.def; waters = new; lists = f.lists }) before after steps later
+    → FollowsEntry {E = E} h e (Ok tt) (record { def = f.def; waters = new; lists = f.lists }) before after steps later
 word_follows {E} f h same e before steps after later new water appended word takes changes =
     subst (λ (k : Followed). HasAppended (k.def).count before after steps later → ((journal : List Entry) → StandsFor f journal → StandsFor k journal → after ≡ before ++ changes_behind k journal e)
-    → Follows {E = E} k e (Ok tt) (record { def = f.def; waters = new; lists = f.lists }) before after steps later) same
+    → FollowsEntry {E = E} k e (Ok tt) (record { def = f.def; waters = new; lists = f.lists }) before after steps later) same
     (word_taken f e before steps after later new water word takes) appended changes
 
 -- what a move of the watermark brings of the keys that are due is what a word on progress does

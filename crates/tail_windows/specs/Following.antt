@@ -68,7 +68,7 @@ abbrev pub ForEachMove : Followed → ℕ → (List Entry → Entry → Type 0) 
 ForEachMove f water holds = (journal : List Entry) (e : Entry) → StandsFor f journal → is_progress e.what ≡ true → water ≡ water_of (number_of_sources f) (journal ++ e ∷ []) → holds journal e
 
 -- an entry comes to each journal for which a follower stands, and its changes are appended, with so many steps at most for each as tuples are selected; or it stands for the journals of before
-pub record Follows {E : Type 0} (old : Followed) (e : Entry) (answer : Result (Unit {0}) E) (new : Followed) (before after : List TailChange) (steps later : ℕ) : Type 0 where
+pub record FollowsEntry {E : Type 0} (old : Followed) (e : Entry) (answer : Result (Unit {0}) E) (new : Followed) (before after : List TailChange) (steps later : ℕ) : Type 0 where
   pub same : IsOfSame old new
   pub stands : (journal : List Entry) → StandsFor old journal → OnOk answer (StandsFor new (journal ++ e ∷ []))
   pub changes : (journal : List Entry) → StandsFor old journal → OnOk answer (after ≡ before ++ changes_behind old journal e)

@@ -5,7 +5,7 @@ ghost use Rattle.stream_base.specs.declared.entry.Entry.{Entry};
 ghost use Rattle.stream_base.specs.declared.limits.TheConstants.{TIME_MAX};
 ghost use Rattle.stream_base.specs.declared.what.What.TheVariants.{Tuple, Mark};
 ghost use Rattle.watermark_table.specs.Watched.{end_entry, idle_entry, water_entry};
-ghost use Rattle.tail_windows.specs.Following.{Follows, ForEachMove, IsOfSame, StandsFor, changes_behind, lateness_of, number_of_sources, time_in};
+ghost use Rattle.tail_windows.specs.Following.{FollowsEntry, ForEachMove, IsOfSame, StandsFor, changes_behind, lateness_of, number_of_sources, time_in};
 ghost use Rattle.tail_windows.specs.Walks.{HasAppended, IsTailDef};
 ghost use Rattle.tail_windows.specs.declared.change.TailChange.TheVariants.{Dropped};
 
@@ -103,7 +103,7 @@ impl Tails {
     ) -> Result<(), NoMemory>
         requires source { (entry.now).source < number_of_sources self.old }
         requires time { time_in (entry.now).what ≤ TIME_MAX }
-        ensures { Follows self.old entry.now result self.new out.old.items out.new.items
+        ensures { FollowsEntry self.old entry.now result self.new out.old.items out.new.items
             steps.old steps.new }
     {
         match entry.what {
@@ -125,7 +125,7 @@ impl Tails {
     ) -> Result<(), NoMemory>
         requires { time ≤ TIME_MAX }
         ensures { (e : Entry) → e.what ≡ Tuple key.now time value
-            → Follows self.old e result self.new out.old.items out.new.items
+            → FollowsEntry self.old e result self.new out.old.items out.new.items
             steps.old steps.new }
     {
         if self.is_late(time) {
@@ -149,7 +149,7 @@ impl Tails {
             → nat_lt (time + lateness_of self.old)
             (water_of (number_of_sources self.old) journal) ≡ false }
         ensures { (e : Entry) → e.what ≡ Tuple key.now time value
-            → Follows self.old e result self.new out.old.items out.new.items
+            → FollowsEntry self.old e result self.new out.old.items out.new.items
             steps.old steps.new }
     {
         let water = self.waters.water();
@@ -161,7 +161,7 @@ impl Tails {
     // A mark that isn't late changes nothing.
     fn take_mark(&mut self, time: u64, out: &mut Vec<TailChange>) -> Result<(), NoMemory>
         ensures { (e : Entry) (key : List ℕ) (steps : ℕ) → e.what ≡ Mark key time
-            → Follows self.old e result self.new out.old.items out.new.items steps steps }
+            → FollowsEntry self.old e result self.new out.old.items out.new.items steps steps }
     {
         if self.is_late(time) {
             append_dropped(out)
@@ -179,7 +179,7 @@ impl Tails {
     ) -> Result<(), NoMemory>
         requires source { source < number_of_sources self.old }
         requires time { time ≤ TIME_MAX }
-        ensures { Follows self.old (water_entry source time) result self.new
+        ensures { FollowsEntry self.old (water_entry source time) result self.new
             out.old.items out.new.items steps.old steps.new }
     {
         let water = self.waters.after(source, time);
@@ -196,7 +196,7 @@ impl Tails {
         steps: &mut Steps<L>,
     ) -> Result<(), NoMemory>
         requires { source < number_of_sources self.old }
-        ensures { Follows self.old (idle_entry source) result self.new
+        ensures { FollowsEntry self.old (idle_entry source) result self.new
             out.old.items out.new.items steps.old steps.new }
     {
         let water = self.waters.after_idle(source);
@@ -213,7 +213,7 @@ impl Tails {
         steps: &mut Steps<L>,
     ) -> Result<(), NoMemory>
         requires { source < number_of_sources self.old }
-        ensures { Follows self.old (end_entry source) result self.new
+        ensures { FollowsEntry self.old (end_entry source) result self.new
             out.old.items out.new.items steps.old steps.new }
     {
         let water = self.waters.after(source, FINAL);

@@ -10,14 +10,15 @@ use Rattle.stream_base.specs.declared.kept.Kept.{Kept}
 use Rattle.stream_base.specs.declared.kind.Kind.{Kind}
 use Rattle.stream_base.specs.Laws.{completions}
 use Rattle.stream_base.specs.Kinds.{is_timed, length_of, slide_of}
+use Rattle.stream_base.specs.Model.Moments.{moment}
 use Rattle.slice_lists.specs.Runs.{AreInOrder, runs_within}
 use Rattle.window_laws.specs.Walk.{due_from, next_start}
 use Rattle.window_laws.proofs.WalkFacts.{to_next}
 use Rattle.agg_store.specs.Stored.{Stored}
 use Rattle.time_lanes.specs.Held.{Holding, HoldsFrom, partials_of}
-use Rattle.time_lanes.specs.Lane.{Knows, KnowsAll, Laned, fresh_partials, fresh_to}
+use Rattle.time_lanes.specs.Lane.{Knows, MissesNoSlice, Laned, fresh_partials, fresh_to}
 use Rattle.time_lanes.specs.Told.{new_at}
-use Rattle.time_lanes.specs.Moves.{AreApartAbove, moment}
+use Rattle.time_lanes.specs.Moves.{AreApartAbove}
 use Rattle.time_lanes.specs.Spans.{IsEdge, IsSpan, last_end}
 use Rattle.time_lanes.proofs.MoveFacts.{completions_told}
 use Rattle.time_lanes.proofs.Ranges.{fewer_from, none_turned, number_in_two}
@@ -182,7 +183,7 @@ none_missed_at kind len slide l m water slices to h =
     (λ i. runs_within to (last_end (sym l i) (sym m i) water) slices) ∙ none_turned to (last_end len slide water) slices h
 
 -- and none in the beginning
-pub missed_at : {M : Type 0} (kind : Kind) (len slide : ℕ) → len ≡ length_of kind → slide ≡ slide_of kind → (water : ℕ) (s : Stored) (lane : Laned M) → KnowsAll kind water s lane → runs_within (fresh_to lane) (last_end len slide water) s.slices ≡ []
+pub missed_at : {M : Type 0} (kind : Kind) (len slide : ℕ) → len ≡ length_of kind → slide ≡ slide_of kind → (water : ℕ) (s : Stored) (lane : Laned M) → MissesNoSlice kind water s lane → runs_within (fresh_to lane) (last_end len slide water) s.slices ≡ []
 missed_at kind len slide l m water s lane k =
     ap (λ b. runs_within (cond b 0 lane.to) (last_end len slide water) s.slices) k.fresh
     ∙ (λ i. runs_within lane.to (last_end (l i) (m i) water) s.slices)

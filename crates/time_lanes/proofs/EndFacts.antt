@@ -5,11 +5,11 @@ use Rattle.stream_base.specs.declared.def.Def.{Def}
 use Rattle.stream_base.specs.declared.kept.Kept.{Kept}
 use Rattle.stream_base.specs.declared.limits.TheConstants.{FINAL}
 use Rattle.stream_base.specs.Kinds.{IsKindWithin, is_timed, length_of, slide_of}
+use Rattle.stream_base.specs.Model.Moments.{moment}
 use Rattle.window_laws.specs.Due.{first_open}
 use Rattle.window_laws.specs.Walk.{IsFirstFrom, next_start, next_start_of}
 use Rattle.window_laws.proofs.NextFacts.{next_of_timed, none_next_of_timed}
 use Rattle.time_lanes.specs.Held.{IsEndFrom}
-use Rattle.time_lanes.specs.Moves.{moment}
 
 -- that is the bound of the first interval that isn't complete
 pub end_is_open : (d : Def) (length slide start end : ℕ) (kept : List Kept) (marks : List ℕ) (water : ℕ) → is_timed d.kind ≡ true → IsKindWithin d.kind → length ≡ length_of d.kind → slide ≡ slide_of d.kind → start ≡ next_start length slide water → IsEndFrom length slide kept start end → end ≡ first_open (moment kept marks water) d

@@ -18,6 +18,7 @@ use Rattle.stream_base.specs.Model.Journal.{put_in_order}
 use Rattle.stream_base.specs.Model.Windows.{interval, is_selecting, is_within, starts_holding, within}
 use Rattle.stream_base.proofs.Members.{filter_members, map_same}
 use Rattle.stream_base.proofs.Spans.{starts_holding_members}
+use Rattle.stream_base.specs.Model.Moments.{moment}
 use Rattle.window_laws.specs.After.{with_tuple}
 use Rattle.window_laws.specs.Late.{late_change}
 use Rattle.window_laws.proofs.LateFacts.{timed_late_emissions}
@@ -27,7 +28,6 @@ use Rattle.agg_store.specs.Stored.{Stored, tuples_of}
 use Rattle.time_lanes.specs.Joined.{is_order_free, joined_at}
 use Rattle.time_lanes.specs.Told.{again_or_new, complete_starts, former_at, former_if, starts_from, told_at, told_late}
 use Rattle.time_lanes.specs.Late.{AreApartAt, IsLate, complete_holding, formers_of}
-use Rattle.time_lanes.specs.Moves.{moment}
 use Rattle.time_lanes.specs.Spans.{IsSpan}
 use Rattle.time_lanes.proofs.JoinedFacts.{joined_is_told}
 

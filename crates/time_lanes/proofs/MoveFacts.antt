@@ -21,10 +21,11 @@ use Rattle.stream_base.specs.Model.Windows.{instances_of, interval, is_within, s
 use Rattle.stream_base.proofs.Members.{filter_has, filter_members, map_same}
 use Rattle.stream_base.proofs.Rising.{none_in_nil, same_members_same_list}
 use Rattle.stream_base.proofs.Spans.{starts_of_has, starts_of_is_sorted, starts_of_members}
+use Rattle.stream_base.specs.Model.Moments.{moment}
 use Rattle.window_laws.specs.Walk.{due_from, next_start, next_start_of}
 use Rattle.window_laws.proofs.WalkFacts.{completed_from, to_next}
 use Rattle.time_lanes.specs.Told.{new_at}
-use Rattle.time_lanes.specs.Moves.{AreApartAbove, completed_starts, moment}
+use Rattle.time_lanes.specs.Moves.{AreApartAbove, completed_starts}
 use Rattle.time_lanes.specs.Spans.{IsSpan}
 use Rattle.time_lanes.proofs.LateFacts.{nothing_dropped, over}
 

@@ -26,8 +26,8 @@ use Rattle.slice_lists.specs.Slices.{joined}
 use Rattle.agg_store.specs.Stored.{IsSliced, IsStore, Stored}
 use Rattle.slice_lists.proofs.SliceOrder.{IsApart, IsNear, first_below_last, times_of_order}
 use Rattle.time_lanes.specs.Held.{partials_of}
-use Rattle.time_lanes.specs.Lane.{IsAsBefore, IsSameUpTo, Knows, KnowsAll, Laned}
-use Rattle.time_lanes.specs.Spans.{ArePartedAt, IsEdge, IsWindowAt, last_end, last_end_of}
+use Rattle.time_lanes.specs.Lane.{IsAsBefore, IsSameUpTo, Knows, MissesNoSlice, Laned}
+use Rattle.time_lanes.specs.Spans.{ArePartedAt, IsEdge, IsWindowAt, last_end, last_end_by}
 use Rattle.time_lanes.proofs.Ranges.{begins_in, before_it, behind_it, passed, skipped}
 use Rattle.time_lanes.proofs.ServedFacts.{parted_at_edges, stands_among}
 
@@ -169,16 +169,16 @@ last_edge len slide time = by (cases_lt time len)
     by (inl l) = inl (ap (λ b. cond b 0 ((time - len) / slide * slide + len)) (lt-ltb time len l))
     by (inr l) = inr ((time - len) / slide, ap (λ b. cond b 0 ((time - len) / slide * slide + len)) (le-ltb time len l))
 
-pub knows_all_stays : {M : Type 0} (kind : Kind) (water time : ℕ) (old new : Stored) (lane : Laned M) → IsSameUpTo kind time old new → last_end_of kind water ≤ time → KnowsAll kind water old lane → KnowsAll kind water new lane
+pub knows_all_stays : {M : Type 0} (kind : Kind) (water time : ℕ) (old new : Stored) (lane : Laned M) → IsSameUpTo kind time old new → last_end_by kind water ≤ time → MissesNoSlice kind water old lane → MissesNoSlice kind water new lane
 knows_all_stays kind water time old new lane same l k = record {
   fresh = k.fresh;
-  none_missed = same lane.to (last_end_of kind water) (last_edge (length_of kind) (slide_of kind) water) l ∙ k.none_missed;
+  none_missed = same lane.to (last_end_by kind water) (last_edge (length_of kind) (slide_of kind) water) l ∙ k.none_missed;
 }
 
-pub last_by : (kind : Kind) (water : ℕ) → last_end_of kind water ≤ water
+pub last_by : (kind : Kind) (water : ℕ) → last_end_by kind water ≤ water
 last_by kind water = by (cases_lt water (length_of kind))
   where
-    by : (water < length_of kind) ⊎ (length_of kind ≤ water) → last_end_of kind water ≤ water
+    by : (water < length_of kind) ⊎ (length_of kind ≤ water) → last_end_by kind water ≤ water
     by (inl l) = omega (arith, ap (λ b. cond b 0 ((water - length_of kind) / slide_of kind * slide_of kind + length_of kind)) (lt-ltb water (length_of kind) l))
     by (inr l) = omega (arith, ap (λ b. cond b 0 ((water - length_of kind) / slide_of kind * slide_of kind + length_of kind)) (le-ltb water (length_of kind) l), div-mul-le_self (water - length_of kind) (slide_of kind))
 
@@ -189,20 +189,20 @@ neither false b e = (refl, e)
 
 pub knows_touched : {M : Type 0} {of_values : List ℤ → M} (kind : Kind) (water time : ℕ) (old new : Stored) (lane after : Laned M) → IsSameUpTo kind time old new → after.stale ≡ (lane.stale || nat_lt time lane.to) → after.partials ≡ lane.partials → after.to ≡ lane.to → Knows of_values kind water old lane → Knows of_values kind water new after
 knows_touched {M} {of_values} kind water time old new lane after same s p t k = record {
-  reached = subst (λ n. n ≤ last_end_of kind water) (sym t) k.reached;
+  reached = subst (λ n. n ≤ last_end_by kind water) (sym t) k.reached;
   edge = subst (IsEdge (length_of kind) (slide_of kind)) (sym t) k.edge;
   held = λ f.
       let n = neither lane.stale (nat_lt time lane.to) (sym s ∙ f) in
       p ∙ k.held n.0 ∙ ap (partials_of of_values) (sym (same (next_start_of kind water) lane.to k.edge (ltb-false time lane.to n.1)) ∙ ap (λ n. runs_within (next_start_of kind water) n new.slices) (sym t));
 }
 
-pub knows_all_touched : {M : Type 0} {of_values : List ℤ → M} (kind : Kind) (water time : ℕ) (old new : Stored) (lane after : Laned M) → IsSameUpTo kind time old new → last_end_of kind water ≤ time → after.stale ≡ (lane.stale || nat_lt time lane.to) → after.to ≡ lane.to → Knows of_values kind water old lane → KnowsAll kind water old lane → KnowsAll kind water new after
+pub knows_all_touched : {M : Type 0} {of_values : List ℤ → M} (kind : Kind) (water time : ℕ) (old new : Stored) (lane after : Laned M) → IsSameUpTo kind time old new → last_end_by kind water ≤ time → after.stale ≡ (lane.stale || nat_lt time lane.to) → after.to ≡ lane.to → Knows of_values kind water old lane → MissesNoSlice kind water old lane → MissesNoSlice kind water new after
 knows_all_touched kind water time old new lane after same l s t k a =
     let n = knows_all_stays kind water time old new lane same l a in
     let r = k.reached in
     record {
       fresh = s ∙ (λ i. n.fresh i || le-ltb time lane.to (omega arith) i);
-      none_missed = ap (λ n. runs_within n (last_end_of kind water) new.slices) t ∙ n.none_missed;
+      none_missed = ap (λ n. runs_within n (last_end_by kind water) new.slices) t ∙ n.none_missed;
     }
 
 -- ---- a purge
@@ -230,22 +230,22 @@ knows_purged {M} {of_values} kind water time old new lane is l k = record {
   held = λ f. k.held f ∙ ap (partials_of of_values) (sym (ap (runs_within (next_start_of kind water) lane.to) is ∙ purge_stays (next_start_of kind water) lane.to time old.slices l));
 }
 
-pub knows_all_purged : {M : Type 0} (kind : Kind) (water time : ℕ) (old new : Stored) (lane : Laned M) → new.slices ≡ slices_from time old.slices → KnowsAll kind water old lane → KnowsAll kind water new lane
+pub knows_all_purged : {M : Type 0} (kind : Kind) (water time : ℕ) (old new : Stored) (lane : Laned M) → new.slices ≡ slices_from time old.slices → MissesNoSlice kind water old lane → MissesNoSlice kind water new lane
 knows_all_purged kind water time old new lane is k = record {
   fresh = k.fresh;
-  none_missed = ap (runs_within lane.to (last_end_of kind water)) is ∙ none_left lane.to (last_end_of kind water) time old.slices k.none_missed;
+  none_missed = ap (runs_within lane.to (last_end_by kind water)) is ∙ none_left lane.to (last_end_by kind water) time old.slices k.none_missed;
 }
 
 -- ---- room
 pub knows_with_room : {M : Type 0} {of_values : List ℤ → M} (kind : Kind) (water : ℕ) (s : Stored) (old new : Laned M) → IsAsBefore old new → Knows of_values kind water s old → Knows of_values kind water s new
 knows_with_room {M} {of_values} kind water s old new b k = record {
-  reached = subst (λ n. n ≤ last_end_of kind water) (sym b.to) k.reached;
+  reached = subst (λ n. n ≤ last_end_by kind water) (sym b.to) k.reached;
   edge = subst (IsEdge (length_of kind) (slide_of kind)) (sym b.to) k.edge;
   held = λ f. b.partials ∙ k.held (sym b.stale ∙ f) ∙ ap (λ n. partials_of of_values (runs_within (next_start_of kind water) n s.slices)) (sym b.to);
 }
 
-pub knows_all_with_room : {M : Type 0} (kind : Kind) (water : ℕ) (s : Stored) (old new : Laned M) → IsAsBefore old new → KnowsAll kind water s old → KnowsAll kind water s new
+pub knows_all_with_room : {M : Type 0} (kind : Kind) (water : ℕ) (s : Stored) (old new : Laned M) → IsAsBefore old new → MissesNoSlice kind water s old → MissesNoSlice kind water s new
 knows_all_with_room kind water s old new b k = record {
   fresh = b.stale ∙ k.fresh;
-  none_missed = ap (λ n. runs_within n (last_end_of kind water) s.slices) b.to ∙ k.none_missed;
+  none_missed = ap (λ n. runs_within n (last_end_by kind water) s.slices) b.to ∙ k.none_missed;
 }

@@ -1,10 +1,11 @@
 -- When a lane may be called, and what it costs to append.
 use Rattle.std.specs.Prelude.{◌≡◌, ◌≤◌, ◌+◌, ◌-◌, ◌*◌, ℕ, true, List, Vec, vec_capacity, vec_len}
+use Rattle.stream_base.specs.Model.Moments.{IsWater}
 use Rattle.stream_base.specs.declared.def.Def.{Def}
 use Rattle.stream_base.specs.declared.func.Func.{Func}
 use Rattle.stream_base.specs.declared.limits.TheConstants.{TIME_MAX}
 use Rattle.agg_store.specs.Stored.{Stored}
-use Rattle.time_lanes.specs.Spans.{IsServedOver, IsWater, IsWindowAt, is_served}
+use Rattle.time_lanes.specs.Spans.{IsServedOver, IsWindowAt, is_served}
 
 -- of the window at a place
 abbrev pub OfWindow : List Def → ℕ → (Def → Type 0) → Type 0

@@ -4,9 +4,9 @@ use Rattle.stream_base.specs.declared.def.Def.{Def}
 use Rattle.stream_base.specs.declared.former.Former.{Former}
 use Rattle.stream_base.specs.declared.kept.Kept.{Kept}
 use Rattle.stream_base.specs.Model.Changes.{Moment}
+use Rattle.stream_base.specs.Model.Moments.{moment}
 use Rattle.agg_store.specs.Stored.{Stored, tuples_of}
 use Rattle.time_lanes.specs.Late.{AreApartAt, IsLate}
-use Rattle.time_lanes.specs.Moves.{moment}
 use Rattle.time_lanes.specs.Spans.{IsWindowAt}
 
 -- of the window at a place, each key at a watermark, and each tuple of a time

@@ -6,7 +6,7 @@ use Rattle.slice_lists.specs.Runs.{runs_within}
 use Rattle.window_laws.specs.Walk.{next_start_of}
 use Rattle.agg_store.specs.Stored.{Stored}
 use Rattle.time_lanes.specs.Held.{partials_of}
-use Rattle.time_lanes.specs.Spans.{IsEdge, last_end_of}
+use Rattle.time_lanes.specs.Spans.{IsEdge, last_end_by}
 
 -- the partials of the slices that it holds, oldest first; up to where it holds them; whether one of them has changed since; for how many more there is room; and what is left of the steps that were paid for
 pub record Laned (M : Type 0) : Type 0 where
@@ -25,15 +25,15 @@ fresh_to lane = if lane.stale then 0 else lane.to
 
 -- what a lane knows of the slices at a watermark: unless it is stale, it holds the partials of those that the next interval needs, up to an end that the watermark has reached
 pub record Knows {M : Type 0} (of_values : List ℤ → M) (kind : Kind) (water : ℕ) (s : Stored) (lane : Laned M) : Type 0 where
-  pub reached : lane.to ≤ last_end_of kind water
+  pub reached : lane.to ≤ last_end_by kind water
   pub edge : IsEdge (length_of kind) (slide_of kind) lane.to
   pub held : lane.stale ≡ false
       → lane.partials ≡ partials_of of_values (runs_within (next_start_of kind water) lane.to s.slices)
 
 -- and it misses none of those in the intervals that are complete
-pub record KnowsAll {M : Type 0} (kind : Kind) (water : ℕ) (s : Stored) (lane : Laned M) : Type 0 where
+pub record MissesNoSlice {M : Type 0} (kind : Kind) (water : ℕ) (s : Stored) (lane : Laned M) : Type 0 where
   pub fresh : lane.stale ≡ false
-  pub none_missed : runs_within lane.to (last_end_of kind water) s.slices ≡ []
+  pub none_missed : runs_within lane.to (last_end_by kind water) s.slices ≡ []
 
 -- where it knows the slices at a watermark, it knows them after at another
 abbrev pub KnowsOn : {M : Type 0} → (List ℤ → M) → Kind → Stored → ℕ → ℕ → Laned M → Laned M → Type 0

@@ -6,15 +6,12 @@ use Rattle.stream_base.specs.declared.kind.Kind.{Kind}
 use Rattle.stream_base.specs.Model.Changes.{Moment}
 use Rattle.stream_base.specs.Model.Windows.{within}
 use Rattle.stream_base.specs.Kinds.{length_of, slide_of}
+use Rattle.stream_base.specs.Model.Moments.{moment}
 use Rattle.slice_lists.specs.Runs.{runs_within}
 use Rattle.window_laws.specs.Walk.{due_from, next_start_of}
 use Rattle.agg_store.specs.Stored.{Stored, tuples_of}
-use Rattle.time_lanes.specs.Lane.{Knows, KnowsAll, Laned, fresh_to}
-use Rattle.time_lanes.specs.Spans.{IsWindowAt, last_end_of}
-
--- a key's tuples and marks under a watermark
-abbrev pub moment : List Kept → List ℕ → ℕ → Moment
-moment kept marks water = record { kept = kept; marks = marks; water = water }
+use Rattle.time_lanes.specs.Lane.{Knows, MissesNoSlice, Laned, fresh_to}
+use Rattle.time_lanes.specs.Spans.{IsWindowAt, last_end_by}
 
 -- the starts of the intervals that a move completes
 abbrev pub completed_starts : Kind → List Kept → ℕ → ℕ → List ℕ
@@ -31,7 +28,7 @@ taken_from kind lane old = max (next_start_of kind old) (fresh_to lane)
 
 -- the slices that a lane takes up in a move
 abbrev pub slices_due : {M : Type 0} → Kind → Laned M → Stored → ℕ → ℕ → List (List Kept)
-slices_due kind lane s old new = runs_within (taken_from kind lane old) (last_end_of kind new) s.slices
+slices_due kind lane s old new = runs_within (taken_from kind lane old) (last_end_by kind new) s.slices
 
 -- it has room for them
 abbrev pub HasRoomFor : {M : Type 0} → Kind → Stored → ℕ → ℕ → Laned M → Type 0
@@ -39,16 +36,16 @@ HasRoomFor kind s old new lane = length (slices_due kind lane s old new) ≤ lan
 
 -- the slices in the intervals that end behind a watermark, up to another
 abbrev pub slices_between : Kind → Stored → ℕ → ℕ → List (List Kept)
-slices_between kind s old new = runs_within (last_end_of kind old) (last_end_of kind new) s.slices
+slices_between kind s old new = runs_within (last_end_by kind old) (last_end_by kind new) s.slices
 
 -- the slices in the last interval that is complete at a watermark
 abbrev pub slices_in_last : Kind → Stored → ℕ → List (List Kept)
 slices_in_last kind s water =
-    runs_within (last_end_of kind water - length_of kind) (last_end_of kind water) s.slices
+    runs_within (last_end_by kind water - length_of kind) (last_end_by kind water) s.slices
 
 -- the slices from the first interval on that is open at a watermark, up to the end of the last one that is complete at another
 abbrev pub slices_until : Kind → Stored → ℕ → ℕ → List (List Kept)
-slices_until kind s old new = runs_within (next_start_of kind old) (last_end_of kind new) s.slices
+slices_until kind s old new = runs_within (next_start_of kind old) (last_end_by kind new) s.slices
 
 -- none of the tuples that were dropped lies in an interval of the window that ends above a time
 abbrev pub AreApartAbove : Kind → ℕ → List Kept → Type 0
@@ -76,7 +73,7 @@ AtMoments windows window s water Holds =
 abbrev pub ByCompleted : {M : Type 0} → (List ℤ → M) → List Def → ℕ → Stored → ℕ → ℕ → Laned M → (ℕ → ℕ → Type 0) → Type 0
 ByCompleted of_values windows window s old new lane Holds =
     (def : Def) → IsWindowAt windows window def → Knows of_values def.kind old s lane
-    → KnowsAll def.kind old s lane
+    → MissesNoSlice def.kind old s lane
     → Holds (length (slices_between def.kind s old new)) (row_count def.kind s old new)
 
 -- the same where its lane knows the slices: with those in the last interval that was complete before

@@ -4,7 +4,7 @@ use Rattle.std.specs.Option.{option_map_or}
 use Rattle.stream_base.specs.declared.def.Def.{Def}
 use Rattle.stream_base.specs.declared.kept.Kept.{Kept}
 use Rattle.stream_base.specs.declared.kind.Kind.{Kind}
-use Rattle.stream_base.specs.declared.limits.TheConstants.{FINAL, TIME_MAX}
+use Rattle.stream_base.specs.declared.limits.TheConstants.{TIME_MAX}
 use Rattle.stream_base.specs.Laws.{TimesDoNotFall}
 use Rattle.stream_base.specs.Kinds.{is_timed, length_of, slide_of}
 use Rattle.agg_store.specs.Stored.{IsSliced, Stored}
@@ -24,10 +24,6 @@ pub record IsServedOver (windows : List Def) (window : ℕ) (s : Stored) : Type 
   pub served : is_served windows window ≡ true
   pub sliced : IsSliced windows s
 
--- a watermark: a time, or the final one
-abbrev pub IsWater : ℕ → Type 0
-IsWater water = (water ≤ TIME_MAX) ⊎ (water ≡ FINAL)
-
 -- intervals move on, overlap or touch, and are no longer than times are great
 pub record IsSpan (length slide : ℕ) : Type 0 where
   pub moves : 1 ≤ slide
@@ -40,8 +36,8 @@ last_end length slide time =
     if nat_lt time length then 0 else (time - length) / slide * slide + length
 
 -- the same of a window that is tumbling or sliding
-abbrev pub last_end_of : Kind → ℕ → ℕ
-last_end_of kind time = last_end (length_of kind) (slide_of kind) time
+abbrev pub last_end_by : Kind → ℕ → ℕ
+last_end_by kind time = last_end (length_of kind) (slide_of kind) time
 
 -- 0, or the end of an interval
 abbrev pub IsEdge : ℕ → ℕ → ℕ → Type 0

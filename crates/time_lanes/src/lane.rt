@@ -11,10 +11,10 @@ ghost use Rattle.window_laws.specs.Settled.{last_end_of as last_end_holding_of};
 ghost use Rattle.window_laws.specs.Walk.{next_start_of};
 ghost use Rattle.agg_store.specs.Stored.{IsSliced, Stored};
 ghost use Rattle.time_lanes.specs.Calls.{AppendsWithin, GrowsBy, IsServedUnder, MayComeTo, MayFollow, MayHold, OfWindow, ShowsWindow};
-ghost use Rattle.time_lanes.specs.Lane.{HasMoreRoom, HoldsTheSame, IsRefreshed, Knows, KnowsAll, KnowsOn};
+ghost use Rattle.time_lanes.specs.Lane.{HasMoreRoom, HoldsTheSame, IsRefreshed, Knows, MissesNoSlice, KnowsOn};
 ghost use Rattle.time_lanes.specs.Late.{formers_of, number_holding};
 ghost use Rattle.time_lanes.specs.Joined.{is_order_free};
-ghost use Rattle.time_lanes.specs.Spans.{is_served, last_end_of};
+ghost use Rattle.time_lanes.specs.Spans.{is_served, last_end_by};
 ghost use Rattle.time_lanes.specs.Moves.{AtMoments, ByCompleted, ByOpen, ByTouched, HasRoomFor, WhereMayMove, row_count};
 ghost use Rattle.time_lanes.specs.Comes.{OfEachTuple, WhereApart, WhereLate};
 ghost use Rattle.time_lanes.specs.Shared.{SharesAt};
@@ -69,7 +69,7 @@ impl<M: Partial, Q: AggQueue<M>> Lane<M, Q> {
         ensures knows { (kind : Kind) (water : ℕ) (s : Stored) → s.slices ≡ []
             → Knows M.of_values kind water s result }
         ensures knows_all { (kind : Kind) (water : ℕ) (s : Stored) → s.slices ≡ []
-            → KnowsAll kind water s result }
+            → MissesNoSlice kind water s result }
     {
         Lane {
             held: Held::new(alloc),
@@ -138,7 +138,7 @@ impl<M: Partial, Q: AggQueue<M>> Lane<M, Q> {
         ensures knows { OfWindow defs.now.windows window
             (λ w. KnowsOn M.of_values w.kind (S.stored store.now) old new self.old self.new) }
         ensures knows_all { OfWindow defs.now.windows window
-            (λ w. KnowsAll w.kind new (S.stored store.now) self.new) }
+            (λ w. MissesNoSlice w.kind new (S.stored store.now) self.new) }
         ensures number { OfWindow defs.now.windows window
             (λ w. GrowsBy (row_count w.kind (S.stored store.now) old new) out.old out.new) }
         ensures capacity { vec_capacity out.new ≡ vec_capacity out.old }
@@ -314,9 +314,9 @@ impl<M: Partial, Q: AggQueue<M>> Lane<M, Q> {
         ensures knows { WhereSameUpTo time
             (λ kind water old new. Knows M.of_values kind water old self.old
             → Knows M.of_values kind water new self.new) }
-        ensures knows_all { WhereSameUpTo time (λ kind water old new. last_end_of kind water ≤ time
-            → Knows M.of_values kind water old self.old → KnowsAll kind water old self.old
-            → KnowsAll kind water new self.new) }
+        ensures knows_all { WhereSameUpTo time (λ kind water old new. last_end_by kind water ≤ time
+            → Knows M.of_values kind water old self.old → MissesNoSlice kind water old self.old
+            → MissesNoSlice kind water new self.new) }
     {
         self.stale = self.stale || time < self.held.to();
     }

@@ -6,7 +6,7 @@ ghost use Rattle.stream_base.specs.declared.kept.Kept.{Kept};
 ghost use Rattle.slice_lists.specs.Runs.{parted_at};
 ghost use Rattle.window_laws.specs.Walk.{next_start_of};
 ghost use Rattle.agg_store.specs.Entered.{IsPut};
-ghost use Rattle.time_lanes.specs.Lane.{IsSameUpTo, Knows, KnowsAll, KnowsOn};
+ghost use Rattle.time_lanes.specs.Lane.{IsSameUpTo, Knows, MissesNoSlice, KnowsOn};
 ghost use Rattle.time_lanes.specs.Stays.{LastsAhead, LastsPurged, LastsWithRoom, WhereComes, WhereNothingCompletes, WherePurged};
 
 use aggregates::Partial;
@@ -23,20 +23,20 @@ pub fn what_comes_leaves_earlier_slices()
 /// of the complete intervals.
 pub fn lane_knows_what_comes_at_the_watermark<M: Partial>()
     ensures knows { LastsAhead M (Knows M.of_values) }
-    ensures knows_all { LastsAhead M KnowsAll }
+    ensures knows_all { LastsAhead M MissesNoSlice }
 {}
 
 /// Where slices are dropped that lie before the next start, a lane goes on to know the others.
 pub fn lane_knows_what_a_purge_leaves<M: Partial>()
     ensures knows { WherePurged M (λ kind water time old new lane. time ≤ next_start_of kind water
         → Knows M.of_values kind water old lane → Knows M.of_values kind water new lane) }
-    ensures knows_all { LastsPurged M KnowsAll }
+    ensures knows_all { LastsPurged M MissesNoSlice }
 {}
 
 /// Room makes no difference to what a lane knows.
 pub fn lane_with_more_room_knows_the_same<M: Partial>()
     ensures knows { LastsWithRoom M (Knows M.of_values) }
-    ensures knows_all { LastsWithRoom M KnowsAll }
+    ensures knows_all { LastsWithRoom M MissesNoSlice }
 {}
 
 /// Where a move of the watermark completes no interval, a lane that isn't told of it knows the slices

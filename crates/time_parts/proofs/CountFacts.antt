@@ -21,9 +21,10 @@ use Rattle.stream_base.specs.Model.Windows.{Instance, instances_of, standing_of}
 use Rattle.window_laws.specs.After.{with_mark, with_tuple}
 use Rattle.window_laws.specs.Due.{first_open}
 use Rattle.window_laws.specs.Counts as whole
+use Rattle.stream_base.specs.Model.Moments.{moment}
 use Rattle.window_laws.proofs.NextFacts.{next_of_counts}
-use Rattle.count_shift.specs.Counting.{IsNextPosition, count_of, moment, next_filled, upper}
-use Rattle.count_shift.specs.Lane.{Follows, HasMoreRoom, Laned}
+use Rattle.count_shift.specs.Counting.{IsNextPosition, count_of, next_filled, upper}
+use Rattle.count_shift.specs.Lane.{FollowsTuples, HasMoreRoom, Laned}
 use Rattle.count_shift.proofs.Behind.{follows_later, follows_with_room}
 use Rattle.time_lanes.proofs.WalkFacts.{one_time_more}
 use Rattle.key_parts.specs.Calls.{window_at, window_kind}
@@ -73,28 +74,28 @@ counted_row (Events count) reach t = refl
 
 -- ---- the tuples of its lane
 -- it has those that come behind the watermark minus the lateness, and at later times
-pub follows_from : (d : Definitions) (window : ℕ) (m : Moment) (lane now : Laned) (count time : ℕ) → lane ≡ now → count ≡ count_of (window_kind d window) → m.water - d.lateness ≤ time → Counts d window m now → Follows count time m.kept lane
+pub follows_from : (d : Definitions) (window : ℕ) (m : Moment) (lane now : Laned) (count time : ℕ) → lane ≡ now → count ≡ count_of (window_kind d window) → m.water - d.lateness ≤ time → Counts d window m now → FollowsTuples count time m.kept lane
 follows_from d window m lane now count time is counts le stood =
-    subst (λ l. Follows count time m.kept l) (sym is)
-    (subst (λ k. Follows k time m.kept now) (sym counts) (follows_later (count_of (window_kind d window)) (m.water - d.lateness) time m.kept now le stood.follows))
+    subst (λ l. FollowsTuples count time m.kept l) (sym is)
+    (subst (λ k. FollowsTuples k time m.kept now) (sym counts) (follows_later (count_of (window_kind d window)) (m.water - d.lateness) time m.kept now le stood.follows))
 
 pub counts_with_room : (d : Definitions) (window : ℕ) (m : Moment) (old new : Laned) → HasMoreRoom old new → Counts d window m old → Counts d window m new
 counts_with_room d window m old new same stood = record { counts = stood.counts; follows = follows_with_room (count_of (window_kind d window)) (m.water - d.lateness) m.kept old new same stood.follows }
 
 -- and where those leave that no tuple shifts
-pub counts_without : (d : Definitions) (window : ℕ) (m : Moment) (old new : Laned) (count time : ℕ) → count ≡ count_of (window_kind d window) → time ≡ m.water - d.lateness → ((kept : List Kept) → Follows count time kept old → Follows count time kept new) → Counts d window m old → Counts d window m new
+pub counts_without : (d : Definitions) (window : ℕ) (m : Moment) (old new : Laned) (count time : ℕ) → count ≡ count_of (window_kind d window) → time ≡ m.water - d.lateness → ((kept : List Kept) → FollowsTuples count time kept old → FollowsTuples count time kept new) → Counts d window m old → Counts d window m new
 counts_without d window m old new count time counts at on stood = record {
   counts = stood.counts;
-  follows = subst (λ t. Follows (count_of (window_kind d window)) t m.kept new) at
-      (subst (λ k. Follows k time m.kept new) counts (on m.kept (subst (λ k. Follows k time m.kept old) (sym counts) (subst (λ t. Follows (count_of (window_kind d window)) t m.kept old) (sym at) stood.follows))));
+  follows = subst (λ t. FollowsTuples (count_of (window_kind d window)) t m.kept new) at
+      (subst (λ k. FollowsTuples k time m.kept new) counts (on m.kept (subst (λ k. FollowsTuples k time m.kept old) (sym counts) (subst (λ t. FollowsTuples (count_of (window_kind d window)) t m.kept old) (sym at) stood.follows))));
 }
 
 -- and one tuple more
 pub counts_put : (d : Definitions) (window : ℕ) (m : Moment) (x : Kept) (old new : Laned) (count : ℕ) → count ≡ count_of (window_kind d window) → m.water ≤ x.time + d.lateness
-    → ((kept : List Kept) (from : ℕ) → from ≤ x.time → Follows count from kept old → Follows count from (put_in_order kept x) new) → Counts d window m old → Counts d window (with_tuple m x) new
+    → ((kept : List Kept) (from : ℕ) → from ≤ x.time → FollowsTuples count from kept old → FollowsTuples count from (put_in_order kept x) new) → Counts d window m old → Counts d window (with_tuple m x) new
 counts_put d window m x old new count counts in_time on stood = record {
   counts = stood.counts;
-  follows = subst (λ k. Follows k (m.water - d.lateness) (put_in_order m.kept x) new) counts (on m.kept (m.water - d.lateness) (omega arith) (subst (λ k. Follows k (m.water - d.lateness) m.kept old) (sym counts) stood.follows));
+  follows = subst (λ k. FollowsTuples k (m.water - d.lateness) (put_in_order m.kept x) new) counts (on m.kept (m.water - d.lateness) (omega arith) (subst (λ k. FollowsTuples k (m.water - d.lateness) m.kept old) (sym counts) stood.follows));
 }
 
 -- its tuples have positions of their own

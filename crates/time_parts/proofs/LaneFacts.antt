@@ -28,12 +28,12 @@ use Rattle.window_laws.specs.Due.{first_open}
 use Rattle.window_laws.proofs.InstanceFacts.{bounds_do_not_fall}
 use Rattle.window_laws.proofs.LateFacts.{timed_none_gone}
 use Rattle.stream_base.proofs.Filters.{filter_none}
+use Rattle.stream_base.specs.Model.Moments.{moment}
 use Rattle.slice_lists.proofs.Order.{nd_head, nd_tail}
 use Rattle.window_laws.proofs.SettledFacts.{all_member}
 use Rattle.agg_store.specs.Stored.{Stored, tuples_of}
 use Rattle.time_lanes.specs.Told.{former_at}
 use Rattle.time_lanes.specs.Late.{IsLate, complete_holding, formers_of}
-use Rattle.time_lanes.specs.Moves.{moment}
 use Rattle.key_parts.specs.Calls.{window_at, window_kind}
 use Rattle.key_parts.specs.Moves.{Comes, IsPutStep, IsStored}
 use Rattle.key_parts.specs.Moves.Comes.{Enters, Leaves}

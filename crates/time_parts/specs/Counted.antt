@@ -7,7 +7,7 @@ use Rattle.stream_base.specs.Model.Changes.{Moment}
 use Rattle.stream_base.specs.Kinds.{is_events}
 use Rattle.window_laws.specs.After.{at_water}
 use Rattle.count_shift.specs.Counting.{count_of, later, move_changes, put_changes}
-use Rattle.count_shift.specs.Lane.{Follows, Laned}
+use Rattle.count_shift.specs.Lane.{FollowsTuples, Laned}
 use Rattle.count_shift.proofs.Behind.{follows_later}
 use Rattle.key_parts.specs.Calls.{window_kind}
 
@@ -19,7 +19,7 @@ CountsAt d window =
 -- the window counts events, and the lane has the tuples of a key, but for whole first instances that lie at or before the watermark minus the lateness: no tuple that is still accepted shifts them
 pub record Counts (d : Definitions) (window : ℕ) (m : Moment) (lane : Laned) : Type 0 where
   pub counts : CountsAt d window
-  pub follows : Follows (count_of (window_kind d window)) (m.water - d.lateness) m.kept lane
+  pub follows : FollowsTuples (count_of (window_kind d window)) (m.water - d.lateness) m.kept lane
 
 -- how many instances a tuple at a time changes
 abbrev pub shift_room : Definitions → ℕ → ℕ → ℕ → Laned → ℕ

@@ -12,10 +12,10 @@ use Rattle.slice_lists.specs.Runs.{runs_within}
 use Rattle.window_laws.specs.Walk.{next_start_of}
 use Rattle.agg_store.specs.Stored.{IsAsBefore, IsStore, Stored, tuples_of}
 use Rattle.time_lanes.specs.Held.{partials_of}
-use Rattle.time_lanes.specs.Lane.{Knows, KnowsAll, Laned}
+use Rattle.time_lanes.specs.Lane.{Knows, MissesNoSlice, Laned}
 use Rattle.time_lanes.specs.Late.{complete_holding, formers_of}
 use Rattle.time_lanes.specs.Moves.{completed_starts, slices_between, slices_due, slices_in_last}
-use Rattle.time_lanes.specs.Spans.{is_served, last_end_of}
+use Rattle.time_lanes.specs.Spans.{is_served, last_end_by}
 use Rattle.time_lanes.proofs.StayFacts.{last_by}
 use Rattle.time_lanes.proofs.WaitFacts.{serves_on as lane_serves_on}
 use Rattle.key_parts.specs.Calls.{window_at, window_kind}
@@ -64,11 +64,11 @@ open_from d window water = next_start_of (window_kind d window) (water - d.laten
 
 -- the end of the last interval that is complete at a watermark, and 0 where there is none
 abbrev pub complete_up_to : Definitions → ℕ → ℕ → ℕ
-complete_up_to d window water = last_end_of (window_kind d window) water
+complete_up_to d window water = last_end_by (window_kind d window) water
 
 -- the lane misses none of the slices in the intervals that are complete at a watermark
 abbrev pub MissesNone : {M : Type 0} → Definitions → ℕ → ℕ → Stored → Laned M → Type 0
-MissesNone d window water s lane = KnowsAll (window_kind d window) water s lane
+MissesNone d window water s lane = MissesNoSlice (window_kind d window) water s lane
 
 -- how many slices lie in the intervals that a move completes
 abbrev pub slices_completed : Definitions → ℕ → Stored → ℕ → ℕ → ℕ
@@ -94,7 +94,7 @@ serves_with_room {M} {serves} {of_values} d window m s more lane same stood = re
 pub misses_with_room : {M : Type 0} (d : Definitions) (window water : ℕ) (s more : Stored) (lane : Laned M) → IsAsBefore s more → MissesNone d window water s lane → MissesNone d window water more lane
 misses_with_room d window water s more lane same ahead = record {
   fresh = ahead.fresh;
-  none_missed = ap (runs_within lane.to (last_end_of (window_kind d window) water)) same.slices ∙ ahead.none_missed;
+  none_missed = ap (runs_within lane.to (last_end_by (window_kind d window) water)) same.slices ∙ ahead.none_missed;
 }
 
 -- what is complete at a watermark ends by it

@@ -4,7 +4,7 @@ use Rattle.std.specs.Prelude.{min, nat_le, nat_lt}
 use Rattle.std.proofs.lemmas.Bool.{le-leb, lt-ltb, le-ltb, lt-leb, and_from, and_left, and_right}
 use Rattle.stream_base.specs.declared.kept.Kept.{Kept}
 use Rattle.stream_base.specs.Model.Windows.{is_within, within}
-use Rattle.slice_lists.specs.Places.{IsPlaceOf}
+use Rattle.stream_base.specs.Places.{IsPlaceOf}
 use Rattle.slice_lists.proofs.NearFacts.{stretch}
 use Rattle.slice_lists.proofs.PlaceFacts.{some_tuple}
 

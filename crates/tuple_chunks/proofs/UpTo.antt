@@ -3,7 +3,7 @@ use Rattle.std.proofs.Common.{◌≡◌, ◌+◌, ◌<◌, ◌≤◌, ℕ, true,
 use Rattle.std.specs.Prelude.{nat_le}
 use Rattle.std.specs.List.Sorted.{IsPartitionPoint}
 use Rattle.std.proofs.lemmas.Bool.{leb-false, leb-true}
-use Rattle.slice_lists.specs.Places.{IsPlaceOf}
+use Rattle.stream_base.specs.Places.{IsPlaceOf}
 
 -- so many elements lie at or before a time
 pub place_up_to : {X : Type 0} (time_of : X → ℕ) (xs : List X) (time place : ℕ) → place ≤ length xs → IsPartitionPoint (λ y. nat_le (time_of y) time ≡ true) (λ y. nat_le (time_of y) time ≡ false) xs place → IsPlaceOf time_of xs (time + 1) place

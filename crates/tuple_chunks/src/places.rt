@@ -3,7 +3,7 @@ ghost use Rattle.std.specs.Prelude.{◌≡◌, ◌≤◌, ◌<◌, nat_lt, nat_l
 ghost use Rattle.std.specs.List.{position_or_len};
 ghost use Rattle.stream_base.specs.Laws.{TimesDoNotFall};
 ghost use Rattle.stream_base.specs.Model.Windows.{last_time};
-ghost use Rattle.slice_lists.specs.Places.{IsPlaceOf};
+ghost use Rattle.stream_base.specs.Places.{IsPlaceOf};
 
 use stream_base::Kept;
 

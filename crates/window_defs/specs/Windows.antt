@@ -1,5 +1,5 @@
 -- How an element of the array of windows reads as a window.
-use Rattle.std.specs.Prelude.{ℕ, ℤ, pos, negsuc, Bool, false, ◌||◌, List, Option, None, Some, if◌then◌else◌, codes}
+use Rattle.std.specs.Prelude.{◌≡◌, ℕ, ℤ, pos, negsuc, Bool, false, ◌||◌, List, Option, None, Some, if◌then◌else◌, codes}
 use Rattle.std.specs.Option.{option_and_then}
 use Rattle.std.specs.Str.{bytes_eq}
 use Rattle.toml.specs.Data.{Data, Members, as_table}
@@ -43,6 +43,22 @@ func_named word =
     else if bytes_eq word (codes "rises") then Some Rises
     else if bytes_eq word (codes "trace") then Some Trace
     else None
+
+-- and the word of each
+abbrev pub func_word : Func → List ℕ
+func_word Count = codes "count"
+func_word Sum = codes "sum"
+func_word Min = codes "min"
+func_word Max = codes "max"
+func_word Mean = codes "mean"
+func_word First = codes "first"
+func_word Last = codes "last"
+func_word Rises = codes "rises"
+func_word Trace = codes "trace"
+
+-- the word of some function
+abbrev pub IsFunc : List ℕ → Type 0
+IsFunc word = (func : Func) × (word ≡ func_word func)
 
 -- a key of the numbers of a kind
 abbrev pub is_number_key : KindName → List ℕ → Bool

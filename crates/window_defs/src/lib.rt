@@ -16,4 +16,4 @@ mod window;
 pub use defs_fault::DefsFault;
 pub use limits::bytes_max_is_this_number;
 pub use read::{BYTES_MAX, read_defs};
-pub use window::first_in_trouble_is_named;
+pub use window::{first_in_trouble_is_named, func_named};

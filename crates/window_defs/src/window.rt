@@ -1,9 +1,9 @@
 //! How an element of the array of windows reads as a window.
-ghost use Rattle.std.specs.Prelude.{◌≡◌, ◌≤◌, ◌↔◌, List, length, map, Err};
+ghost use Rattle.std.specs.Prelude.{◌≡◌, ◌≤◌, ◌↔◌, List, length, map, Err, IfSome, IfNone};
 ghost use Rattle.toml.specs.Data.{Data};
 ghost use Rattle.toml.specs.View.{view, table_view};
 ghost use Rattle.window_defs.specs.Tables.{has_other};
-ghost use Rattle.window_defs.specs.Windows.{kind_named, func_named, is_number_key, is_window_key, raw_kind_of, raw_window_of, natural, within_limits, kind_of, def_of};
+ghost use Rattle.window_defs.specs.Windows.{IsFunc, kind_named, func_named, func_word, is_number_key, is_window_key, raw_kind_of, raw_window_of, natural, within_limits, kind_of, def_of};
 ghost use Rattle.window_defs.specs.Reading.{Gives, window_at, windows_from};
 ghost use Rattle.window_defs.specs.Trouble.{IsOfFirstInTrouble};
 ghost use Rattle.window_defs.specs.declared.defs_fault.DefsFault.{DefsFault};
@@ -94,8 +94,11 @@ fn kind_named(word: &str) -> Option<KindName>
     }
 }
 
-fn func_named(word: &str) -> Option<Func>
-    ensures { result ≡ func_named word.now }
+/// The function that a word names.
+pub fn func_named(word: &str) -> Option<Func>
+    ensures value { result ≡ func_named word.now }
+    ensures some { IfSome result (λ func. word.now ≡ func_word func) }
+    ensures none { IfNone result (¬ (IsFunc word.now)) }
 {
     match word {
         "count" => Some(Func::Count),

@@ -8,10 +8,10 @@ use Rattle.std.proofs.lemmas.List.{get_or_default}
 use Rattle.std.proofs.lemmas.List.Elements.{All-head, All-tail}
 use Rattle.stream_base.specs.declared.limits.TheConstants.{FINAL}
 use Rattle.stream_base.proofs.Members.{filter_has}
+use Rattle.stream_base.specs.Places.{IsPlaceOf}
 use Rattle.window_laws.specs.Stretches.{last_mark, next_mark}
 use Rattle.window_laws.proofs.DueFacts.{least_below, least_of}
 use Rattle.window_laws.proofs.StretchFacts.{most_of}
-use Rattle.slice_lists.specs.Places.{IsPlaceOf}
 use Rattle.slice_lists.proofs.PlaceFacts.{marks_do_not_fall}
 use Rattle.window_spans.proofs.Apart.{All_filtered}
 

@@ -3,8 +3,8 @@ ghost use Rattle.std.specs.Prelude.{◌≡◌, ◌≤◌, ◌<◌, ◌+◌, ◌*
 ghost use Rattle.std.specs.BTreeSet.{insert_key};
 ghost use Rattle.std.specs.List.Sorted.{IsNonDecreasing, IsStrictlyIncreasing};
 ghost use Rattle.std.specs.Ordering.{nat_cmp};
+ghost use Rattle.stream_base.specs.Places.{IsPlaceOf};
 ghost use Rattle.window_laws.specs.Stretches.{last_mark, next_mark};
-ghost use Rattle.slice_lists.specs.Places.{IsPlaceOf};
 ghost use Rattle.slice_lists.specs.Touched.{marks_left};
 ghost use Rattle.window_spans.specs.Parted.{AreMarks, holder_of};
 

@@ -1,7 +1,7 @@
 -- No session starts between the last tuple before the time and the end of its session.
 use Rattle.std.proofs.Common.{◌≡◌, ◌-◌, suc, take, drop, subst, sym, arith}
+use Rattle.stream_base.specs.Places.{IsPlaceOf}
 use Rattle.stream_base.specs.declared.kept.Kept.{Kept}
-use Rattle.plain_windows.specs.Places.{IsPlaceOf}
 use Rattle.plain_windows.proofs.RunFacts.{sessions_behind}
 use Rattle.plain_windows.proofs.sessions.start_behind.Goals as goal
 

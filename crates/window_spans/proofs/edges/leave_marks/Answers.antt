@@ -4,7 +4,7 @@ use Rattle.std.specs.Prelude.{nat_le}
 use Rattle.std.specs.List.{filter}
 use Rattle.std.specs.List.Sorted.{IsNonDecreasing}
 use Rattle.std.proofs.lemmas.Fn.{filter_same}
-use Rattle.slice_lists.specs.Places.{IsPlaceOf}
+use Rattle.stream_base.specs.Places.{IsPlaceOf}
 use Rattle.slice_lists.proofs.LeaveFacts.{last_left, last_read_is, none_to_leave}
 use Rattle.slice_lists.proofs.PlaceFacts.{marks_do_not_fall}
 use Rattle.window_spans.proofs.edges.leave_marks.Goals as goal

@@ -1,7 +1,7 @@
 -- Slices part at all edges, and in the interval that is asked the store holds all.
 use Rattle.std.proofs.Common.{◌≤◌, ◌-◌, arith, subst, sym}
+use Rattle.key_parts.specs.Calls.{window_at}
 use Rattle.context_windows.specs.Marked.{RemembersHolder, asked_at}
-use Rattle.context_windows.specs.Spanned.{window_at}
 use Rattle.context_windows.proofs.Edges.{asked_edged, edged_aligned, marks_held, parts_at_edges}
 use Rattle.context_windows.proofs.OfMarks.{spans_edged, stretches_held}
 use Rattle.context_windows.proofs.Rest.{rest_held, rest_windows}

@@ -3,7 +3,7 @@ use Rattle.std.proofs.Common.{◌≡◌, ◌-◌, arith, rules, subst, sym}
 use Rattle.window_laws.specs.After.{at_water}
 use Rattle.window_laws.specs.Settled.{without_first}
 use Rattle.window_spans.specs.Ahead.{start_after}
-use Rattle.context_windows.specs.Spanned.{window_at}
+use Rattle.key_parts.specs.Calls.{window_at}
 use Rattle.key_parts.specs.Moves.{SettlesUpTo}
 use Rattle.context_windows.proofs.OfMarks.{stretches_settle}
 use Rattle.context_windows.proofs.mark_part.MarkPartKeyPart.first_unsettled.Goals as goal

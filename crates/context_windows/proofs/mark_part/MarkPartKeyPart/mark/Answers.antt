@@ -2,9 +2,10 @@
 use Rattle.std.proofs.Common.{◌∙◌, ◌++◌, ◌≤◌, ◌-◌, arith, ap, drop}
 use Rattle.std.specs.BTreeSet.{insert_key}
 use Rattle.std.specs.Ordering.{nat_cmp}
+use Rattle.key_parts.specs.Calls.{window_at}
 use Rattle.window_laws.specs.After.{with_mark}
 use Rattle.context_windows.specs.Marked.{marks_window, parted_of, with_parts}
-use Rattle.context_windows.specs.Spanned.{changes_of, window_at}
+use Rattle.context_windows.specs.Spanned.{changes_of}
 use Rattle.context_windows.proofs.Edges.{edged_aligned, marks_marked, parts_at_edges, parts_edged}
 use Rattle.context_windows.proofs.OfMarks.{left_held, marks_window_is, spans_edged, stretches_held}
 use Rattle.context_windows.proofs.Rest.{rest_marked, rest_windows}

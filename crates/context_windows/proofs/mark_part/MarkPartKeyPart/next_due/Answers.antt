@@ -2,8 +2,8 @@
 use Rattle.std.proofs.Common.{◌∙◌, ◌<◌, ◌≤◌, length, arith, ap, sym}
 use Rattle.std.proofs.lemmas.List.{nil_from_length}
 use Rattle.stream_base.specs.Laws.{completions}
+use Rattle.key_parts.specs.Calls.{window_at}
 use Rattle.window_spans.specs.Spans.{due_of}
-use Rattle.context_windows.specs.Spanned.{window_at}
 use Rattle.context_windows.proofs.Stretching.{marks_due_length}
 use Rattle.context_windows.proofs.Dues.{some_due}
 use Rattle.context_windows.proofs.OfMarks.{marks_window_is}

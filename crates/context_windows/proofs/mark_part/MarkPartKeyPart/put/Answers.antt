@@ -1,8 +1,9 @@
 -- The store holds all of the interval that the tuple enters.
 use Rattle.std.proofs.Common.{◌∙◌, ◌++◌, ◌≤◌, ◌+◌, ◌-◌, ◌*◌, arith, ap, refl, subst, sym, drop, vec_len, zero-le}
+use Rattle.key_parts.specs.Calls.{window_at}
 use Rattle.window_laws.specs.After.{with_tuple}
 use Rattle.context_windows.specs.Marked.{FollowsMarks, RemembersHolder, entered_at, marks_window}
-use Rattle.context_windows.specs.Spanned.{changes_of, window_at}
+use Rattle.context_windows.specs.Spanned.{changes_of}
 use Rattle.context_windows.proofs.Enough.{holder_alike}
 use Rattle.context_windows.proofs.Edges.{edged_aligned, entered_edged, marks_with, parts_at_edges}
 use Rattle.context_windows.proofs.OfMarks.{marks_window_is, marks_work, no_events, spans_edged, stretches_held}

@@ -1,9 +1,9 @@
 -- In the intervals that are due the store holds all that was kept.
 use Rattle.std.proofs.Common.{◌∙◌, ◌++◌, ◌≤◌, ◌-◌, arith, ap}
 use Rattle.stream_base.specs.Laws.{completions}
+use Rattle.key_parts.specs.Calls.{window_at}
 use Rattle.window_spans.specs.Spans.{due_of}
 use Rattle.context_windows.specs.Marked.{marks_window}
-use Rattle.context_windows.specs.Spanned.{window_at}
 use Rattle.context_windows.proofs.Edges.{due_edged, edged_aligned, marks_held, parts_at_edges}
 use Rattle.context_windows.proofs.OfMarks.{marks_window_is, spans_edged, stretches_held}
 use Rattle.context_windows.proofs.Rest.{rest_held, rest_windows}

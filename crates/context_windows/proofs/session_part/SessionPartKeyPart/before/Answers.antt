@@ -1,6 +1,7 @@
 -- Slices part at the sessions of all that was kept, and in those that are asked the store holds all.
 use Rattle.std.proofs.Common.{◌≤◌, ◌-◌, arith, subst, sym}
-use Rattle.context_windows.specs.Spanned.{HasAsked, Remembers, gap_at, window_at}
+use Rattle.key_parts.specs.Calls.{window_at}
+use Rattle.context_windows.specs.Spanned.{HasAsked, Remembers, gap_at}
 use Rattle.context_windows.proofs.Aligning.{asked_aligned}
 use Rattle.context_windows.proofs.OfSessions.{of_sessions, sessions_held}
 use Rattle.context_windows.proofs.Rest.{rest_held}

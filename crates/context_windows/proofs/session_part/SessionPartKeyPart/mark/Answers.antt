@@ -1,6 +1,6 @@
 -- A mark changes no session.
 use Rattle.std.proofs.Common.{◌++◌, ◌∙◌, ap, append-nil, sym}
-use Rattle.context_windows.specs.Spanned.{window_at}
+use Rattle.key_parts.specs.Calls.{window_at}
 use Rattle.context_windows.proofs.OfSessions.{none_changed}
 use Rattle.context_windows.proofs.session_part.SessionPartKeyPart.mark.Goals as goal
 

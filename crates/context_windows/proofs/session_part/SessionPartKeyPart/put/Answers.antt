@@ -1,8 +1,9 @@
 -- The store holds all of the session that the tuple makes.
 use Rattle.std.proofs.Common.{◌≤◌, ◌+◌, ◌-◌, ◌*◌, arith, refl, subst, sym, drop, length, vec_len, zero-le}
 use Rattle.std.proofs.Math.Nat.{mul-le-mul_left}
+use Rattle.key_parts.specs.Calls.{window_at}
 use Rattle.window_spans.specs.Spans.{told_at}
-use Rattle.context_windows.specs.Spanned.{Follows, Remembers, gap_at, window_at}
+use Rattle.context_windows.specs.Spanned.{FollowsSessions, Remembers, gap_at}
 use Rattle.context_windows.proofs.Aligning.{told_aligned}
 use Rattle.window_laws.specs.After.{with_tuple}
 use Rattle.context_windows.proofs.OfSessions.{no_events, of_sessions, session_work, sessions_held, told_once}
@@ -32,7 +33,7 @@ returns-clause-stands g c = λ m n before more t.
       session = t.stood.session;
       shown = t.stood.shown;
       follows = c.put.ensures.follows m.kept x t.stood.follows open_ refl;
-      left = subst (λ l. Follows (gap_at d c.args.window) l c.put.new.self) (left_with d m n before x more (g.S.AggStore.stored c.args.store.now) w (is_window d c.args.window at.within) (no_events w.kind at.session) t.step) (c.put.ensures.follows (drop n m.kept) x t.stood.left open_ refl);
+      left = subst (λ l. FollowsSessions (gap_at d c.args.window) l c.put.new.self) (left_with d m n before x more (g.S.AggStore.stored c.args.store.now) w (is_window d c.args.window at.within) (no_events w.kind at.session) t.step) (c.put.ensures.follows (drop n m.kept) x t.stood.left open_ refl);
       bounded = subst (λ n. n ≤ m.water - d.lateness) (sym c.put.ensures.takes.forgotten) t.stood.bounded;
     }
 

@@ -1,7 +1,8 @@
 -- The last session that holds a tuple at a time is the last one that starts by it.
 use Rattle.std.proofs.Common.{◌+◌, ◌-◌, ◌≤◌, subst, sym, arith}
 use Rattle.stream_base.specs.declared.limits.TheConstants.{TIME_MAX}
-use Rattle.context_windows.specs.Spanned.{gap_at, window_at}
+use Rattle.key_parts.specs.Calls.{window_at}
+use Rattle.context_windows.specs.Spanned.{gap_at}
 use Rattle.context_windows.proofs.Following.{gap_some}
 use Rattle.context_windows.proofs.Begun.{begun_bounded, begun_ended, begun_open, is_reached, not_reached}
 use Rattle.context_windows.proofs.SessionSettling.{gap_few, sessions_settle, spans_apart, spans_bounded}

@@ -1,6 +1,6 @@
 -- In the sessions that are due the store holds all that was kept.
 use Rattle.std.proofs.Common.{◌≤◌, ◌-◌, arith}
-use Rattle.context_windows.specs.Spanned.{window_at}
+use Rattle.key_parts.specs.Calls.{window_at}
 use Rattle.context_windows.proofs.Aligning.{due_aligned}
 use Rattle.context_windows.proofs.OfSessions.{of_sessions, sessions_held}
 use Rattle.context_windows.proofs.Rest.{rest_held}

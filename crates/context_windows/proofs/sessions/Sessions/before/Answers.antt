@@ -2,10 +2,11 @@
 use Rattle.std.proofs.Common.{◌≡◌, ◌∙◌, ◌++◌, refl, sym, subst, rules}
 use Rattle.std.specs.Prelude.{option_to_list}
 use Rattle.std.specs.List.{All}
+use Rattle.key_parts.specs.Calls.{window_at}
 use Rattle.slice_lists.proofs.Order.{All-split}
 use Rattle.window_spans.specs.Held.{IsAlignedWith}
 use Rattle.window_spans.specs.Spans.{asked_of}
-use Rattle.context_windows.specs.Spanned.{gap_at, window_at}
+use Rattle.context_windows.specs.Spanned.{gap_at}
 use Rattle.context_windows.proofs.Changing.{remembered}
 use Rattle.context_windows.proofs.sessions.Sessions.before.Goals as goal
 

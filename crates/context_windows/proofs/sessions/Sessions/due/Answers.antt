@@ -1,8 +1,8 @@
 -- The sessions that are due are those that become complete.
 use Rattle.std.proofs.Common.{◌≡◌, ◌∙◌, ◌≤◌, ◌-◌, length, take, drop, ap, sym, arith, rules}
 use Rattle.std.proofs.lemmas.List.{length-drop, length-take}
+use Rattle.key_parts.specs.Calls.{window_at}
 use Rattle.window_spans.specs.Spans.{due_of}
-use Rattle.context_windows.specs.Spanned.{window_at}
 use Rattle.context_windows.proofs.Following.{completions_length}
 use Rattle.context_windows.proofs.sessions.Sessions.due.Goals as goal
 

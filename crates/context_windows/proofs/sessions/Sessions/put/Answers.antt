@@ -3,10 +3,11 @@ use Rattle.std.proofs.Common.{◌≡◌, ◌∙◌, ◌≤◌, ◌++◌, [], len
 use Rattle.std.specs.Prelude.{option_to_list}
 use Rattle.std.proofs.lemmas.List.{length-map}
 use Rattle.stream_base.specs.Model.Journal.{put_in_order}
+use Rattle.key_parts.specs.Calls.{window_at}
 use Rattle.window_spans.specs.declared.standing.Standing.{Standing}
 use Rattle.window_spans.specs.Spans.{AreApart, asked_of, joined_span, near_of, spans_with}
 use Rattle.window_spans.proofs.Apart.{apart_with}
-use Rattle.context_windows.specs.Spanned.{HoldsSessions, Remembers, Spanned, gap_at, window_at}
+use Rattle.context_windows.specs.Spanned.{HoldsSessions, Remembers, Spanned, gap_at}
 use Rattle.context_windows.proofs.Changing.{put_follows, put_told}
 use Rattle.context_windows.proofs.Owed.{asked_are_told}
 use Rattle.context_windows.proofs.sessions.Sessions.put.Goals as goal

@@ -1,9 +1,9 @@
 -- The sessions that are due are told.
 use Rattle.std.proofs.Common.{◌≡◌, ◌∙◌, sym, subst, rules}
 use Rattle.std.specs.List.{All}
+use Rattle.key_parts.specs.Calls.{window_at}
 use Rattle.window_spans.specs.Held.{IsAlignedWith}
 use Rattle.window_spans.specs.Spans.{due_of}
-use Rattle.context_windows.specs.Spanned.{window_at}
 use Rattle.context_windows.proofs.Changing.{move_told}
 use Rattle.context_windows.proofs.sessions.Sessions.water.Goals as goal
 

@@ -3,8 +3,8 @@ use Rattle.std.proofs.Common.{◌≡◌, ◌-◌, length, vec_len, arith, refl, 
 use Rattle.std.specs.BTreeSet.{insert_key}
 use Rattle.std.specs.List.{enumerate_from, flat_map}
 use Rattle.stream_base.specs.Model.Changes.{changes_between}
+use Rattle.stream_base.specs.Model.Moments.{moment}
 use Rattle.window_laws.specs.After.{with_mark}
-use Rattle.key_windows.specs.Calls.{moment}
 use Rattle.key_slicer.specs.Parts.{turns}
 use Rattle.key_slicer.specs.States.{StandsFor}
 use Rattle.key_slicer.specs.Work.{mark_work}

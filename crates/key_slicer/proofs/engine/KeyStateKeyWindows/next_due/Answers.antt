@@ -4,8 +4,9 @@ use Rattle.std.specs.Prelude.{◌≢◌}
 use Rattle.std.proofs.lemmas.Bool.{cases_lt}
 use Rattle.stream_base.specs.Model.Slices.{unsettled}
 use Rattle.stream_base.proofs.ChangeFacts.{changes_at_water}
+use Rattle.stream_base.specs.Model.Moments.{moment}
 use Rattle.plain_windows.proofs.Ahead.{completes_across}
-use Rattle.key_windows.specs.Calls.{changes_by_move, moment}
+use Rattle.key_windows.specs.Calls.{changes_by_move}
 use Rattle.key_slicer.proofs.SettleFacts.{at_most_final}
 use Rattle.key_slicer.proofs.StateFacts.{all_stand, fits_waiting, move_is}
 use Rattle.key_slicer.proofs.engine.KeyStateKeyWindows.next_due.Goals as goal

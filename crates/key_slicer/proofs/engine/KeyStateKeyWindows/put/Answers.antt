@@ -3,9 +3,10 @@ use Rattle.std.proofs.Common.{◌≡◌, ◌∙◌, ◌+◌, ◌-◌, ℕ, lengt
 use Rattle.std.specs.List.{enumerate_from, flat_map}
 use Rattle.stream_base.specs.Model.Changes.{changes_between}
 use Rattle.stream_base.specs.Model.Journal.{put_in_order}
+use Rattle.stream_base.specs.Model.Moments.{moment}
 use Rattle.window_laws.specs.After.{with_tuple}
 use Rattle.agg_store.specs.Stored.{tuples_of}
-use Rattle.key_windows.specs.Calls.{changes_by_put, moment}
+use Rattle.key_windows.specs.Calls.{changes_by_put}
 use Rattle.key_slicer.specs.Parts.{AllTakeTuple, rooms, turns}
 use Rattle.key_slicer.specs.States.{Fits}
 use Rattle.key_slicer.specs.Work.{put_work}

@@ -1,6 +1,6 @@
 -- The slices from the time on up to which all is settled are those of the unsettled tuples.
 use Rattle.std.proofs.Common.{◌∙◌, ap, length, refl, sym}
-use Rattle.key_windows.specs.Calls.{moment}
+use Rattle.stream_base.specs.Model.Moments.{moment}
 use Rattle.held_laws.proofs.CountFacts.{no_slices}
 use Rattle.key_slicer.proofs.StateFacts.{all_stand, slices_counted}
 use Rattle.key_slicer.proofs.engine.KeyStateKeyWindows.slice_count.Goals as goal

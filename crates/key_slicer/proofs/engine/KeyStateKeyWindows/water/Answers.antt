@@ -1,6 +1,6 @@
 -- The parts took the move in, and else there is nothing that it could complete.
 use Rattle.std.proofs.Common.{◌≡◌, ◌∙◌, ◌++◌, [], ap, append-nil, arith, refl, rules, sym, true, ⊎_elim}
-use Rattle.key_windows.specs.Calls.{moment}
+use Rattle.stream_base.specs.Model.Moments.{moment}
 use Rattle.key_slicer.specs.States.{IsBlank, StandsFor}
 use Rattle.key_slicer.specs.Work.{move_over}
 use Rattle.key_slicer.proofs.StateFacts.{all_stand, fits_blank, move_is, nothing_moves, stands_moved}

@@ -1,10 +1,10 @@
 -- The slices part where all windows have settled, and what is left goes on to stand for the key.
 use Rattle.std.proofs.Common.{◌≡◌, ◌∙◌, ◌+◌, ◌*◌, ◌-◌, length, ap, arith, inl, refl, sym}
 use Rattle.std.specs.Prelude.{filter, nat_lt}
+use Rattle.stream_base.specs.Model.Moments.{moment}
 use Rattle.stream_base.specs.Model.Windows.{first_time}
 use Rattle.slice_lists.specs.Touched.{marks_left}
 use Rattle.slice_lists.proofs.LeaveFacts.{left_twice}
-use Rattle.key_windows.specs.Calls.{moment}
 use Rattle.key_slicer.proofs.StateFacts.{aligned, all_stand, fits_purged, open_left, purge_step}
 use Rattle.key_slicer.proofs.WorkFacts.{left}
 use Rattle.key_slicer.proofs.key_state.KeyState.drop_settled.Goals as goal

@@ -1,6 +1,6 @@
 -- The first tuple is among the first ones that are settled; and none is where the store has none.
 use Rattle.std.proofs.Common.{◌∙◌, arith, sym}
-use Rattle.key_windows.specs.Calls.{moment}
+use Rattle.stream_base.specs.Model.Moments.{moment}
 use Rattle.key_slicer.proofs.SettleFacts.{at_most_final, one_less, one_less_across}
 use Rattle.key_slicer.proofs.StateFacts.{none_in_bare}
 use Rattle.key_slicer.proofs.key_state.KeyState.next_settled.Goals as goal

@@ -1,6 +1,6 @@
 -- What settled has left, and each part goes on to stand for the key without what nothing needs.
 use Rattle.std.proofs.Common.{arith, inl, refl}
-use Rattle.key_windows.specs.Calls.{moment}
+use Rattle.stream_base.specs.Model.Moments.{moment}
 use Rattle.key_slicer.proofs.key_state.KeyState.purge.Goals as goal
 
 pub drop_needless-requires : goal.drop_needless-requires

@@ -2,10 +2,10 @@
 use Rattle.std.proofs.Common.{◌≡◌, ◌∙◌, ◌≤◌, ◌<◌, arith, false, refl, sym, true, ⊎_elim}
 use Rattle.std.proofs.lemmas.Bool.{cases_lt, false≢true}
 use Rattle.std.proofs.lemmas.List.Elements.{All-contains}
+use Rattle.stream_base.specs.Model.Moments.{moment}
 use Rattle.stream_base.specs.declared.kept.Kept.{Kept}
 use Rattle.stream_base.specs.Model.Slices.{is_settled}
 use Rattle.agg_store.specs.Stored.{tuples_of}
-use Rattle.key_windows.specs.Calls.{moment}
 use Rattle.key_slicer.proofs.SettleFacts.{open_at, settled_then}
 use Rattle.key_slicer.proofs.StateFacts.{all_stand}
 use Rattle.key_slicer.proofs.key_state.KeyState.settled_by.Goals as goal

@@ -1,6 +1,6 @@
 -- One fresh part more comes behind the others.
 use Rattle.std.proofs.Common.{◌≡◌, ◌++◌, [], ◌∷◌, rules}
-use Rattle.key_windows.specs.Calls.{moment}
+use Rattle.stream_base.specs.Model.Moments.{moment}
 use Rattle.key_slicer.proofs.AheadFacts.{credit_pushed, each_pushed}
 use Rattle.key_slicer.proofs.parts.Parts.fresh.Goals as goal
 

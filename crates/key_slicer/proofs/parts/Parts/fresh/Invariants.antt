@@ -1,8 +1,8 @@
 -- The parts so far are fresh ones, which have missed nothing and have no credit, and there is room for the others.
 use Rattle.std.proofs.Common.{◌≡◌, ◌≤◌, ◌-◌, [], ℕ, length}
 use Rattle.std.specs.Prelude.{vec_capacity, vec_len}
+use Rattle.stream_base.specs.Model.Moments.{moment}
 use Rattle.agg_store.specs.Stored.{Stored}
-use Rattle.key_windows.specs.Calls.{moment}
 use Rattle.key_slicer.specs.Parts.{EachPart, rooms}
 use Rattle.key_slicer.proofs.parts.Parts.fresh.Given as goal
 

@@ -1,10 +1,10 @@
 -- The watermark is that by which the time is settled in the windows so far.
 use Rattle.std.proofs.Common.{◌≤◌, ◌<◌, ℕ, get_or}
 use Rattle.stream_base.specs.Model.Changes.{Moment}
+use Rattle.stream_base.specs.Model.Moments.{IsWater}
 use Rattle.window_laws.specs.After.{at_water}
 use Rattle.window_laws.specs.Settled.{without_first}
 use Rattle.agg_store.specs.Stored.{Stored}
-use Rattle.key_windows.specs.Calls.{IsWater}
 use Rattle.key_parts.specs.Calls.{window_at}
 use Rattle.key_parts.specs.Moves.{SettlesUpTo}
 use Rattle.key_slicer.specs.Parts.{AllStandAt}

@@ -4,7 +4,8 @@ use Rattle.std.specs.Prelude.{vec_capacity}
 use Rattle.stream_base.specs.declared.limits.TheConstants.{JOURNAL_MAX}
 use Rattle.stream_base.specs.Model.Changes.{changes_between}
 use Rattle.stream_base.specs.Model.Journal.{put_in_order}
-use Rattle.key_windows.specs.Calls.{changes_by_put, moment}
+use Rattle.stream_base.specs.Model.Moments.{moment}
+use Rattle.key_windows.specs.Calls.{changes_by_put}
 use Rattle.plain_keys.proofs.Keeps.{due_same, fits_put, put_count, put_nothing}
 use Rattle.plain_keys.proofs.plain_key.PlainKeyKeyWindows.put.Goals as goal
 

@@ -1,7 +1,7 @@
 -- A move of the watermark brings the completions.
 use Rattle.std.proofs.Common.{◌∙◌, length, ap, sym, rules}
 use Rattle.stream_base.specs.Model.Changes.{Moment}
-use Rattle.key_windows.specs.Calls.{moment}
+use Rattle.stream_base.specs.Model.Moments.{moment}
 use Rattle.plain_windows.specs.Changing.{all_completions}
 use Rattle.plain_keys.specs.States.{State}
 use Rattle.plain_keys.proofs.Keeps.{move_is}

@@ -1,9 +1,9 @@
 -- The lists that it keeps are those that it fits.
 use Rattle.std.proofs.Common.{◌≡◌, ◌∙◌, ap, length, sym, subst}
 use Rattle.stream_base.specs.Model.Changes.{Moment}
+use Rattle.stream_base.specs.Model.Moments.{moment}
 use Rattle.stream_base.specs.Model.Slices.{runs_of, unsettled}
 use Rattle.window_laws.specs.Positions.{HaveDistinctPositions}
-use Rattle.key_windows.specs.Calls.{moment}
 use Rattle.plain_keys.proofs.plain_key.PlainKeyKeyWindows.slice_count.Goals as goal
 
 pub slice_count-requires : goal.slice_count-requires

@@ -3,9 +3,9 @@ use Rattle.std.proofs.Common.{◌≡◌, ◌∙◌, ◌++◌, ◌∷◌, [], Lis
 use Rattle.std.specs.BTreeMap.{is_at}
 use Rattle.std.specs.Cmp.Lexicographic.{slice_cmp}
 use Rattle.std.specs.Ordering.{nat_cmp}
-use Rattle.key_windows.specs.Calls.{IsWater}
+use Rattle.stream_base.specs.Model.Moments.{IsWater}
 use Rattle.key_windows.specs.Dues.{IsDueNumber}
-use Rattle.shard_core.specs.Engines.{place_of}
+use Rattle.shard_core.specs.Engines.{place_of_key}
 use Rattle.shard_core.proofs.Places.{added, unchanged}
 use Rattle.shard_core.proofs.Placing.{at_itself}
 use Rattle.shard_core.proofs.keys.KeyTable.add.Goals as goal
@@ -38,7 +38,7 @@ returns-in_err-place-clause-current g c h =
 pub returns-clause-place : goal.returns-clause-place
 returns-clause-place g c =
     c.in_ok-place.ensures.added c.args.key.now
-    ∙ ap (λ b. cond b (Some c.in_ok-place.place) (place_of c.args.self.now c.args.key.now)) (at_itself c.args.key.now)
+    ∙ ap (λ b. cond b (Some c.in_ok-place.place) (place_of_key c.args.self.now c.args.key.now)) (at_itself c.args.key.now)
 
 pub returns-clause-current : goal.returns-clause-current
 returns-clause-current g c h =
@@ -49,7 +49,7 @@ returns-clause-current g c h =
     let at : c.in_ok-place.place ≡ length c.args.self.now.slots.items = c.in_ok-place.ensures.place ∙ sym h.counted in
     rw (← c.defs-defs.ensures.value)
     (added g.K.KeyWindows.key_of g.K.KeyWindows.fits g.K.KeyWindows.next_position d past.sources past.journal c.args.self.now _ c.args.key.now slot c.due-due.result (rw c.defs-defs.ensures.value h) c.requires
-    (λ q. c.in_ok-place.ensures.added q ∙ ap (λ n. cond (is_at (slice_cmp nat_cmp c.args.key.now) q) (Some n) (place_of c.args.self.now q)) at)
+    (λ q. c.in_ok-place.ensures.added q ∙ ap (λ n. cond (is_at (slice_cmp nat_cmp c.args.key.now) q) (Some n) (place_of_key c.args.self.now q)) at)
     c.add.ensures.by_key c.in_ok-place.ensures.len
     (c.push_reserved.ensures.items ∙ ap (λ l. l ++ slot ∷ []) c.reserve.ensures.items)
     (c.push_reserved-2.ensures.items ∙ ap (λ l. l ++ c.due-due.result ∷ []) c.reserve-2.ensures.items)

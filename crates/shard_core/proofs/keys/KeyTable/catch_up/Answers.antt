@@ -1,7 +1,7 @@
 -- Nothing is due up to the watermark of the past, so the state stands there as it is.
 use Rattle.std.proofs.Common.{get_or, refl, subst, sym, arith}
 use Rattle.std.proofs.lemmas.List.{set-get_or}
-use Rattle.key_windows.specs.Calls.{IsWater}
+use Rattle.stream_base.specs.Model.Moments.{IsWater}
 use Rattle.shard_core.specs.Engines.{IsCurrent}
 use Rattle.shard_core.proofs.Advance.{noted}
 use Rattle.shard_core.proofs.Places.{current_at, replaced, same_for}

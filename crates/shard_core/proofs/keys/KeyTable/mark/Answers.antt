@@ -7,7 +7,8 @@ use Rattle.stream_base.specs.Model.Journal.{kept_of, marks_of}
 use Rattle.stream_base.specs.Model.Watermark.{water_of}
 use Rattle.stream_base.specs.Model.What.{key_in}
 use Rattle.stream_base.specs.Model.Changes.{changes_after}
-use Rattle.key_windows.specs.Calls.{IsWater, changes_by_mark, moment}
+use Rattle.stream_base.specs.Model.Moments.{IsWater, moment}
+use Rattle.key_windows.specs.Calls.{changes_by_mark}
 use Rattle.key_windows.specs.Dues.{IsDueNumber}
 use Rattle.shard_core.specs.declared.slot.Slot.{Slot}
 use Rattle.shard_core.specs.Shard.{Sharded}

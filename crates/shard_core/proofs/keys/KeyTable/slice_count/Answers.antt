@@ -1,8 +1,9 @@
 -- The state counts under the watermark of the past, its own or a later one; and of a key without a place nothing is kept.
 use Rattle.std.proofs.Common.{◌≡◌, ◌∙◌, [], arith, get_or, length, rules, sym}
 use Rattle.stream_base.specs.Model.Journal.{kept_of, marks_of}
+use Rattle.stream_base.specs.Model.Moments.{moment}
 use Rattle.stream_base.specs.Model.Watermark.{water_of}
-use Rattle.key_windows.specs.Calls.{moment, slices_at}
+use Rattle.key_windows.specs.Calls.{slices_at}
 use Rattle.shard_core.specs.Engines.{AreCurrent, IsCurrent}
 use Rattle.shard_core.proofs.Places.{current_at}
 use Rattle.shard_core.proofs.keys.KeyTable.slice_count.Goals as goal

@@ -1,6 +1,6 @@
 -- All entries are within their limits, and so is the watermark.
 use Rattle.std.proofs.Common.{sym, subst}
-use Rattle.key_windows.specs.Calls.{IsWater}
+use Rattle.stream_base.specs.Model.Moments.{IsWater}
 use Rattle.watermark_table.specs.Watched.{sources_of}
 use Rattle.shard_core.proofs.Waters.{water_is_water}
 use Rattle.shard_core.proofs.past.Past.water.Goals as goal

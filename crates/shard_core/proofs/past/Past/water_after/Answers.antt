@@ -1,6 +1,6 @@
 -- A tuple or mark leaves the watermark, and all entries are within their limits.
 use Rattle.std.proofs.Common.{◌≡◌, ◌∙◌, ◌++◌, ◌∷◌, ℕ, List, [], ap, rules, subst, sym, ⊎_elim}
-use Rattle.key_windows.specs.Calls.{IsWater}
+use Rattle.stream_base.specs.Model.Moments.{IsWater}
 use Rattle.stream_base.specs.declared.entry.Entry.{Entry}
 use Rattle.stream_base.specs.Model.Watermark.{water_of}
 use Rattle.stream_base.specs.Model.What.{key_in}

@@ -3,7 +3,7 @@ use Rattle.std.proofs.Common.{ℕ, rules, subst, sym}
 use Rattle.std.specs.Prelude.{nat_lt}
 use Rattle.std.specs.List.Sorted.{IsStrictlyIncreasing}
 use Rattle.std.proofs.lemmas.List.Sorted.{IsPartitionPoint-from_clause, IsPartitionedBy-ltb}
-use Rattle.slice_lists.specs.Places.{IsPlaceOf}
+use Rattle.stream_base.specs.Places.{IsPlaceOf}
 use Rattle.slice_lists.proofs.PlaceFacts.{place_from_point, marks_do_not_fall}
 use Rattle.slice_runs.proofs.marks.Marks.before.Goals as goal
 

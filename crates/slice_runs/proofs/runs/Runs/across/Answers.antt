@@ -1,8 +1,8 @@
 -- None has begun, or the last that has ends before the time.
 use Rattle.std.proofs.Common.{ap, arith, subst}
 use Rattle.stream_base.specs.Model.Windows.{first_time}
+use Rattle.stream_base.specs.Places.{IsPlaceOf}
 use Rattle.slice_lists.specs.declared.slice.Slice.{Slice}
-use Rattle.slice_lists.specs.Places.{IsPlaceOf}
 use Rattle.slice_lists.proofs.MarkFacts.{last_ended, none_begun}
 use Rattle.slice_runs.proofs.runs.Runs.across.Goals as goal
 

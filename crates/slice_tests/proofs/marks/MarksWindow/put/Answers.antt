@@ -1,12 +1,12 @@
 -- The slices of the store part at the interval that the tuple enters, before it is in it and after.
-use Rattle.std.proofs.Common.{◌≡◌, ◌≤◌, ◌∙◌, ◌∷◌, [], ap, sym, subst, refl, arith}
+use Rattle.std.proofs.Common.{◌≡◌, ◌≤◌, ◌∙◌, ◌∷◌, [], ap, refl, arith}
 use Rattle.std.specs.Int.{w64}
 use Rattle.std.proofs.lemmas.Int.{to_z-of_z}
 use Rattle.std.specs.List.{All}
 use Rattle.std.proofs.lemmas.List.Elements.{All-cons, All-filter, All-nil}
 use Rattle.stream_base.specs.declared.kept.Kept.{Kept}
 use Rattle.stream_base.specs.Model.Journal.{put_in_order}
-use Rattle.slice_lists.specs.Slices.{kept_at}
+use Rattle.stream_base.specs.Model.Moments.{kept_at}
 use Rattle.agg_store.specs.Stored.{tuples_of}
 use Rattle.window_spans.specs.Spans.{is_near, near_of, stands}
 use Rattle.context_windows.specs.Marked.{FollowsMarks, holder_in}

@@ -1,6 +1,6 @@
 -- The slices of the store part at the sessions that become complete.
+use Rattle.key_parts.specs.Calls.{window_at}
 use Rattle.agg_store.specs.Stored.{tuples_of}
-use Rattle.context_windows.specs.Spanned.{window_at}
 use Rattle.slice_tests.proofs.ContextFacts.{of_sessions}
 use Rattle.slice_tests.proofs.sessions.SessionWindow.move_water.Goals as goal
 

@@ -5,7 +5,7 @@ use Rattle.std.specs.Prelude.{nat_lt}
 use Rattle.stream_base.specs.declared.entry.Entry.{Entry}
 use Rattle.stream_base.specs.Model.Watermark.{water_of}
 use Rattle.stream_base.specs.Model.What.{is_late}
-use Rattle.tail_windows.specs.Following.{Followed, Follows, StandsFor, lateness_of, number_of_sources}
+use Rattle.tail_windows.specs.Following.{Followed, FollowsEntry, StandsFor, lateness_of, number_of_sources}
 use Rattle.tail_windows.specs.Noted.{IsNoted}
 use Rattle.tail_windows.specs.Samples.{sample_at}
 use Rattle.tail_windows.specs.Tails.{end_of}
@@ -20,7 +20,7 @@ returns g c e is =
     let same : f ≡ c.args.self.now = c.self.view_is in
     let accepted : (j : List Entry) → StandsFor f j → nat_lt (c.args.time + lateness_of f) (water_of (number_of_sources f) j) ≡ false =
     subst (λ (h : Followed). (j : List Entry) → StandsFor h j → nat_lt (c.args.time + lateness_of h) (water_of (number_of_sources h) j) ≡ false) (sym same) c.requires.accepted in
-    subst (λ (h : Followed). Follows h e c.put.result new c.args.out.now.items c.put.new.out.items c.args.steps.now c.put.new.steps) same
+    subst (λ (h : Followed). FollowsEntry h e c.put.result new c.args.out.now.items c.put.new.out.items c.args.steps.now c.put.new.steps) same
     (sample_follows f e c.args.out.now.items c.args.steps.now c.put.result c.put.new.out.items c.put.new.steps c.put.ensures.appended
     (sample_at c.args.time (to_z w64 (of_z w64 c.args.value))) c.args.key.now c.args.time c.args.value c.water-water.result c.put.new.self (ap (sample_at c.args.time) (to_z-of_z w64 c.args.value c.ranges.value)) is
     (λ j s. ap (is_late (lateness_of f) (water_of (number_of_sources f) j)) is ∙ accepted j s)

@@ -2,12 +2,13 @@
 use Rattle.std.proofs.Common.{◌≡◌, ◌∙◌, ◌+◌, ◌*◌, ◌≤◌, ◌++◌, ap, arith, length, max, subst, sym}
 use Rattle.stream_base.specs.declared.def.Def.{Def}
 use Rattle.stream_base.specs.Laws.{completions}
+use Rattle.stream_base.specs.Model.Moments.{moment}
 use Rattle.slice_lists.specs.Runs.{runs_within}
 use Rattle.window_laws.specs.Walk.{due_from, next_start}
 use Rattle.agg_store.specs.Stored.{tuples_of}
 use Rattle.time_lanes.specs.Held.{HoldsFrom}
-use Rattle.time_lanes.specs.Lane.{Knows, KnowsAll, Laned, fresh_to}
-use Rattle.time_lanes.specs.Moves.{MayMove, completed_starts, moment, slices_between, slices_in_last, slices_until}
+use Rattle.time_lanes.specs.Lane.{Knows, MissesNoSlice, Laned, fresh_to}
+use Rattle.time_lanes.specs.Moves.{MayMove, completed_starts, slices_between, slices_in_last, slices_until}
 use Rattle.time_lanes.specs.Spans.{IsEdge, last_end}
 use Rattle.time_lanes.proofs.AdvanceFacts.{begins, between_is, due_is, ends_above, fresh_at_most, goes_to, held_and_taken, in_last_is, knows_at, knows_of, last_at_most, last_is_edge, last_rises, left_at_most, missed_at, move_changes, next_rises, none_missed_at, taken_at_most, taken_is, taken_where_none_missed, until_is}
 use Rattle.time_lanes.proofs.HeldFacts.{partials_length}
@@ -83,7 +84,7 @@ returns-clause-knows_all g c = λ def stands.
     let s = (g.S.AggStore.stored c.args.store.now) in
     let same : def ≡ d = same_window c.args.defs.now.windows c.args.window def d stands c.serve.ensures.stands in
     let now : Laned _ = record { partials = c.pull.new.self.partials; to = c.pull.new.self.to; stale = c.self.inside.stale; spare = c.pull.new.self.spare; credit = c.pull.new.self.credit } in
-    subst (λ (e : Def). KnowsAll e.kind c.args.new s now) (sym same)
+    subst (λ (e : Def). MissesNoSlice e.kind c.args.new s now) (sym same)
     record {
       fresh = ap (λ (l : Laned _). l.stale) c.self.view_is ∙ c.refresh.ensures.stale;
       none_missed = none_missed_at d.kind span.length span.slide c.serve.ensures.length c.serve.ensures.slide c.args.new s.slices c.pull.new.self.to (omega (arith, c.pull.ensures.to, c.last_end.ensures.end));
@@ -156,7 +157,7 @@ returns-clause-cost g c = λ def stands knows all.
     let s = (g.S.AggStore.stored c.args.store.now) in
     let same : def ≡ d = same_window c.args.defs.now.windows c.args.window def d stands c.serve.ensures.stands in
     let k = knows_at d.kind span.length span.slide c.serve.ensures.length c.serve.ensures.slide c.args.old s c.args.self.now (subst (λ (e : Def). Knows g.M.Partial.of_values e.kind c.args.old s c.args.self.now) same knows) in
-    let none = missed_at d.kind span.length span.slide c.serve.ensures.length c.serve.ensures.slide c.args.old s c.args.self.now (subst (λ (e : Def). KnowsAll e.kind c.args.old s c.args.self.now) same all) in
+    let none = missed_at d.kind span.length span.slide c.serve.ensures.length c.serve.ensures.slide c.args.old s c.args.self.now (subst (λ (e : Def). MissesNoSlice e.kind c.args.old s c.args.self.now) same all) in
     let taken = taken_where_none_missed span.length span.slide span.within c.args.old c.args.new c.requires.order s.slices c.pull.ensures.holds.slices.ordered (fresh_to c.args.self.now) (fresh_at_most c.args.self.now (last_end span.length span.slide c.args.old) k.reached) none in
     let between = between_is d.kind span.length span.slide c.serve.ensures.length c.serve.ensures.slide c.args.old c.args.new s.slices in
     let due = due_is d.kind span.length span.slide c.serve.ensures.length c.serve.ensures.slide c.next_start-start.result c.args.old c.args.new (tuples_of s) c.next_start-start.ensures.start in

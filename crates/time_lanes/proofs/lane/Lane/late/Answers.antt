@@ -5,9 +5,9 @@ use Rattle.std.proofs.lemmas.Bool.{false≢true}
 use Rattle.std.proofs.lemmas.Int.{to_z-of_z}
 use Rattle.stream_base.specs.declared.def.Def.{Def}
 use Rattle.stream_base.specs.Model.Changes.{emissions}
+use Rattle.stream_base.specs.Model.Moments.{moment}
 use Rattle.window_laws.specs.After.{with_tuple}
 use Rattle.time_lanes.specs.Late.{IsLate}
-use Rattle.time_lanes.specs.Moves.{moment}
 use Rattle.time_lanes.specs.Shared.{IsSharedAt}
 use Rattle.time_lanes.proofs.SharedFacts.{shared_at}
 use Rattle.time_lanes.proofs.LateFacts.{lane_joined, lane_late}

@@ -2,8 +2,8 @@
 use Rattle.std.proofs.Common.{◌≡◌, ◌∙◌, length, subst, sym}
 use Rattle.stream_base.specs.declared.def.Def.{Def}
 use Rattle.stream_base.specs.Model.Changes.{emissions}
+use Rattle.stream_base.specs.Model.Moments.{moment}
 use Rattle.window_laws.specs.After.{with_tuple}
-use Rattle.time_lanes.specs.Moves.{moment}
 use Rattle.time_lanes.specs.Told.{complete_starts}
 use Rattle.time_lanes.proofs.LateFacts.{late_number}
 use Rattle.time_lanes.proofs.ServedFacts.{same_window}

@@ -1,9 +1,9 @@
 -- It is the bound of the first interval that isn't complete.
 use Rattle.std.proofs.Common.{◌≡◌, sym, subst}
+use Rattle.stream_base.specs.Model.Moments.{moment}
 use Rattle.stream_base.specs.declared.def.Def.{Def}
 use Rattle.window_laws.specs.Due.{first_open}
 use Rattle.agg_store.specs.Stored.{tuples_of}
-use Rattle.time_lanes.specs.Moves.{moment}
 use Rattle.time_lanes.proofs.EndFacts.{end_is_open}
 use Rattle.time_lanes.proofs.ServedFacts.{same_window}
 use Rattle.time_lanes.proofs.lane.Lane.next_end.Goals as goal

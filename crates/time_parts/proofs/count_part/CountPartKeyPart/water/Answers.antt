@@ -3,7 +3,8 @@ use Rattle.std.proofs.Common.{◌≡◌, ◌∙◌, ◌≤◌, ◌+◌, ◌-◌,
 use Rattle.std.specs.Prelude.{◌++◌, min}
 use Rattle.stream_base.specs.declared.def.Def.{Def}
 use Rattle.stream_base.specs.Laws.{completions}
-use Rattle.count_shift.specs.Counting.{count_of, moment}
+use Rattle.stream_base.specs.Model.Moments.{moment}
+use Rattle.count_shift.specs.Counting.{count_of}
 use Rattle.key_parts.specs.Work.{row_work}
 use Rattle.key_parts.specs.Calls.{window_kind}
 use Rattle.time_parts.specs.Counted.{counts_on}

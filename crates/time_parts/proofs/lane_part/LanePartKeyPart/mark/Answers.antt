@@ -1,6 +1,6 @@
 -- A mark changes no interval; the lane goes on to know the slices before it.
 use Rattle.std.proofs.Common.{◌≡◌, ◌∙◌, ◌++◌, ap, sym, subst, append-nil}
-use Rattle.time_lanes.specs.Lane.{Knows, KnowsAll, Laned}
+use Rattle.time_lanes.specs.Lane.{Knows, MissesNoSlice, Laned}
 use Rattle.time_lanes.proofs.StayFacts.{mark_stays}
 use Rattle.key_parts.specs.Calls.{window_at, window_kind}
 use Rattle.time_parts.specs.Lanes.{Timed}
@@ -39,4 +39,4 @@ returns-clause-ahead g c = λ m n before takes behind ahead.
     let lane : c.args.self.now.lane ≡ c.self.inside.lane = sym (ap (λ (p : Timed _). p.lane) c.self.view_is) in
     c.touched.ensures.knows_all kind c.args.water before (g.S.AggStore.stored c.args.store.now) same behind
     (subst (λ (l : Laned _). Knows g.M.Partial.of_values kind c.args.water before l) lane (subst (λ k. Knows g.M.Partial.of_values kind k before c.args.self.now.lane) takes.water_is takes.stood.knows))
-    (subst (λ (l : Laned _). KnowsAll kind c.args.water before l) lane ahead)
+    (subst (λ (l : Laned _). MissesNoSlice kind c.args.water before l) lane ahead)

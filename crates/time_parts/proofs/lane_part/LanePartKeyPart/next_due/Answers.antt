@@ -5,10 +5,10 @@ use Rattle.std.proofs.lemmas.Bool.{cases_lt}
 use Rattle.stream_base.specs.declared.kept.Kept.{Kept}
 use Rattle.stream_base.specs.declared.limits.TheConstants.{FINAL, TIME_MAX}
 use Rattle.stream_base.specs.Laws.{completions}
+use Rattle.stream_base.specs.Model.Moments.{moment}
 use Rattle.window_laws.specs.Due.{first_open}
 use Rattle.window_laws.specs.Settled.{without_first}
 use Rattle.window_laws.proofs.LeaveChanges.{leaves_at_move}
-use Rattle.time_lanes.specs.Moves.{moment}
 use Rattle.key_parts.specs.Calls.{window_at}
 use Rattle.time_parts.proofs.DueFacts.{due_at, none_ever, timed_early}
 use Rattle.time_parts.proofs.LaneFacts.{counts_not, none_due}

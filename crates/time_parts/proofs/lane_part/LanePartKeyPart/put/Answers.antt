@@ -3,7 +3,7 @@ use Rattle.std.proofs.Common.{◌≡◌, ◌∙◌, ◌≤◌, ◌+◌, ◌-◌,
 use Rattle.std.specs.Int.{w64}
 use Rattle.std.proofs.lemmas.Int.{to_z-of_z}
 use Rattle.stream_base.specs.declared.def.Def.{Def}
-use Rattle.time_lanes.specs.Lane.{Knows, KnowsAll, Laned}
+use Rattle.time_lanes.specs.Lane.{Knows, MissesNoSlice, Laned}
 use Rattle.time_lanes.specs.Late.{complete_holding}
 use Rattle.time_lanes.proofs.ServedFacts.{same_window}
 use Rattle.time_lanes.proofs.StayFacts.{tuple_stays}
@@ -100,4 +100,4 @@ returns-clause-ahead g c = λ m n before more takes behind ahead.
     let lane : c.args.self.now.lane ≡ c.self.inside.lane = sym (ap (λ (p : Timed _). p.lane) c.self.view_is) in
     c.touched.ensures.knows_all kind c.args.water before (g.S.AggStore.stored c.args.store.now) same behind
     (subst (λ (l : Laned _). Knows g.M.Partial.of_values kind c.args.water before l) lane (subst (λ k. Knows g.M.Partial.of_values kind k before c.args.self.now.lane) takes.water_is takes.stood.knows))
-    (subst (λ (l : Laned _). KnowsAll kind c.args.water before l) lane ahead)
+    (subst (λ (l : Laned _). MissesNoSlice kind c.args.water before l) lane ahead)

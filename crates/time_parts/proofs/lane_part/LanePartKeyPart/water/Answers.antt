@@ -2,9 +2,9 @@
 use Rattle.std.proofs.Common.{◌≡◌, ◌≤◌, ◌+◌, ◌-◌, ◌*◌, ap, sym, take, length, subst, arith, vec_len}
 use Rattle.window_laws.specs.Walk.{next_start_of}
 use Rattle.agg_store.specs.Stored.{tuples_of}
-use Rattle.time_lanes.specs.Spans.{last_end_of}
+use Rattle.time_lanes.specs.Spans.{last_end_by}
 use Rattle.time_lanes.proofs.Ranges.{fewer_within}
-use Rattle.time_lanes.specs.Lane.{Knows, KnowsAll, Laned}
+use Rattle.time_lanes.specs.Lane.{Knows, MissesNoSlice, Laned}
 use Rattle.time_lanes.specs.Moves.{MayMove}
 use Rattle.key_parts.specs.Calls.{window_at, window_kind}
 use Rattle.key_parts.specs.Work.{row_work}
@@ -45,7 +45,7 @@ returns-clause-work_ahead g c = λ m n at ahead.
     let is = stands_at d c.args.window t in
     let lane : c.args.self.now.lane ≡ c.self.inside.lane = sym (ap (λ (p : Timed _). p.lane) c.self.view_is) in
     let knows = subst (λ (l : Laned _). Knows g.M.Partial.of_values kind c.args.old s l) lane (subst (λ k. Knows g.M.Partial.of_values kind k s c.args.self.now.lane) at.water_is at.stood.knows) in
-    let cost = c.advance.ensures.cost w is knows (subst (λ (l : Laned _). KnowsAll kind c.args.old s l) lane ahead) in
+    let cost = c.advance.ensures.cost w is knows (subst (λ (l : Laned _). MissesNoSlice kind c.args.old s l) lane ahead) in
     let credit = ap (λ (l : Laned _). l.credit) lane in
     subst (λ k. c.advance.new.steps + c.advance.new.self.credit ≤ c.args.steps.now + c.args.self.now.lane.credit + (10 * slices_completed d c.args.window s c.args.old c.args.new + k * (vec_len c.advance.new.out - vec_len c.args.out.now)))
     (sym (timed_row kind s.reach (timed_at d c.args.window t))) (omega (arith, cost, credit, c.advance.ensures.number w is))
@@ -75,7 +75,7 @@ returns-clause-bound g c = λ m n at.
     let is = stands_at d c.args.window t in
     let lane : c.args.self.now.lane ≡ c.self.inside.lane = sym (ap (λ (p : Timed _). p.lane) c.self.view_is) in
     let cost = c.advance.ensures.work w is (subst (λ (l : Laned _). Knows g.M.Partial.of_values kind c.args.old s l) lane (subst (λ k. Knows g.M.Partial.of_values kind k s c.args.self.now.lane) at.water_is at.stood.knows)) in
-    let among = fewer_within (next_start_of kind c.args.old) (last_end_of kind c.args.new) s.slices in
+    let among = fewer_within (next_start_of kind c.args.old) (last_end_by kind c.args.new) s.slices in
     subst (λ j. c.advance.new.steps ≤ c.args.steps.now + (j * length s.slices + row_work kind s.reach * (vec_len c.advance.new.out - vec_len c.args.out.now)))
     (sym (timed_slice kind (timed_at d c.args.window t)))
     (subst (λ k. c.advance.new.steps ≤ c.args.steps.now + (10 * length s.slices + k * (vec_len c.advance.new.out - vec_len c.args.out.now)))
