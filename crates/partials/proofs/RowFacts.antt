@@ -41,6 +41,9 @@ above_other k low h other = let l : k ≤ low = not_below k low h in omega arith
 outside : (k low high : ℕ) → k < low → (nat_le low k && nat_lt k high) ≡ false
 outside k low high h = grind (arith, nat_tests)
 
+beyond : (k low high : ℕ) → high ≤ k → (nat_le low k && nat_lt k high) ≡ false
+beyond k low high h = grind (arith, nat_tests)
+
 -- ---- the reach of a row
 pub row_folds : (n : ℕ) → n ≤ 32 * (row_reach n + 2)
 row_folds n = omega arith
@@ -241,6 +244,11 @@ module _ {M : Type 0} where
   none_behind edge low high xs l h =
       filter_none (λ p. nat_le low p.0 && nat_lt p.0 high) xs
       (All-weaker (λ p. p.0 < edge) (λ p. (nat_le low p.0 && nat_lt p.0 high) ≡ false) (λ p b. outside p.0 low high (omega arith)) xs h)
+
+  pub none_before : (edge low high : ℕ) (ys : List (ℕ × M)) → high ≤ edge → AreFrom edge ys → within low high ys ≡ []
+  none_before edge low high ys l h =
+      filter_none (λ p. nat_le low p.0 && nat_lt p.0 high) ys
+      (All-weaker (λ p. edge ≤ p.0) (λ p. (nat_le low p.0 && nat_lt p.0 high) ≡ false) (λ p b. beyond p.0 low high (omega arith)) ys h)
 
 -- the reach of a tree, or of a row beside it, bounded by the pairs of both
 pub reach_over : {M : Type 0} (bounded : ℕ → ℕ → Type 0) (inside near : List (ℕ × M)) (reach : ℕ) → bounded reach (length inside) → length near ≤ 256 → IsReachOver bounded (length (inside ++ near)) (max reach (row_reach (length near)))

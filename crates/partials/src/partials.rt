@@ -1,5 +1,5 @@
 //! The partials of slices.
-ghost use Rattle.std.specs.Prelude.{◌≡◌, ◌≤◌, ◌<◌, ◌+◌, ◌*◌, ◌^◌, ◌++◌, ℕ, [], None, Some, length, OnOk, IsTrue, true, false};
+ghost use Rattle.std.specs.Prelude.{◌≡◌, ◌≤◌, ◌<◌, ◌+◌, ◌*◌, ◌^◌, ◌++◌, ℕ, [], None, Some, fold, length, OnOk, IsTrue, true, false};
 ghost use Rattle.agg_laws.specs.Counters.{Spends};
 ghost use Rattle.agg_laws.specs.Laws.{total};
 ghost use Rattle.agg_laws.specs.Pairs.{distance, has_key, inserted, least_key, replaced, value_at, values_of, within, without};
@@ -173,7 +173,7 @@ impl<M: Monoid, T: AggTree<M>> Partials<M, T> {
             (length (within low high (self.now).pairs)) steps.old steps.new }
     {
         let older = fold_below(&self.tree, self.edge, low, high, steps);
-        self.near.fold_onto(older, low, high, steps)
+        fold_from(&self.near, self.edge, older, low, high, steps)
     }
 }
 
@@ -296,6 +296,27 @@ fn fold_below<M: Monoid, T: AggTree<M>, L>(
     }
     let mut probes = Probes::new();
     tree.fold_range(low, high, &mut probes, steps)
+}
+
+// A sum with what a row of keys from an edge on has of a range; nothing of it where the range ends there
+// or before.
+fn fold_from<M: Monoid, L>(
+    near: &PairRow<M>,
+    edge: u64,
+    sum: M,
+    low: u64,
+    high: u64,
+    steps: &mut Steps<L>,
+) -> M
+    requires { AreFrom edge near.now.pairs }
+    ensures value { result ≡ fold M.op sum (values_of (within low high near.now.pairs)) }
+    ensures work { Spends (length near.now.pairs) (length (within low high near.now.pairs))
+        steps.old steps.new }
+{
+    if high <= edge {
+        return sum;
+    }
+    near.fold_onto(sum, low, high, steps)
 }
 
 // The partial under a time in a tree, which isn't the last of all.

@@ -15,6 +15,6 @@ returns-clause-work g c =
     let both = ap length (filter-append (λ p. nat_le low p.0 && nat_lt p.0 high) xs near) in
     rw (← c.self.view_is)
     (record {
-      cost = omega (arith, c.fold_below-older.ensures.work.cost, c.fold_onto.ensures.work.cost, row_folds (length near));
-      one_each = omega (arith, c.fold_below-older.ensures.work.one_each, c.fold_onto.ensures.work.one_each, both, length-append (within low high xs) (within low high near));
+      cost = omega (arith, c.fold_below-older.ensures.work.cost, c.fold_from.ensures.work.cost, row_folds (length near));
+      one_each = omega (arith, c.fold_below-older.ensures.work.one_each, c.fold_from.ensures.work.one_each, both, length-append (within low high xs) (within low high near));
     })
