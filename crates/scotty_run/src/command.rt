@@ -3,7 +3,7 @@ ghost use Rattle.std.specs.Prelude.{◌≡◌, ◌↔◌, ◌⊎◌, ◌∷◌, 
 ghost use Rattle.emission_text.specs.Report.{report_text};
 ghost use Rattle.report_lines.specs.Forms.{form_of};
 ghost use Rattle.emission_text.specs.Sending.{Appends, Fails};
-ghost use Rattle.scotty_run.specs.Answer.{IsAnswer, IsCheckAnswer, IsMadeAnswer, Says};
+ghost use Rattle.scotty_run.specs.Answer.{IsAnswer, IsCheckAnswer, IsMadeAnswer, IsTold, Says};
 ghost use Rattle.run_inputs.specs.Causes.{AreShardsOfFiles, StopsAtFiles};
 ghost use Rattle.command_words.specs.Commands.{IsCommand};
 ghost use Rattle.command_words.specs.LastWords.{IsLast, IsLastOf, LastRun};
