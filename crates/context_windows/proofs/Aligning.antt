@@ -1,18 +1,15 @@
 -- Slices part where instances start and end.
-use Rattle.std.proofs.Common.{◌≡◌, ℕ, ◌+◌, ◌<◌, ◌≤◌, List, [], ◌∷◌, sym, refl, subst, arith, inl, inr}
-use Rattle.std.specs.Prelude.{false, nat_le, nat_lt}
+use Rattle.std.proofs.Common.{ℕ, ◌+◌, ◌<◌, ◌≤◌, List, [], ◌∷◌, sym, refl, subst, arith, inl, inr}
+use Rattle.std.specs.Prelude.{nat_le, nat_lt}
 use Rattle.std.specs.List.{Contains, filter}
 use Rattle.std.proofs.lemmas.List.Elements.{All-contains, All-filter, All-take, All-cons, All-nil, Contains-append_right}
 use Rattle.stream_base.specs.declared.def.Def.{Def}
 use Rattle.stream_base.specs.declared.kept.Kept.{Kept}
-use Rattle.stream_base.specs.declared.kind.Kind.{Kind}
-use Rattle.stream_base.specs.declared.kind.Kind.TheVariants.{Tumbling, Sliding, Session, Marks, Events}
 use Rattle.stream_base.specs.declared.limits.TheConstants.{FINAL}
 use Rattle.stream_base.specs.Laws.{TimesDoNotFall}
 use Rattle.stream_base.specs.Model.Journal.{put_in_order}
 use Rattle.stream_base.specs.Model.Slices.{runs_of}
-use Rattle.stream_base.specs.Kinds.{is_events}
-use Rattle.stream_base.specs.Model.Windows.{Instance, instances_of, sessions}
+use Rattle.stream_base.specs.Model.Windows.{Instance, sessions}
 use Rattle.stream_base.proofs.Distinct.{All_from_members}
 use Rattle.stream_base.proofs.Members.{filter_members}
 use Rattle.stream_base.proofs.Rising.{Contains-head}
@@ -25,23 +22,9 @@ use Rattle.window_spans.specs.Held.{AreAlignedWith, IsAlignedWith}
 use Rattle.window_spans.specs.Spans.{asked_of, due_of, is_due, is_near, joined_span, near_of, span_of, spans_with, stands, told_at}
 use Rattle.context_windows.specs.Aligned.{IsOfSessions, IsOfWindows}
 use Rattle.context_windows.specs.Marked.{IsEdge}
-use Rattle.context_windows.specs.Spanned.{FollowsSessions, IsSession, Spanned, gap_of, sessions_after}
+use Rattle.context_windows.specs.Spanned.{FollowsSessions, Spanned, gap_of, sessions_after}
 use Rattle.context_windows.proofs.Changing.{put_follows}
-
-no_events : (kind : Kind) → IsSession kind → is_events kind ≡ false
-no_events (Tumbling length) h = absurd h
-no_events (Sliding length slide) h = absurd h
-no_events (Session gap) h = refl
-no_events Marks h = absurd h
-no_events (Events count) h = absurd h
-
-session_instances : (kind : Kind) (kept : List Kept) (marks : List ℕ) (i : Instance) → IsSession kind → Contains (sessions (gap_of kind) kept) i → Contains (instances_of kind kept marks) i
-unfolding instances_of
-session_instances (Tumbling length) kept marks i h c = absurd h
-session_instances (Sliding length slide) kept marks i h c = absurd h
-session_instances (Session gap) kept marks i h c = c
-session_instances Marks kept marks i h c = absurd h
-session_instances (Events count) kept marks i h c = absurd h
+use Rattle.context_windows.proofs.Following.{no_events, sessions_are}
 
 module _ (windows : List Def) (w : Def) (kept : List Kept) (store : Stored) (o : IsOfSessions windows w kept store) (times : TimesDoNotFall kept) where
   member : (a : Kept) → Contains (tuples_of store) a → Contains kept a
@@ -49,7 +32,7 @@ module _ (windows : List Def) (w : Def) (kept : List Kept) (store : Stored) (o :
 
   session_aligned : (i : Instance) → Contains (sessions (gap_of w.kind) kept) i → IsAlignedWith store.slices (span_of i)
   session_aligned i c =
-      let d = session_instances w.kind kept store.marks i o.session c in
+      let d = subst (λ is. Contains is i) (sym (sessions_are w.kind kept store.marks o.session)) c in
       let n = no_events w.kind o.session in
       record {
         low = subst (λ l. IsAligned l i.low) (sym o.sliced.sliced) (aligned windows store.marks (tuples_of store) o.sliced.in_order i.low (λ a b f g l r. start_is_cut windows store.marks kept w i a b o.sliced.kinds times o.early o.member n d (member a f) (member b g) l r));

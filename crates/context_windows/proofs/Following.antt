@@ -1,5 +1,5 @@
 -- Spans that follow the sessions of tuples.
-use Rattle.std.proofs.Common.{◌≡◌, ◌∙◌, ℕ, ◌+◌, ◌<◌, ◌≤◌, Bool, false, cond, List, [], ◌∷◌, ◌++◌, length, take, map, max, min, ◌-◌, ap, sym, refl, subst, arith, ⊎_elim}
+use Rattle.std.proofs.Common.{false, ap, ◌≡◌, ◌∙◌, ℕ, ◌+◌, ◌<◌, ◌≤◌, Bool, cond, List, [], ◌∷◌, ◌++◌, length, take, map, max, min, ◌-◌, sym, refl, subst, arith, ⊎_elim}
 use Rattle.std.specs.Prelude.{nat_le, nat_lt}
 use Rattle.std.specs.List.{All, filter}
 use Rattle.std.proofs.lemmas.Bool.{and_left, cases_lt, le-ltb, lt-ltb}
@@ -9,9 +9,9 @@ use Rattle.stream_base.specs.declared.change.Change.TheVariants.{New}
 use Rattle.stream_base.specs.declared.def.Def.{Def}
 use Rattle.stream_base.specs.declared.kept.Kept.{Kept}
 use Rattle.stream_base.specs.declared.kind.Kind.{Kind}
-use Rattle.stream_base.specs.declared.kind.Kind.TheVariants.{Tumbling, Sliding, Session, Marks, Events}
+use Rattle.stream_base.specs.declared.kind.Kind.TheVariants.{Session}
 use Rattle.stream_base.specs.Laws.{TimesDoNotFall, becomes_complete, completions}
-use Rattle.stream_base.specs.Kinds.{IsKindWithin}
+use Rattle.stream_base.specs.Kinds.{is_events, IsKindWithin}
 use Rattle.stream_base.specs.Model.Changes.{Moment, row_of}
 use Rattle.stream_base.specs.Model.Journal.{put_in_order}
 use Rattle.stream_base.specs.Model.Windows.{Instance, first_time, instances_of, last_time, pieces_of, session, sessions}
@@ -34,25 +34,23 @@ use Rattle.context_windows.specs.Spanned.{FollowsSessions, IsSession, Spanned, g
 use Rattle.context_windows.proofs.Thirds.{InThirds, backs_later, mids_are, spans_back, spans_front, spans_mid}
 
 pub session_kind : (kind : Kind) → IsSession kind → kind ≡ Session (gap_of kind)
-session_kind (Tumbling length) h = absurd h
-session_kind (Sliding length slide) h = absurd h
 session_kind (Session gap) h = refl
-session_kind Marks h = absurd h
-session_kind (Events count) h = absurd h
+session_kind kind h = absurd h
+
+pub no_events : (kind : Kind) → IsSession kind → is_events kind ≡ false
+no_events kind h = ap is_events (session_kind kind h)
+
+pub sessions_are : (kind : Kind) (kept : List Kept) (marks : List ℕ) → IsSession kind → instances_of kind kept marks ≡ sessions (gap_of kind) kept
+unfolding instances_of
+sessions_are kind kept marks h = ap (λ k. instances_of k kept marks) (session_kind kind h)
 
 pub session_within : (kind : Kind) → IsSession kind → IsKindWithin kind
-session_within (Tumbling length) h = absurd h
-session_within (Sliding length slide) h = absurd h
 session_within (Session gap) h = h
-session_within Marks h = absurd h
-session_within (Events count) h = absurd h
+session_within kind h = absurd h
 
 pub gap_some : (kind : Kind) → IsSession kind → 1 ≤ gap_of kind
-gap_some (Tumbling length) h = absurd h
-gap_some (Sliding length slide) h = absurd h
 gap_some (Session gap) h = h.0
-gap_some Marks h = absurd h
-gap_some (Events count) h = absurd h
+gap_some kind h = absurd h
 
 -- the runs of the sessions
 abbrev runs_by : ℕ → List Kept → List (List Kept)

@@ -1,52 +1,32 @@
 -- The sessions of a key, where settled tuples have left the store.
-use Rattle.std.proofs.Common.{◌≡◌, ◌∙◌, ℕ, ◌+◌, ◌-◌, ◌*◌, ◌≤◌, Bool, true, false, cond, List, [], ◌∷◌, ◌++◌, drop, length, ap, sym, subst, refl, map, arith}
+use Rattle.std.proofs.Common.{◌≡◌, ◌∙◌, ℕ, ◌+◌, ◌-◌, ◌*◌, ◌≤◌, Bool, true, false, cond, List, [], ◌∷◌, ◌++◌, drop, length, ap, sym, subst, map, arith}
 use Rattle.std.specs.Prelude.{nat_lt}
 use Rattle.std.specs.List.{All, Contains, filter}
 use Rattle.stream_base.specs.declared.def.Def.{Def}
 use Rattle.stream_base.specs.declared.kept.Kept.{Kept}
 use Rattle.stream_base.specs.declared.kind.Kind.{Kind}
-use Rattle.stream_base.specs.declared.kind.Kind.TheVariants.{Tumbling, Sliding, Session, Marks, Events}
 use Rattle.stream_base.specs.Laws.{TimesDoNotFall}
 use Rattle.stream_base.specs.Limits.{Definitions}
 use Rattle.stream_base.specs.Model.Changes.{Moment, emissions, retractions}
-use Rattle.stream_base.specs.Kinds.{is_events}
-use Rattle.stream_base.specs.Model.Windows.{Instance, instances_of, is_complete, sessions, within}
+use Rattle.stream_base.specs.Model.Windows.{Instance, instances_of, is_complete, within}
 use Rattle.stream_base.proofs.ChangeFacts.{none_emitted, none_retracted}
-use Rattle.stream_base.proofs.Distinct.{All_from_members, standing_rises}
+use Rattle.stream_base.proofs.Distinct.{All_from_members}
+use Rattle.stream_base.proofs.KindFacts.{standing_rises}
 use Rattle.window_laws.specs.After.{with_mark}
 use Rattle.window_laws.specs.Settled.{MayLeave}
 use Rattle.agg_store.specs.Stored.{Stored, tuples_of}
 use Rattle.window_spans.specs.declared.span.Span.{Span}
 use Rattle.window_spans.specs.Spans.{asked_of, goes, joined_span, near_of, put_changes, span_of, stands, told_at}
 use Rattle.context_windows.specs.Aligned.{IsOfSessions}
-use Rattle.context_windows.specs.Spanned.{FollowsSessions, HoldsSessions, IsSession, IsSessionAt, Spanned, gap_at, gap_of, sessions_after}
-use Rattle.context_windows.proofs.Following.{session_within}
+use Rattle.context_windows.specs.Spanned.{FollowsSessions, HoldsSessions, IsSession, IsSessionAt, Spanned, gap_at, sessions_after}
+use Rattle.context_windows.proofs.Following.{no_events, session_kind, session_within, sessions_are}
 use Rattle.key_parts.specs.Calls.{window_at}
 use Rattle.key_parts.specs.Work.{change_work}
 use Rattle.context_windows.proofs.Rest.{HoldsRest, is_window, left_over, open_alike, open_selects, rest_is_kept, rest_windows}
 
-pub sessions_are : (kind : Kind) (kept : List Kept) (marks : List ℕ) → IsSession kind → instances_of kind kept marks ≡ sessions (gap_of kind) kept
-unfolding instances_of
-sessions_are (Tumbling length) kept marks h = absurd h
-sessions_are (Sliding length slide) kept marks h = absurd h
-sessions_are (Session gap) kept marks h = refl
-sessions_are Marks kept marks h = absurd h
-sessions_are (Events count) kept marks h = absurd h
-
-pub no_events : (kind : Kind) → IsSession kind → is_events kind ≡ false
-no_events (Tumbling length) h = absurd h
-no_events (Sliding length slide) h = absurd h
-no_events (Session gap) h = refl
-no_events Marks h = absurd h
-no_events (Events count) h = absurd h
-
 -- ---- how many steps a change takes
 pub session_work : (kind : Kind) (reach : ℕ) → IsSession kind → change_work kind reach ≡ 64 * (reach + 2)
-session_work (Tumbling length) reach h = absurd h
-session_work (Sliding length slide) reach h = absurd h
-session_work (Session gap) reach h = refl
-session_work Marks reach h = absurd h
-session_work (Events count) reach h = absurd h
+session_work kind reach h = ap (λ k. change_work k reach) (session_kind kind h)
 
 -- the session that a tuple makes is told once, where it stands
 pub told_once : (gap time water : ℕ) (spans : List Span) → length (told_at gap time water spans) ≤ put_changes gap time water spans

@@ -21,10 +21,9 @@ use Rattle.stream_base.specs.Model.Windows.{Instance, instances_of, within}
 use Rattle.window_laws.specs.After.{with_tuple}
 use Rattle.window_laws.specs.Positions.{AreKept, HaveDistinctPositions}
 use Rattle.window_laws.specs.Settled.{MayLeave}
-use Rattle.window_laws.proofs.InstanceFacts.{bounds_are_ends, spans_hold_selections}
+use Rattle.window_laws.proofs.KindFacts.{bounds_are_ends, spans_hold_selections, EndBy}
 use Rattle.window_laws.proofs.KeptFacts.{put_is_kept}
-use Rattle.window_laws.proofs.LeaveChanges.{may_leave_after_tuple, tuple_enters_the_rest}
-use Rattle.window_laws.proofs.LeaveFacts.{EndBy, firsts_leave}
+use Rattle.window_laws.proofs.LeaveChanges.{may_leave_after_tuple, tuple_enters_the_rest, firsts_leave}
 use Rattle.window_laws.proofs.SettledFacts.{all_member, settled_by_times}
 use Rattle.agg_store.specs.Stored.{IsSliced, Stored, tuples_of}
 use Rattle.window_spans.proofs.Parts.{filter_alike}

@@ -6,7 +6,7 @@ use Rattle.std.proofs.lemmas.List.Elements.{All-contains, All-filter, All-weaker
 use Rattle.stream_base.specs.declared.func.Func.{Func}
 use Rattle.stream_base.specs.declared.kept.Kept.{Kept}
 use Rattle.stream_base.specs.declared.kind.Kind.{Kind}
-use Rattle.stream_base.specs.declared.kind.Kind.TheVariants.{Tumbling, Sliding, Session, Marks, Events}
+use Rattle.stream_base.specs.declared.kind.Kind.TheVariants.{Session}
 use Rattle.stream_base.specs.declared.limits.TheConstants.{TIME_MAX}
 use Rattle.stream_base.specs.Laws.{TimesDoNotFall}
 use Rattle.stream_base.specs.Limits.{Definitions}
@@ -19,16 +19,15 @@ use Rattle.slice_lists.specs.Runs.{AreParted}
 use Rattle.window_laws.specs.Settled.{MayLeave, without_first}
 use Rattle.window_laws.proofs.InstanceFacts.{gap_cut, session_far, session_near, session_runs, sessions_select}
 use Rattle.slice_lists.proofs.Order.{All-map_of, IsApart, IsNear, run_spans, runs_behind}
-use Rattle.window_laws.proofs.SettledMoves.{session_last}
+use Rattle.window_laws.proofs.HoldingFacts.{session_last}
 use Rattle.window_spans.specs.declared.span.Span.{Span}
 use Rattle.window_spans.specs.Ahead.{start_after}
 use Rattle.window_spans.specs.Spans.{AreApart, span_of}
 use Rattle.context_windows.specs.Spanned.{FollowsSessions, IsSession, Spanned, gap_at, gap_of, sessions_after}
-use Rattle.context_windows.proofs.Following.{gap_some}
+use Rattle.context_windows.proofs.Following.{gap_some, no_events, sessions_are}
 use Rattle.key_parts.specs.Calls.{window_at}
 use Rattle.key_parts.specs.Moves.{SettlesUpTo}
 use Rattle.context_windows.specs.SessionsStand.{DoStand}
-use Rattle.context_windows.proofs.OfSessions.{no_events, sessions_are}
 use Rattle.context_windows.proofs.OfMarks.{filter_apart}
 use Rattle.context_windows.proofs.Rest.{is_window, rest_is_kept}
 use Rattle.context_windows.proofs.Settling.{settles_up_to}
@@ -58,11 +57,8 @@ sessions_settle {serves} d window m n water p rises may times st =
     (subst (λ l. AreApart (map span_of l)) (sym (sessions_are w.kind (drop n m.kept) m.marks session)) (sessions_lie_apart (gap_at d window) (drop n m.kept) (gap_some w.kind session) (rest_is_kept n m.kept may.kept).in_order))
 
 pub gap_few : (kind : Kind) → IsSession kind → gap_of kind ≤ TIME_MAX
-gap_few (Tumbling length) h = absurd h
-gap_few (Sliding length slide) h = absurd h
 gap_few (Session gap) h = h.1
-gap_few Marks h = absurd h
-gap_few (Events count) h = absurd h
+gap_few kind h = absurd h
 
 -- ---- the spans that are kept
 pub spans_apart : (gap : ℕ) (kept : List Kept) (p : Spanned) → 1 ≤ gap → FollowsSessions gap kept p → AreApart p.spans

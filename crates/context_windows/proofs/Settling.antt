@@ -16,7 +16,8 @@ use Rattle.stream_base.proofs.Members.{filter_map_of, map_has}
 use Rattle.window_laws.specs.After.{at_water}
 use Rattle.window_laws.specs.Positions.{AreKept}
 use Rattle.window_laws.specs.Settled.{IsSettledAt, MayLeave, without_first}
-use Rattle.window_laws.proofs.SettledFacts.{holding, told_by_times}
+use Rattle.window_laws.proofs.SettledFacts.{told_by_times}
+use Rattle.window_laws.proofs.KindFacts.{holding}
 use Rattle.window_spans.specs.declared.span.Span.{Span}
 use Rattle.window_spans.specs.Ahead.{start_after}
 use Rattle.window_spans.specs.Spans.{AreApart, span_of}

@@ -9,7 +9,7 @@ use Rattle.window_spans.specs.Telling.{Tells}
 use Rattle.context_windows.specs.Marked.{Marked}
 use Rattle.context_windows.specs.Spanned.{IsSessionAt, Spanned}
 
--- a tuple may come at this time, and one of the definitions is this session window
+-- a tuple may come at this time, and one of the definitions is this window of sessions
 pub record MayComeAt (d : Definitions) (window at : ℕ) : Type 0 where
   pub session : IsSessionAt d window
   pub time : at ≤ TIME_MAX

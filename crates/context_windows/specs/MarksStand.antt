@@ -1,13 +1,22 @@
 -- What the intervals between the marks of a key stand for, where settled tuples may have left the store.
-use Rattle.std.specs.Prelude.{◌≡◌, ◌≤◌, ◌<◌, ◌-◌, ℕ, drop, length}
+use Rattle.std.proofs.Common.{◌≡◌, ◌∙◌, ◌≤◌, ◌<◌, ◌-◌, ℕ, Bool, true, false, ap, drop, length, refl, sym}
+use Rattle.std.proofs.lemmas.Bool.{false≢true}
+use Rattle.stream_base.specs.Kinds.{is_timed}
+use Rattle.stream_base.specs.declared.kind.Kind.{Kind}
 use Rattle.stream_base.specs.Limits.{Definitions}
 use Rattle.stream_base.specs.declared.func.Func.{Func}
 use Rattle.stream_base.specs.declared.kind.Kind.TheVariants.{Marks}
 use Rattle.stream_base.specs.Model.Changes.{Moment}
-use Rattle.key_parts.specs.Calls.{window_at}
+use Rattle.key_parts.specs.Calls.{window_at, window_kind}
+use Rattle.key_parts.specs.PartLaws.{IsForServed}
 use Rattle.window_laws.specs.After.{at_water}
 use Rattle.window_spans.proofs.Lasts.{stays_before}
 use Rattle.context_windows.specs.Marked.{FollowsMarks, Marked, RemembersHolder}
+
+-- whether a window lies between marks
+abbrev pub is_marks : Kind → Bool
+is_marks Marks = true
+is_marks kind = false
 
 -- one of the definitions is this window between marks
 pub record IsMarksAt (d : Definitions) (window : ℕ) : Type 0 where
@@ -40,3 +49,18 @@ do_stand_between_on {serves} d window m n s new stood rises = record {
   left = stood.left;
   bounded = stays_before s.forgotten m.water new d.lateness stood.bounded rises;
 }
+
+-- a window between marks is such a one
+is_between : (kind : Kind) → is_marks kind ≡ true → kind ≡ Marks
+is_between Marks marks = refl
+is_between kind marks = absurd (false≢true marks)
+
+pub marks_shown : (serves : Func → Type 0) → IsForServed is_marks serves (IsMarksShown serves)
+marks_shown serves d window within marks shows = record {
+  marks = record { within = within; kind = is_between (window_kind d window) marks };
+  shown = shows;
+}
+
+-- it is neither tumbling nor sliding
+pub marks_untimed : (d : Definitions) (window : ℕ) → IsMarksAt d window → is_timed (window_kind d window) ≡ true → ⊥
+marks_untimed d window at timed = false≢true (sym (ap is_timed at.kind) ∙ timed)

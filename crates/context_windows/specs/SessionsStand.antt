@@ -1,16 +1,22 @@
 -- What the sessions of a window stand for, where settled tuples may have left the store.
-use Rattle.std.specs.Prelude.{◌≤◌, ◌-◌, ℕ, drop}
+use Rattle.std.specs.Prelude.{◌≡◌, ◌≤◌, ◌<◌, ◌-◌, ℕ, true, drop, length}
+use Rattle.std.proofs.lemmas.Bool.{false≢true}
+use Rattle.stream_base.specs.Kinds.{is_session, is_timed}
+use Rattle.stream_base.specs.declared.kind.Kind.{Kind}
+use Rattle.stream_base.specs.declared.kind.Kind.TheVariants.{Session}
 use Rattle.stream_base.specs.Limits.{Definitions}
 use Rattle.stream_base.specs.declared.func.Func.{Func}
 use Rattle.stream_base.specs.Model.Changes.{Moment}
-use Rattle.key_parts.specs.Calls.{window_at}
+use Rattle.key_parts.specs.Calls.{window_at, window_kind}
+use Rattle.key_parts.specs.PartLaws.{IsForServed}
 use Rattle.window_laws.specs.After.{at_water}
 use Rattle.window_spans.proofs.Lasts.{stays_before}
-use Rattle.context_windows.specs.Spanned.{FollowsSessions, HasAsked, IsSessionAt, Remembers, Spanned, gap_at}
+use Rattle.context_windows.specs.Spanned.{FollowsSessions, HasAsked, IsSession, IsSessionAt, Remembers, Spanned, gap_at}
 
--- one of the definitions is this session window, and its function can be shown
+-- one of the definitions is this window of sessions, and its function can be shown
 pub record IsSessionShown (serves : Func → Type 0) (d : Definitions) (window : ℕ) : Type 0 where
-  pub session : IsSessionAt d window
+  pub within : window < length d.windows
+  pub session : is_session (window_kind d window) ≡ true
   pub shown : serves (window_at d window).func
 
 -- they are the sessions of all that is kept of a key, and of what is left of it without so many first tuples, but for some that end by the watermark minus the lateness; the function of their window can be shown
@@ -35,3 +41,15 @@ do_stand_on {serves} d window m n s new stood rises = record {
   left = stood.left;
   bounded = stays_before s.forgotten m.water new d.lateness stood.bounded rises;
 }
+
+-- a window of sessions is such a one
+pub sessions_shown : (serves : Func → Type 0) → IsForServed is_session serves (IsSessionShown serves)
+sessions_shown serves d window within session shows = record { within = within; session = session; shown = shows }
+
+-- it is neither tumbling nor sliding
+session_or_timed : (kind : Kind) → IsSession kind → is_timed kind ≡ true → ⊥
+session_or_timed (Session gap) session timed = false≢true timed
+session_or_timed kind session timed = session
+
+pub sessions_untimed : (d : Definitions) (window : ℕ) → IsSessionAt d window → is_timed (window_kind d window) ≡ true → ⊥
+sessions_untimed d window at timed = session_or_timed (window_kind d window) at.session timed

@@ -51,7 +51,7 @@ abbrev pub gap_of : Kind → ℕ
 gap_of (Session gap) = gap
 gap_of other = 0
 
--- one of the definitions is this session window
+-- one of the definitions is this window of sessions
 pub record IsSessionAt (d : Definitions) (window : ℕ) : Type 0 where
   pub within : window < length d.windows
   pub session : IsSession (window_at d window).kind

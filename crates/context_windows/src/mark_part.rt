@@ -9,7 +9,7 @@ use agg_store::AggStore;
 use aggregates::Partial;
 use key_parts::KeyPart;
 use std::alloc::Global;
-use stream_base::{Change, Defs, Func, Kept, KeyText, NoMemory};
+use stream_base::{Change, Defs, Func, Kept, KeyText, Kind, NoMemory};
 
 /// The intervals between the marks of one key for a window of it. They are those of all tuples and
 /// marks that were kept of the key: what has left the store lay in intervals that are forgotten.
@@ -29,10 +29,12 @@ fn func_at(defs: &Defs, window: u32) -> Func
 
 impl<M: Partial> KeyPart<M> for MarkPart {
     ghost use Rattle.std.proofs.Common.{◌≤◌, ◌-◌, length, zero-le};
-    ghost use Rattle.context_windows.specs.MarksStand.{DoStandBetween, IsMarksShown, RemembersHolderAt, do_stand_between_on};
+    ghost use Rattle.context_windows.specs.MarksStand.{DoStandBetween, IsMarksShown, RemembersHolderAt, do_stand_between_on, is_marks, marks_shown, marks_untimed};
     ghost use Rattle.window_spans.specs.Ahead.{start_after};
     ghost use Rattle.window_spans.specs.Spans.{due_of};
     ghost use Rattle.context_windows.specs.Marked.{holder_in, most_changes};
+
+    ghost serves_kind = { is_marks };
 
     ghost is_for = { IsMarksShown M.serves };
 
@@ -69,6 +71,8 @@ impl<M: Partial> KeyPart<M> for MarkPart {
 
     ghost is_lean = { λ d window water p. Unit {0} };
 
+    ghost is_for_served = { marks_shown M.serves };
+
     ghost stands_with_room = { λ d window m n s more part same stood. stood };
 
     ghost ahead_with_room = { λ d window water s more part same ahead. ahead };
@@ -77,6 +81,16 @@ impl<M: Partial> KeyPart<M> for MarkPart {
         do_stand_between_on d window m n part.windows new at.stood rises };
 
     ghost complete_in_time = { λ d window water. zero-le };
+
+    ghost stands_with_tuple = { λ d window m n before x more after part timed behind step stood.
+        absurd (marks_untimed d window stood.marks timed) };
+
+    ghost ahead_with_tuple = { λ d window m n before x more after part timed behind step stood ahead.
+        ahead };
+
+    fn can_serve(kind: &Kind) -> bool {
+        matches!(kind, Kind::Marks)
+    }
 
     fn fresh(alloc: Global, defs: &Defs, window: u32) -> Self {
         let _ = defs;

@@ -8,7 +8,7 @@ use agg_store::AggStore;
 use aggregates::Partial;
 use key_parts::KeyPart;
 use std::alloc::Global;
-use stream_base::{Change, Defs, Kept, KeyText, NoMemory};
+use stream_base::{Change, Defs, Kept, KeyText, Kind, NoMemory};
 
 /// The sessions of one key for a session window of it. They end and start by all tuples that were
 /// kept of the key: what has left the store lay in sessions that are forgotten.
@@ -19,10 +19,13 @@ pub struct SessionPart {
 
 impl<M: Partial> KeyPart<M> for SessionPart {
     ghost use Rattle.std.proofs.Common.{◌≤◌, ◌-◌, length, zero-le};
-    ghost use Rattle.context_windows.specs.SessionsStand.{AreAsked, DoStand, IsSessionShown, do_stand_on};
+    ghost use Rattle.stream_base.specs.Kinds.{is_session};
+    ghost use Rattle.context_windows.specs.SessionsStand.{AreAsked, DoStand, IsSessionShown, do_stand_on, sessions_shown, sessions_untimed};
     ghost use Rattle.window_spans.specs.Ahead.{start_after};
     ghost use Rattle.window_spans.specs.Spans.{due_of, put_changes};
     ghost use Rattle.context_windows.specs.Spanned.{gap_at};
+
+    ghost serves_kind = { is_session };
 
     ghost is_for = { IsSessionShown M.serves };
 
@@ -58,6 +61,8 @@ impl<M: Partial> KeyPart<M> for SessionPart {
 
     ghost is_lean = { λ d window water p. Unit {0} };
 
+    ghost is_for_served = { sessions_shown M.serves };
+
     ghost stands_with_room = { λ d window m n s more part same stood. stood };
 
     ghost ahead_with_room = { λ d window water s more part same ahead. ahead };
@@ -67,8 +72,19 @@ impl<M: Partial> KeyPart<M> for SessionPart {
 
     ghost complete_in_time = { λ d window water. zero-le };
 
+    ghost stands_with_tuple = { λ d window m n before x more after part timed behind step stood.
+        absurd (sessions_untimed d window stood.session timed) };
+
+    ghost ahead_with_tuple = { λ d window m n before x more after part timed behind step stood ahead.
+        ahead };
+
+    fn can_serve(kind: &Kind) -> bool {
+        matches!(kind, Kind::Session { .. })
+    }
+
     fn fresh(alloc: Global, defs: &Defs, window: u32) -> Self {
-        let _ = defs;
+        // The gap of the window is within its limits.
+        let _ = defs.windows();
         let _ = window;
         SessionPart {
             sessions: Sessions::new(alloc),

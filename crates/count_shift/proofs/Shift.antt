@@ -10,7 +10,7 @@ use Rattle.stream_base.specs.declared.change.Change.TheVariants.{New, Again, Gon
 use Rattle.stream_base.specs.declared.func.Func.{Func}
 use Rattle.stream_base.specs.declared.kept.Kept.{Kept}
 use Rattle.stream_base.specs.declared.kind.Kind.{Kind}
-use Rattle.stream_base.specs.declared.kind.Kind.TheVariants.{Tumbling, Sliding, Session, Marks, Events}
+use Rattle.stream_base.specs.declared.kind.Kind.TheVariants.{Events}
 use Rattle.stream_base.specs.declared.def.Def.{Def}
 use Rattle.stream_base.specs.Kinds.{IsKindWithin}
 use Rattle.stream_base.specs.Laws.{TimesDoNotFall, RiseByStart, becomes_complete, completions}
@@ -18,7 +18,8 @@ use Rattle.stream_base.specs.Model.Changes.{row_of, former_of, is_same, are_same
 use Rattle.stream_base.specs.Model.Journal.{put_in_order}
 use Rattle.stream_base.specs.Model.Windows.{last_time, ranks, instances_of, standing_of}
 use Rattle.stream_base.proofs.Members.{map_has, range_has}
-use Rattle.stream_base.proofs.Distinct.{standing_rises, find_same, is_same_itself}
+use Rattle.stream_base.proofs.Distinct.{find_same, is_same_itself}
+use Rattle.stream_base.proofs.KindFacts.{standing_rises}
 use Rattle.stream_base.proofs.ChangeFacts.{not_emitted, any_from_member}
 use Rattle.stream_base.specs.Model.Moments.{moment}
 use Rattle.count_shift.specs.Counting.{IsEvents, count_of, upper, IsNextPosition, upper_after, move_changes, put_changes, new_of, again_of}
@@ -295,18 +296,12 @@ put_numbers count kept time water pos h =
 
 -- an events window is one of its count and function
 kind_is_events : (kind : Kind) → IsEvents kind → kind ≡ Events (count_of kind)
-kind_is_events (Tumbling length) h = absurd h
-kind_is_events (Sliding length slide) h = absurd h
-kind_is_events (Session gap) h = absurd h
-kind_is_events Marks h = absurd h
 kind_is_events (Events count) h = refl
+kind_is_events kind h = absurd h
 
 pub count_is_within : (kind : Kind) → IsEvents kind → IsKindWithin (Events (count_of kind))
-count_is_within (Tumbling length) h = absurd h
-count_is_within (Sliding length slide) h = absurd h
-count_is_within (Session gap) h = absurd h
-count_is_within Marks h = absurd h
 count_is_within (Events count) h = h
+count_is_within kind h = absurd h
 
 -- ---- the changes of one window
 module _ (window : ℕ) (def : Def) (key : List ℕ) (kept : List Kept) (marks : List ℕ) (e : IsEvents def.kind) (h : TimesDoNotFall kept) where

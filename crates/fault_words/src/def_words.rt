@@ -5,14 +5,10 @@ use crate::help::Help;
 use std::alloc::Global;
 use stream_base::{LENGTH_RATIO_MAX, TIME_MAX};
 use toml::{Table, Value};
+use window_defs::{FUNCS, KINDS, func_named, is_kind, number_keys};
 
 // The most tuples of a window of events, and of those that `last` shows.
 pub const COUNT_MAX: u64 = 4_194_304;
-
-const FUNCS: &str = "count, sum, min, max, mean, first, last, rises and trace";
-
-// The integers of the kinds of windows, those of a kind side by side.
-const NUMBERS: [&str; 4] = ["length", "slide", "gap", "count"];
 
 /// Why the window of this number has a wrong shape: its kind, its function, or a key or value of it.
 pub fn put_window_shape(alloc: Global, i: u32, element: Option<&Value>, help: &mut Help) {
@@ -20,22 +16,26 @@ pub fn put_window_shape(alloc: Global, i: u32, element: Option<&Value>, help: &m
     let Some(fields) = table_of(element) else {
         return help.say(&[" is no table: write [[window]] in front of its keys"]);
     };
-    match numbers_of(text_at(fields, "kind")) {
-        None => put_kind(alloc, fields.get("kind"), help),
-        Some(numbers) => put_of_kind(alloc, fields, numbers, help),
+    if is_kind(text_at(fields, "kind")) {
+        put_of_kind(alloc, fields, help)
+    } else {
+        put_kind(alloc, fields.get("kind"), help)
     }
 }
 
 // What is wrong in a window whose kind is known.
-fn put_of_kind(alloc: Global, fields: &Table, numbers: &[&str], help: &mut Help) {
-    if !is_func(text_at(fields, "func")) {
+fn put_of_kind(alloc: Global, fields: &Table, help: &mut Help) {
+    if func_named(text_at(fields, "func")).is_none() {
         return put_func(alloc, fields.get("func"), help);
     }
-    if put_other_key(fields, numbers, help) {
+    let numbers = number_keys(text_at(fields, "kind"));
+    if put_other_key(fields, &numbers, help) {
         return;
     }
-    for key in numbers {
-        if put_no_integer(alloc, fields, key, help) {
+    for key in &numbers {
+        if let Some(key) = *key
+            && put_no_integer(alloc, fields, key, help)
+        {
             return;
         }
     }
@@ -43,19 +43,34 @@ fn put_of_kind(alloc: Global, fields: &Table, numbers: &[&str], help: &mut Help)
 
 fn put_kind(alloc: Global, value: Option<&Value>, help: &mut Help) {
     put_word(alloc, "kind", value, help);
-    help.say(&[
-        ": kind is one of \"tumbling\", \"sliding\", \"session\", \"marks\" and \"events\"",
-    ]);
+    help.say(&[": kind is one of "]);
+    put_words(&KINDS, "\"", help);
 }
 
 fn put_func(alloc: Global, value: Option<&Value>, help: &mut Help) {
     put_word(alloc, "func", value, help);
-    help.say(&[": func is one of ", FUNCS]);
+    help.say(&[": func is one of "]);
+    put_words(&FUNCS, "", help);
     match value.and_then(|value| value.as_str()) {
         Some("avg" | "average") => help.say(&[
             "; mean shows the sum and the count, so that nothing is rounded",
         ]),
         _ => help.say(&[", in quotes"]),
+    }
+}
+
+// Words, each between such marks: all but the last with commas between them.
+fn put_words(words: &[&str], mark: &str, help: &mut Help) {
+    let last = words.len().saturating_sub(1);
+    for (i, word) in words.iter().enumerate() {
+        let between = if i == 0 {
+            ""
+        } else if i == last {
+            " and "
+        } else {
+            ", "
+        };
+        help.say(&[between, mark, word, mark]);
     }
 }
 
@@ -71,7 +86,7 @@ fn put_word(alloc: Global, key: &str, value: Option<&Value>, help: &mut Help) {
 }
 
 // Says which key is none of the window's kind, if there is one.
-fn put_other_key(fields: &Table, numbers: &[&str], help: &mut Help) -> bool {
+fn put_other_key(fields: &Table, numbers: &[Option<&str>], help: &mut Help) -> bool {
     for (key, _) in fields {
         if !is_key(key.as_str(), numbers) {
             help.say(&[": "]);
@@ -82,7 +97,9 @@ fn put_other_key(fields: &Table, numbers: &[&str], help: &mut Help) -> bool {
                 " window: its keys are kind, func",
             ]);
             for number in numbers {
-                help.say(&[", ", number]);
+                if let Some(number) = *number {
+                    help.say(&[", ", number]);
+                }
             }
             return true;
         }
@@ -90,13 +107,13 @@ fn put_other_key(fields: &Table, numbers: &[&str], help: &mut Help) -> bool {
     false
 }
 
-fn is_key(key: &str, numbers: &[&str]) -> bool {
+fn is_key(key: &str, numbers: &[Option<&str>]) -> bool {
     key == "kind" || key == "func" || is_among(key, numbers)
 }
 
-fn is_among(key: &str, words: &[&str]) -> bool {
+fn is_among(key: &str, words: &[Option<&str>]) -> bool {
     for word in words {
-        if *word == key {
+        if *word == Some(key) {
             return true;
         }
     }
@@ -138,11 +155,14 @@ pub fn put_window_limit(i: u32, element: Option<&Value>, help: &mut Help) {
     let Some(fields) = table_of(element) else {
         return;
     };
-    let Some(numbers) = numbers_of(text_at(fields, "kind")) else {
+    let kind = text_at(fields, "kind");
+    if !is_kind(kind) {
         return;
-    };
-    for key in numbers {
-        if put_beyond(fields, key, help) {
+    }
+    for key in &number_keys(kind) {
+        if let Some(key) = *key
+            && put_beyond(fields, key, help)
+        {
             return;
         }
     }
@@ -174,27 +194,6 @@ fn number_limit(key: &str) -> &'static str {
         "slide" => "1 to the length, in the time unit of the records",
         _ => "1 to 10^15 in the time unit of the records, for example 60 where they count seconds",
     }
-}
-
-// The keys of integers of the kind that a word names.
-fn numbers_of(kind: &str) -> Option<&'static [&'static str]> {
-    let numbers = NUMBERS.as_slice();
-    match kind {
-        "tumbling" => Some(&numbers[..1]),
-        "sliding" => Some(&numbers[..2]),
-        "session" => Some(&numbers[2..3]),
-        "marks" => Some(&numbers[..0]),
-        "events" => Some(&numbers[3..]),
-        _ => None,
-    }
-}
-
-// Whether it is the name of a function.
-pub fn is_func(word: &str) -> bool {
-    matches!(
-        word,
-        "count" | "sum" | "min" | "max" | "mean" | "first" | "last" | "rises" | "trace"
-    )
 }
 
 fn put_window(i: u32, help: &mut Help) {

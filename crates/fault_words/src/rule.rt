@@ -1,5 +1,6 @@
-use crate::def_words::{COUNT_MAX, is_func};
+use crate::def_words::COUNT_MAX;
 use stream_base::TIME_MAX;
+use window_defs::func_named;
 
 // What is allowed for a word.
 #[derive(Clone, Copy)]
@@ -50,7 +51,7 @@ impl Rule {
             Rule::Reads => is_within(word, 0, 1_000),
             Rule::Many => is_within(word, 1, COUNT_MAX),
             Rule::Period => is_within(word, 1, TIME_MAX),
-            Rule::Func => is_func(word),
+            Rule::Func => func_named(word).is_some(),
             Rule::Lateness => is_within(word, 0, TIME_MAX),
         }
     }

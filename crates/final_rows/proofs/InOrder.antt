@@ -18,7 +18,7 @@ use Rattle.stream_base.specs.Model.Final.{all_entries, final_moment, final_rows}
 use Rattle.stream_base.specs.Model.Journal.{keys_of}
 use Rattle.model_laws.proofs.ChangeOrder.{sorted_flat_map}
 use Rattle.model_laws.proofs.ChangesAfter.{keys_in_order}
-use Rattle.stream_base.proofs.Distinct.{standing_rises}
+use Rattle.stream_base.proofs.KindFacts.{standing_rises}
 use Rattle.stream_base.proofs.EventOrder.{times_do_not_fall}
 use Rattle.model_laws.proofs.StandingRows.{by_row_total, less_by_key, rows_at_in_order}
 use Rattle.final_rows.specs.AtEnd.{AreUntied}

@@ -33,7 +33,8 @@ use Rattle.stream_base.proofs.EventOrder.{event_order_total}
 use Rattle.stream_base.proofs.Members.{map_has, map_members}
 use Rattle.stream_base.proofs.Rising.{Contains-head, Contains-tail, below_tail, nat_rising_is_sorted, same_members_same_list, sorted_cons, sorted_nil}
 use Rattle.window_laws.specs.Instances.{with_each}
-use Rattle.window_laws.proofs.TimesFacts.{instances_each, map_map}
+use Rattle.window_laws.proofs.TimesFacts.{map_map}
+use Rattle.window_laws.proofs.KindFacts.{instances_each}
 use Rattle.final_rows.specs.AtEnd.{AreTied, HasNoTies}
 use Rattle.final_rows.proofs.Moments.{AreEarly, Contains-stands, final_in_event_order, kept_stands, mark_stands, stands_kept, stands_marked}
 

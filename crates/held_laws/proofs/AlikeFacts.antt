@@ -18,8 +18,8 @@ use Rattle.stream_base.proofs.Members.{filter_has, filter_members, filter_same}
 use Rattle.window_laws.specs.Instances.{incomplete}
 use Rattle.window_laws.specs.Positions.{AreKept}
 use Rattle.window_laws.specs.Settled.{MayLeave, without_first}
-use Rattle.window_laws.proofs.InstanceFacts.{bounds_are_ends}
-use Rattle.window_laws.proofs.LeaveFacts.{EndBy, firsts_leave}
+use Rattle.window_laws.proofs.KindFacts.{bounds_are_ends, EndBy}
+use Rattle.window_laws.proofs.LeaveChanges.{firsts_leave}
 use Rattle.stream_base.proofs.Filters.{filter_none}
 use Rattle.window_laws.proofs.SettledFacts.{all_from, all_member, settled_by_times, times_settle}
 

@@ -15,7 +15,8 @@ use Rattle.stream_base.specs.Model.Changes.{Moment}
 use Rattle.stream_base.specs.Model.Windows.{Instance, instances_of, sessions, stretches, within}
 use Rattle.window_laws.specs.Positions.{AreKept}
 use Rattle.slice_lists.specs.Runs.{IsAligned}
-use Rattle.window_laws.proofs.InstanceFacts.{sessions_select, spans_hold_selections}
+use Rattle.window_laws.proofs.InstanceFacts.{sessions_select}
+use Rattle.window_laws.proofs.KindFacts.{spans_hold_selections}
 use Rattle.agg_store.specs.Stored.{IsStore, Stored, tuples_of}
 use Rattle.context_windows.specs.Aligned.{IsOfSessions, IsOfWindows}
 use Rattle.context_windows.specs.Spanned.{HoldsSessions, IsSession}

@@ -3,3 +3,4 @@ pub mod Moves
 pub mod Calls
 pub mod Work
 pub mod Promises
+pub mod PartLaws

@@ -13,7 +13,7 @@ use agg_laws::Steps;
 use agg_store::AggStore;
 use aggregates::Partial;
 use std::alloc::Global;
-use stream_base::{Change, Defs, Kept, KeyText, NoMemory};
+use stream_base::{Change, Defs, Kept, KeyText, Kind, NoMemory};
 
 /// The part of one window in the state of a key. The tuples lie in the store of slices that all parts
 /// of a key share, which takes a tuple or a mark in before the parts do. `put`, `mark` and `water`
@@ -23,13 +23,15 @@ use stream_base::{Change, Defs, Kept, KeyText, NoMemory};
 /// The definitions and the window that a call is handed are those of every call before it. A clause
 /// that speaks of what is known of the key holds for all that the part stands for.
 pub trait KeyPart<M: Partial>: Drop {
-    ghost use Rattle.std.specs.Prelude.{◌≡◌, ◌≤◌, [], ℕ, List};
+    ghost use Rattle.std.specs.Prelude.{ℕ, Bool};
+    ghost use Rattle.stream_base.specs.declared.kind.Kind.{Kind};
     ghost use Rattle.stream_base.specs.Limits.{Definitions};
-    ghost use Rattle.stream_base.specs.Laws.{completions};
     ghost use Rattle.stream_base.specs.Model.Changes.{Moment};
-    ghost use Rattle.window_laws.specs.After.{at_water};
-    ghost use Rattle.agg_store.specs.Stored.{IsAsBefore, Stored};
-    ghost use Rattle.key_parts.specs.Calls.{StandsAt, window_at};
+    ghost use Rattle.agg_store.specs.Stored.{Stored};
+    ghost use Rattle.key_parts.specs.PartLaws.{AheadUntold, AheadWithRoom, EndsInTime, IsForServed, StandsUntold, StandsWithRoom, WaitsForMore};
+
+    /// Whether it serves windows of a kind.
+    ghost serves_kind: { Kind → Bool };
 
     /// The window at a place of the definitions is of the kind that it is for, and its function can
     /// be shown.
@@ -80,6 +82,10 @@ pub trait KeyPart<M: Partial>: Drop {
 
     /// Of what nothing can need any more at a watermark it keeps little.
     ghost is_lean: { Definitions → ℕ → ℕ → Self → Type 0 };
+
+    /// Whether it serves windows of this kind.
+    fn can_serve(kind: &Kind) -> bool
+        ensures { result ≡ serves_kind kind.now };
 
     /// No tuple and no mark yet.
     fn fresh(alloc: Global, defs: &Defs, window: u32) -> Self
@@ -288,22 +294,25 @@ pub trait KeyPart<M: Partial>: Drop {
         ensures credit { credit self.new ≡ credit self.old }
         ensures ahead { MissesNoMore (is_ahead defs.now window) self.old self.new };
 
+    /// It is for each window of the definitions whose kind it serves and whose function M shows.
+    ghost is_for_served: { IsForServed serves_kind M.serves is_for };
+
     /// What it stands for has nothing to do with the room of the store.
-    ghost stands_with_room: { (d : Definitions) (window : ℕ) (m : Moment) (n : ℕ)
-        (s more : Stored) (part : Self) → IsAsBefore s more
-        → stands d window m n s part → stands d window m n more part };
+    ghost stands_with_room: { StandsWithRoom stands };
 
     /// And neither has what it missed.
-    ghost ahead_with_room: { (d : Definitions) (window water : ℕ) (s more : Stored) (part : Self)
-        → IsAsBefore s more → is_ahead d window water s part → is_ahead d window water more part };
+    ghost ahead_with_room: { AheadWithRoom is_ahead };
 
     /// Up to a later watermark at which nothing becomes complete it stands for the same.
-    ghost waits: { (d : Definitions) (window : ℕ) (key : List ℕ) (m : Moment) (n : ℕ) (s : Stored)
-        (part : Self) (new : ℕ) → StandsAt stands d window m.water s part m n → m.water ≤ new
-        → completions key m new (window, window_at d window) ≡ []
-        → stands d window (at_water m new) n s part };
+    ghost waits: { WaitsForMore stands };
 
     /// What is complete at a watermark ends by it.
-    ghost complete_in_time: { (d : Definitions) (window water : ℕ)
-        → complete_by d window water ≤ water };
+    ghost complete_in_time: { EndsInTime complete_by };
+
+    /// Where its window is tumbling or sliding it need not be told of a tuple that the store took in
+    /// at or behind the watermark: it stands for what is known of the key then, too.
+    ghost stands_with_tuple: { StandsUntold stands };
+
+    /// And it has missed nothing by it.
+    ghost ahead_with_tuple: { AheadUntold stands is_ahead };
 }

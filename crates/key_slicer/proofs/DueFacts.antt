@@ -7,9 +7,9 @@ use Rattle.std.proofs.lemmas.List.Elements.{All-contains}
 use Rattle.stream_base.specs.declared.def.Def.{Def}
 use Rattle.stream_base.specs.declared.kept.Kept.{Kept}
 use Rattle.stream_base.specs.declared.kind.Kind.{Kind}
-use Rattle.stream_base.specs.declared.kind.Kind.TheVariants.{Tumbling, Sliding, Session, Marks, Events}
+use Rattle.stream_base.specs.declared.kind.Kind.TheVariants.{Tumbling, Sliding}
 use Rattle.stream_base.specs.Laws.{HoldsTime, TimesDoNotFall, completions}
-use Rattle.stream_base.specs.Kinds.{CutsBetween, IsKindWithin, is_timed}
+use Rattle.stream_base.specs.Kinds.{length_of, slide_of, CutsBetween, IsKindWithin, is_timed}
 use Rattle.stream_base.specs.Model.Changes.{Moment}
 use Rattle.stream_base.specs.Model.Cuts.{has_cut}
 use Rattle.stream_base.specs.Model.Journal.{put_in_order}
@@ -27,7 +27,8 @@ use Rattle.window_laws.specs.After.{at_water, with_tuple}
 use Rattle.window_laws.specs.Positions.{AreKept}
 use Rattle.window_laws.specs.Settled.{IsSettledAt}
 use Rattle.window_laws.proofs.SettledFacts.{all_from, all_member, settled_before, settled_by_times, times_settle}
-use Rattle.window_laws.proofs.SettledMoves.{span_of_other, tuple_settles_no_other}
+use Rattle.window_laws.proofs.SettledMoves.{tuple_settles_no_other}
+use Rattle.window_laws.proofs.HoldingFacts.{span_of_other}
 use Rattle.slice_lists.specs.Runs.{IsRun}
 use Rattle.slice_lists.proofs.Order.{runs_are_runs}
 use Rattle.slice_lists.specs.Touched.{is_near}
@@ -45,9 +46,9 @@ use Rattle.held_laws.proofs.AlikeFacts.{of_rest}
 use Rattle.key_slicer.specs.Joining.{Joins}
 use Rattle.key_slicer.specs.States.{Fits}
 use Rattle.key_slicer.proofs.StateFacts.{fits_waiting, move_is}
-use Rattle.key_slicer.proofs.UntoldFacts.{timed_counts_not}
+use Rattle.stream_base.proofs.KindFacts.{timed_counts_not, timed_cuts, timed_instances, timed_within}
 use Rattle.plain_windows.specs.Changing.{HasBound, KeepsBounds}
-use Rattle.plain_windows.proofs.Ahead.{ahead_of_none, keeps_sliding, keeps_tumbling, nothing_ahead}
+use Rattle.plain_windows.proofs.Ahead.{ahead_of_none, nothing_ahead}
 use Rattle.plain_windows.proofs.Bounds.{last_of}
 
 -- ---- a tuple that joins
@@ -68,18 +69,12 @@ span_joins long slide kept x y moves overlaps has behind none i c =
 joins_ahead : (kind : Kind) (kept : List Kept) (marks : List ℕ) (water due : ℕ) (x y : Kept) → IsKindWithin kind → is_timed kind ≡ true → Contains kept y → y.time ≤ x.time → (CutsBetween kind y.time x.time → ⊥)
     → ((i : Instance) → Contains (instances_of kind kept marks) i → water < i.bound → due ≤ i.bound)
     → (i : Instance) → Contains (instances_of kind (put_in_order kept x) marks) i → water < i.bound → due ≤ i.bound
-unfolding instances_of
-joins_ahead (Tumbling long) kept marks water due x y within timed has behind none old i c h =
-    let b : HasBound (spans long long kept) i.bound = span_joins long long kept x y within.0 (omega arith) has behind (λ k l g. none (k, inl (l, g))) i c in
-    let le : due ≤ (b.0).bound = old b.0 b.1 (omega (arith, b.2)) in
+joins_ahead kind kept marks water due x y within timed has behind none old i c h =
+    let w = timed_within kind timed within in
+    let b : HasBound (spans (length_of kind) (slide_of kind) kept) i.bound =
+    span_joins (length_of kind) (slide_of kind) kept x y w.0 w.1 has behind (λ k l g. none (timed_cuts kind y.time x.time timed (k, inl (l, g)))) i (subst (λ is. Contains is i) (timed_instances kind (put_in_order kept x) marks timed) c) in
+    let le : due ≤ (b.0).bound = old b.0 (subst (λ is. Contains is b.0) (sym (timed_instances kind kept marks timed)) b.1) (omega (arith, b.2)) in
     omega (arith, b.2)
-joins_ahead (Sliding long slide) kept marks water due x y within timed has behind none old i c h =
-    let b : HasBound (spans long slide kept) i.bound = span_joins long slide kept x y within.2 within.3 has behind (λ k l g. none (k, inl (l, g))) i c in
-    let le : due ≤ (b.0).bound = old b.0 b.1 (omega (arith, b.2)) in
-    omega (arith, b.2)
-joins_ahead (Session gap) kept marks water due x y within timed has behind none old i c h = absurd cc
-joins_ahead Marks kept marks water due x y within timed has behind none old i c h = absurd cc
-joins_ahead (Events count) kept marks water due x y within timed has behind none old i c h = absurd cc
 
 -- what was ahead still is, and so a move that completed nothing completes nothing
 pub still_none : (windows : List Def) (cuts : List ℕ) (key : List ℕ) (m : Moment) (new : ℕ) (x y : Kept) → All (λ w. IsKindWithin w.kind) windows → All (λ w. is_timed w.kind ≡ true) windows
@@ -150,24 +145,17 @@ span_stays long slide kept x moves overlaps i c =
     )
 
 keeps_bounds : (kind : Kind) → IsKindWithin kind → is_timed kind ≡ true → KeepsBounds kind
-keeps_bounds (Tumbling long) within timed = keeps_tumbling long (λ kept x i c. span_stays long long kept x within.0 (omega arith) i c)
-keeps_bounds (Sliding long slide) within timed = keeps_sliding long slide (λ kept x i c. span_stays long slide kept x within.2 within.3 i c)
-keeps_bounds (Session gap) within timed = absurd cc
-keeps_bounds Marks within timed = absurd cc
-keeps_bounds (Events count) within timed = absurd cc
+keeps_bounds kind within timed kept marks x i c =
+    let w = timed_within kind timed within in
+    subst (λ is. HasBound is i.bound) (sym (timed_instances kind (put_in_order kept x) marks timed))
+    (span_stays (length_of kind) (slide_of kind) kept x w.0 w.1 i (subst (λ is. Contains is i) (timed_instances kind kept marks timed) c))
 
 -- a tuple keeps another settled, even where it is late
 settled_at_put : (lateness : ℕ) (m : Moment) (kind : Kind) (y z : Kept) → IsKindWithin kind → is_timed kind ≡ true → Contains m.kept z → IsSettledAt lateness kind m z.time → IsSettledAt lateness kind (with_tuple m y) z.time
-unfolding instances_of
-settled_at_put lateness m (Tumbling long) y z k timed d s i c l r =
-    let j = span_of_other long long (put_in_order m.kept y) m.kept i z k.0 (omega arith) c d l r in
-    omega (arith, j.3, s j.0 j.1 (omega (arith, j.2)) (omega (arith, j.3)))
-settled_at_put lateness m (Sliding long slide) y z k timed d s i c l r =
-    let j = span_of_other long slide (put_in_order m.kept y) m.kept i z k.2 k.3 c d l r in
-    omega (arith, j.3, s j.0 j.1 (omega (arith, j.2)) (omega (arith, j.3)))
-settled_at_put lateness m (Session gap) y z k timed d s i c l r = absurd cc
-settled_at_put lateness m Marks y z k timed d s i c l r = absurd cc
-settled_at_put lateness m (Events count) y z k timed d s i c l r = absurd cc
+settled_at_put lateness m kind y z k timed d s i c l r =
+    let w = timed_within kind timed k in
+    let j = span_of_other (length_of kind) (slide_of kind) (put_in_order m.kept y) m.kept i z w.0 w.1 (subst (λ is. Contains is i) (timed_instances kind (put_in_order m.kept y) m.marks timed) c) d l r in
+    omega (arith, j.3, s j.0 (subst (λ is. Contains is j.0) (sym (timed_instances kind m.kept m.marks timed)) j.1) (omega (arith, j.2)) (omega (arith, j.3)))
 
 -- two tests that leave the same of a list agree on it
 agree : {X : Type 0} (p q : X → Bool) (xs : List X) → filter p xs ≡ filter q xs → (x : X) → Contains xs x → p x ≡ q x

@@ -21,7 +21,7 @@ use Rattle.stream_base.specs.declared.func.Func.TheVariants.{Count}
 use Rattle.stream_base.specs.declared.kind.Kind.TheVariants.{Marks}
 use Rattle.stream_base.specs.Model.Slices.{is_settled, runs_of, unsettled}
 use Rattle.stream_base.specs.Model.Windows.{first_time, instances_of, last_time}
-use Rattle.model_laws.proofs.Absent.{no_instances}
+use Rattle.stream_base.proofs.KindFacts.{no_instances}
 use Rattle.stream_base.proofs.ChangeFacts.{changes_at_water, flat_map_none}
 use Rattle.stream_base.specs.Model.Journal.{put_in_order}
 use Rattle.stream_base.proofs.Distinct.{All_from_members}

@@ -10,14 +10,15 @@ use Rattle.stream_base.specs.declared.def.Def.{Def}
 use Rattle.stream_base.specs.declared.func.Func.TheVariants.{Count}
 use Rattle.stream_base.specs.declared.kept.Kept.{Kept}
 use Rattle.stream_base.specs.declared.kind.Kind.{Kind}
-use Rattle.stream_base.specs.declared.kind.Kind.TheVariants.{Tumbling, Sliding, Session, Marks, Events}
+use Rattle.stream_base.specs.declared.kind.Kind.TheVariants.{Session, Marks, Events}
 use Rattle.stream_base.specs.declared.limits.TheConstants.{TIME_MAX}
 use Rattle.stream_base.specs.Model.Changes.{Moment}
 use Rattle.stream_base.specs.Model.Journal.{put_in_order}
 use Rattle.stream_base.proofs.ChangeFacts.{no_changes, standing_at_rises}
 use Rattle.stream_base.specs.Model.Moments.{moment}
 use Rattle.window_laws.specs.After.{with_tuple}
-use Rattle.window_laws.proofs.AfterFacts.{tuple_at_stands}
+use Rattle.stream_base.proofs.KindFacts.{timed_counts_not}
+use Rattle.window_laws.proofs.KindFacts.{tuple_at_stands}
 use Rattle.agg_store.specs.Stored.{Stored}
 use Rattle.key_windows.specs.Calls.{changes_by_put}
 use Rattle.key_parts.specs.Calls.{Standing, window_at}
@@ -25,13 +26,6 @@ use Rattle.key_parts.specs.Moves.{IsPutStep}
 use Rattle.key_slicer.specs.Parts.{AreStanding, EachPart}
 
 -- ---- the changes
-pub timed_counts_not : (kind : Kind) → is_timed kind ≡ true → is_events kind ≡ false
-timed_counts_not (Tumbling length) t = refl
-timed_counts_not (Sliding length slide) t = refl
-timed_counts_not (Session gap) t = absurd cc
-timed_counts_not Marks t = refl
-timed_counts_not (Events count) t = absurd cc
-
 -- at or behind the watermark it changes nothing of tumbling and sliding windows
 pub untold_changes : (d : Definitions) (key : List ℕ) (kept : List Kept) (marks : List ℕ) (water : ℕ) (x : Kept) → All (λ w. IsKindWithin w.kind) d.windows → All (λ w. is_timed w.kind ≡ true) d.windows → TimesDoNotFall kept
     → x.time ≤ TIME_MAX → water ≤ x.time → changes_by_put d key kept marks water x ≡ []

@@ -1,5 +1,5 @@
 -- How many steps an entry takes at most.
-use Rattle.std.proofs.Common.{◌≡◌, ◌∙◌, ◌≤◌, ◌<◌, ◌+◌, ◌-◌, ◌*◌, ℕ, List, [], ◌∷◌, length, get_or, take, ap, arith, subst, sym}
+use Rattle.std.proofs.Common.{Bool, true, false, cond, ◌≡◌, ◌∙◌, ◌≤◌, ◌<◌, ◌+◌, ◌-◌, ◌*◌, ℕ, List, [], ◌∷◌, length, get_or, take, ap, arith, subst, sym}
 use Rattle.std.specs.Prelude.{nat_lt, nat_le, filter, sum_by}
 use Rattle.std.specs.List.{enumerate_from, flat_map}
 use Rattle.std.proofs.Math.Nat.{mul-le-mul_left}
@@ -11,7 +11,6 @@ use Rattle.stream_base.specs.declared.change.Change.{Change}
 use Rattle.stream_base.specs.declared.def.Def.{Def}
 use Rattle.stream_base.specs.declared.kept.Kept.{Kept}
 use Rattle.stream_base.specs.declared.kind.Kind.{Kind}
-use Rattle.stream_base.specs.declared.kind.Kind.TheVariants.{Tumbling, Sliding, Session, Marks, Events}
 use Rattle.stream_base.specs.Laws.{completions}
 use Rattle.stream_base.specs.Model.Changes.{Moment, changes_between}
 use Rattle.stream_base.specs.Model.Cuts.{has_cut}
@@ -29,18 +28,18 @@ use Rattle.held_laws.specs.Settling.{NoneSettled}
 use Rattle.held_laws.proofs.OpenFacts.{near_under_all_marks, unsettled_slices_are_held}
 use Rattle.key_slicer.specs.Parts.{turns}
 use Rattle.key_slicer.specs.Work.{bounds_mark, bounds_move, bounds_put, counting_work, entry_work, mark_over, mark_work, move_over, put_work, slices_gone, turn_work, turns_work, walk_work}
-use Rattle.stream_base.specs.Kinds.{events_in}
+use Rattle.stream_base.specs.Kinds.{events_in, is_events}
 use Rattle.key_slicer.proofs.Loops.{summed_more}
 use Rattle.key_slicer.proofs.SortFacts.{as_many_turns}
 
 -- ---- the changes of windows
 -- those of one window take as much as that many folds, and what counting takes
 one_turn : (kind : Kind) (reach n : ℕ) → change_work kind reach * n ≤ 64 * (reach + 2) * n + 2 * events_in kind * n
-one_turn (Tumbling length) reach n = omega arith
-one_turn (Sliding length slide) reach n = omega arith
-one_turn (Session gap) reach n = omega arith
-one_turn Marks reach n = omega arith
-one_turn (Events count) reach n = omega arith
+one_turn kind reach n = by (is_events kind)
+  where
+    by : (counts : Bool) → cond counts (2 * events_in kind) (64 * (reach + 2)) * n ≤ 64 * (reach + 2) * n + 2 * events_in kind * n
+    by true = omega arith
+    by false = omega arith
 
 -- and so do those of all windows
 all_turns : (reach : ℕ) (changes : ℕ × Def → List Change) (ws : List (ℕ × Def))

@@ -1,8 +1,7 @@
 -- A key that no tuple or mark of a journal has: nothing is kept of it, and nothing of it stands.
-use Rattle.std.proofs.Common.{◌≡◌, ◌∙◌, ℕ, Bool, true, false, cond, List, [], ◌∷◌, ◌++◌, length, map, ap, sym, refl, subst, Option, None, Some, inl, inr, ⊎_elim}
-use native.Mathlib.Nat.{zero-div}
+use Rattle.std.proofs.Common.{◌≡◌, ◌∙◌, ℕ, Bool, true, false, cond, List, [], ◌∷◌, ◌++◌, length, ap, sym, refl, subst, Option, None, Some, inl, inr, ⊎_elim}
 use Rattle.std.specs.Str.{bytes_eq}
-use Rattle.std.specs.List.{list_any, Contains, filter, range_with_len}
+use Rattle.std.specs.List.{list_any, Contains}
 use Rattle.std.proofs.lemmas.Bool.{false≢true, or_cases}
 use Rattle.std.proofs.lemmas.Slice.Eq.{bytes_eq-Decides}
 use Rattle.stream_base.specs.declared.what.What.{What}
@@ -18,18 +17,16 @@ use Rattle.std.specs.Prelude.{◌⊎◌}
 use Rattle.std.specs.Option.{option_map_or}
 use Rattle.std.specs.Ordering.{nat_cmp}
 use Rattle.std.proofs.lemmas.Map.Lookups.{exact_bytes}
-use Rattle.stream_base.specs.declared.limits.TheConstants.{FINAL}
 use Rattle.stream_base.specs.declared.entry.Entry.{Entry}
 use Rattle.stream_base.specs.declared.kept.Kept.{Kept}
-use Rattle.stream_base.specs.declared.kind.Kind.{Kind}
-use Rattle.stream_base.specs.declared.kind.Kind.TheVariants.{Tumbling, Sliding, Session, Marks, Events}
-use Rattle.stream_base.specs.Model.Journal.{keys_of, kept_of, rising}
+use Rattle.stream_base.specs.Model.Journal.{keys_of, kept_of}
 use Rattle.stream_base.specs.Model.What.{key_in, tuple_in}
-use Rattle.stream_base.specs.Model.Windows.{Instance, is_selecting, between_times, instances_of, standing_of, is_complete, ranks}
+use Rattle.stream_base.specs.Model.Windows.{Instance, standing_of}
 use Rattle.stream_base.proofs.Rising.{none_in_nil, Contains-at_head, Contains-tail, Contains-insert_key, Contains-insert_key_self}
 use Rattle.stream_base.proofs.Growing.{keys_of_push, kept_of_nil, kept_of_other}
 use Rattle.stream_base.proofs.EventOrder.{from_the_front}
 use Rattle.stream_base.proofs.ChangeFacts.{any_from_member}
+use Rattle.stream_base.proofs.KindFacts.{nothing_stands}
 
 pub bytes_eq_true : (a b : List ℕ) → bytes_eq a b ≡ true → a ≡ b
 bytes_eq_true a b h = (bytes_eq-Decides a b).0 h
@@ -65,23 +62,6 @@ nothing_kept lateness sources key journal =
     no_tuple : (j : List Entry) (e : Entry) → ¬ Contains (keys_of (j ++ e ∷ [])) key → (o : Option Kept) → tuple_in key (length j) e.what ≡ o → tuple_in key (length j) e.what ≡ None
     no_tuple j e absent None h = h
     no_tuple j e absent (Some x) h = absurd (absent (key_comes j e key (tuple_is_keyed key (length j) e.what x h)))
-
-no_stretch : (times : List ℕ) → filter is_selecting (between_times times []) ≡ []
-no_stretch [] = refl
-no_stretch (a ∷ []) = refl
-no_stretch (a ∷ b ∷ times) = no_stretch (b ∷ times)
-
--- nothing kept, no instance
-pub no_instances : (kind : Kind) (marks : List ℕ) → instances_of kind [] marks ≡ []
-unfolding instances_of
-no_instances (Tumbling length') marks = refl
-no_instances (Sliding length' slide) marks = refl
-no_instances (Session gap) marks = refl
-no_instances Marks marks = no_stretch (rising nat_cmp (0 ∷ marks ++ FINAL ∷ []))
-no_instances (Events count) marks = ap (λ n. map (ranks count []) (range_with_len 0 n)) (zero-div count)
-
-pub nothing_stands : (kind : Kind) (marks : List ℕ) (water : ℕ) → standing_of kind [] marks water ≡ []
-nothing_stands kind marks water = ap (filter (is_complete water)) (no_instances kind marks)
 
 -- a key is in a list or isn't
 key_found : (key : List ℕ) (keys : List (List ℕ)) → list_any (bytes_eq key) keys ≡ true → Contains keys key

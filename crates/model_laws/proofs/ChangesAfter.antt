@@ -24,8 +24,6 @@ use Rattle.stream_base.specs.declared.what.What.TheVariants.{Tuple, Mark, Water,
 use Rattle.stream_base.specs.Limits.{Definitions, AreWithinLimits}
 use Rattle.stream_base.specs.Kinds.{IsKindWithin, is_timed}
 use Rattle.stream_base.specs.declared.kept.Kept.{Kept}
-use Rattle.stream_base.specs.declared.kind.Kind.{Kind}
-use Rattle.stream_base.specs.declared.kind.Kind.TheVariants.{Tumbling, Sliding, Session, Marks, Events}
 use Rattle.stream_base.specs.Model.Windows.{standing_of}
 use Rattle.stream_base.specs.Model.Journal.{put_in_order, keys_of, kept_of, marks_of}
 use Rattle.stream_base.specs.Model.Watermark.{water_of}
@@ -36,7 +34,7 @@ use Rattle.stream_base.proofs.Rising.{none_in_nil, Contains-cons_cases, below_ta
 use Rattle.stream_base.proofs.Growing.{kept_of_tuple, kept_of_other, marks_of_other, keys_of_push, kept_of_late, marks_of_late}
 use Rattle.model_laws.proofs.WatermarkFacts.{water_of_same, water_rises}
 use Rattle.stream_base.proofs.Members.{flat_map_members, flat_map_has}
-use Rattle.stream_base.proofs.Spans.{standing_of_tumbling_put, standing_of_sliding_put}
+use Rattle.stream_base.proofs.KindFacts.{timed_stand_at_put}
 use Rattle.stream_base.proofs.EventOrder.{kept_times_do_not_fall}
 use Rattle.model_laws.proofs.Absent.{bytes_eq_true, tuple_is_keyed, keys_stay, key_comes, nothing_kept, is_key_or_not, no_change_of_none}
 use Rattle.stream_base.proofs.ChangeFacts.{no_changes, standing_at_rises, flat_map_none, flat_map_same, no_changes_at_rest, changes_at_water}
@@ -235,13 +233,6 @@ moment_of_late d sources key before e late = λ i. record {
 }
 
 -- ---- a tuple at or after the watermark
-standing_of_timed_put : (kind : Kind) (kept : List Kept) (marks : List ℕ) (water : ℕ) (x : Kept) → IsKindWithin kind → is_timed kind ≡ true → water ≤ x.time → standing_of kind (put_in_order kept x) marks water ≡ standing_of kind kept marks water
-standing_of_timed_put (Tumbling length') kept marks water x k t later = standing_of_tumbling_put length' kept marks water x k.0 later
-standing_of_timed_put (Sliding length' slide) kept marks water x k t later = standing_of_sliding_put length' slide kept marks water x k.2 k.3 later
-standing_of_timed_put (Session gap) kept marks water x k t later = absurd (false≢true t)
-standing_of_timed_put Marks kept marks water x k t later = absurd (false≢true t)
-standing_of_timed_put (Events count) kept marks water x k t later = absurd (false≢true t)
-
 tuple_has_no_mark : (key of : List ℕ) (position : ℕ) (what : What) (x : Kept) → tuple_in of position what ≡ Some x → mark_in key what ≡ None
 tuple_has_no_mark key of position (Tuple k time value) x h = refl
 tuple_has_no_mark key of position (Mark k time) x h = cc
@@ -268,4 +259,4 @@ no_changes_of_tuple d sources before e key x limits timed it on_time later =
         let m : marks_of d.lateness sources key (before ++ e ∷ []) ≡ marks = marks_of_other d.lateness sources key before e (tuple_has_no_mark key key (length before) e.what x it) in
         let w : water_of sources (before ++ e ∷ []) ≡ water_of sources before = water_of_keyed sources before e key keyed in
         (λ i. standing_of def.kind (k i) (m i) (w i))
-        ∙ standing_of_timed_put def.kind kept marks (water_of sources before) x (All-contains (λ w. IsKindWithin w.kind) d.windows def limits.kinds c) (All-contains (λ w. is_timed w.kind ≡ true) d.windows def timed c) later
+        ∙ timed_stand_at_put def.kind kept marks (water_of sources before) x (All-contains (λ w. IsKindWithin w.kind) d.windows def limits.kinds c) (All-contains (λ w. is_timed w.kind ≡ true) d.windows def timed c) later

@@ -1,76 +1,25 @@
 -- What instances choose is kept; instances by their spans; selections by their positions.
-use Rattle.std.proofs.Common.{◌≡◌, ◌∙◌, ℕ, zero, suc, ◌*◌, ◌+◌, ◌/◌, Bool, true, false, List, [], ◌∷◌, ◌++◌, length, map, take, drop, ap, sym, subst, refl, eqb, ⊎_elim, inl, inr, Option, None, Some}
+use Rattle.std.proofs.Common.{◌≡◌, ◌∙◌, ℕ, Bool, true, false, List, [], ◌∷◌, ◌++◌, length, map, ap, sym, subst, refl, eqb, ⊎_elim, inl, inr, Option, None, Some}
 use Rattle.std.specs.Prelude.{◌⊎◌, ◌&&◌, nat_lt}
-use Rattle.std.specs.List.{Contains, position_or_len, range_with_len}
+use Rattle.std.specs.List.{Contains, position_or_len}
 use Rattle.std.specs.Option.{option_map_or}
-use Rattle.std.specs.Ordering.{nat_cmp}
 use Rattle.std.proofs.lemmas.Bool.{false≢true, eqb-true, eq-eqb, and_parts, and_from}
 use Rattle.stream_base.specs.Limits.{Definitions}
 use Rattle.stream_base.specs.declared.def.Def.{Def}
 use Rattle.stream_base.specs.declared.entry.Entry.{Entry}
 use Rattle.stream_base.specs.declared.func.Func.{Func}
 use Rattle.stream_base.specs.declared.kept.Kept.{Kept}
-use Rattle.stream_base.specs.declared.kind.Kind.{Kind}
-use Rattle.stream_base.specs.declared.kind.Kind.TheVariants.{Tumbling, Sliding, Session, Marks, Events}
-use Rattle.stream_base.specs.declared.limits.TheConstants.{FINAL}
 use Rattle.stream_base.specs.Laws.{HasInstance, accepted_tuple}
 use Rattle.stream_base.specs.Model.Changes.{are_same_tuples, moment_of, row_of, standing_at}
 use Rattle.stream_base.specs.Model.Functions.{shown_of}
-use Rattle.stream_base.specs.Model.Journal.{kept_of, put_in_order, rising}
-use Rattle.stream_base.specs.Model.Windows.{Instance, between_times, instances_of, interval, is_complete, is_selecting, is_within, ranks, sessions, starts_of}
+use Rattle.stream_base.specs.Model.Journal.{kept_of, put_in_order}
+use Rattle.stream_base.specs.Model.Windows.{Instance, instances_of, is_complete}
 use Rattle.stream_base.proofs.Growing.{kept_of_push}
-use Rattle.stream_base.proofs.Members.{Contains-insert_old, filter_members, flat_map_has, map_members}
-use Rattle.stream_base.proofs.Pieces.{sessions_joined}
-use Rattle.stream_base.proofs.Rising.{none_in_nil, Contains-cons_cases, Contains-head, Contains-at_head, Contains-tail}
+use Rattle.stream_base.proofs.Members.{Contains-insert_old, filter_members}
+use Rattle.stream_base.proofs.Rising.{none_in_nil, Contains-cons_cases, Contains-head, Contains-tail}
 use Rattle.model_laws.proofs.Accepted.{kept_by_position}
-
--- ---- what instances choose is kept
-from_drop : {X : Type 0} (n : ℕ) (xs : List X) (x : X) → Contains (drop n xs) x → Contains xs x
-from_drop zero xs x c = c
-from_drop (suc n) [] x c = c
-from_drop (suc n) (y ∷ xs) x c = Contains-tail y xs x (from_drop n xs x c)
-
-from_take : {X : Type 0} (n : ℕ) (xs : List X) (x : X) → Contains (take n xs) x → Contains xs x
-from_take zero xs x c = absurd (none_in_nil x c)
-from_take (suc n) [] x c = c
-from_take (suc n) (y ∷ xs) x c = ⊎_elim (λ e. Contains-at_head y xs x e) (λ d. Contains-tail y xs x (from_take n xs x d)) (Contains-cons_cases y (take n xs) x c)
-
--- all that an instance chooses is among these
-abbrev pub Chooses : List Kept → Instance → Type 0
-Chooses kept i = (x : Kept) → Contains i.chosen x → Contains kept x
-
-from_within : (low high : ℕ) (kept : List Kept) → Chooses kept (interval low high kept)
-from_within low high kept x c = (filter_members (is_within low high) kept x c).0
-
-between_choose : (times : List ℕ) (kept : List Kept) (i : Instance) → Contains (between_times times kept) i → Chooses kept i
-between_choose [] kept i c = absurd (none_in_nil i c)
-between_choose (a ∷ []) kept i c = absurd (none_in_nil i c)
-between_choose (a ∷ b ∷ times) kept i c =
-    ⊎_elim
-    (λ e. subst (Chooses kept) e (from_within a b kept))
-    (λ d. between_choose (b ∷ times) kept i d)
-    (Contains-cons_cases (interval a b kept) (between_times (b ∷ times) kept) i c)
-
-spans_choose : (len slide : ℕ) (kept : List Kept) (starts : List ℕ) (i : Instance) → Contains (map (λ low. interval low (low + len) kept) starts) i → Chooses kept i
-spans_choose len slide kept starts i c =
-    let (low, among, is) = map_members (λ low. interval low (low + len) kept) starts i c in
-    subst (Chooses kept) is (from_within low (low + len) kept)
-
-ranks_choose : (count : ℕ) (kept : List Kept) (numbers : List ℕ) (i : Instance) → Contains (map (ranks count kept) numbers) i → Chooses kept i
-ranks_choose count kept numbers i c x d =
-    let (n, among, is) = map_members (ranks count kept) numbers i c in
-    let own : Contains (take count (drop (n * count) kept)) x = subst (λ (j : Instance). Contains j.chosen x) (sym is) d in
-    from_drop (n * count) kept x (from_take count (drop (n * count) kept) x own)
-
-pub chosen_kept : (kind : Kind) (kept : List Kept) (marks : List ℕ) (i : Instance) → Contains (instances_of kind kept marks) i → Chooses kept i
-unfolding instances_of
-chosen_kept (Tumbling len) kept marks i c = spans_choose len len kept (starts_of len len kept) i c
-chosen_kept (Sliding len slide) kept marks i c = spans_choose len slide kept (starts_of len slide kept) i c
-chosen_kept (Session gap) kept marks i c = λ x d. subst (λ l. Contains l x) (sessions_joined gap kept) (flat_map_has (λ (j : Instance). j.chosen) (sessions gap kept) i x c d)
-chosen_kept Marks kept marks i c =
-    between_choose (rising nat_cmp (0 ∷ marks ++ FINAL ∷ [])) kept i
-    (filter_members is_selecting (between_times (rising nat_cmp (0 ∷ marks ++ FINAL ∷ [])) kept) i c).0
-chosen_kept (Events count) kept marks i c = ranks_choose count kept (range_with_len 0 (length kept / count)) i c
+use Rattle.stream_base.proofs.Selecting.{Chooses}
+use Rattle.stream_base.proofs.KindFacts.{chosen_kept}
 
 -- ---- instances by their spans
 pub has_or_not : (is : List Instance) (low high : ℕ) → HasInstance is low high ⊎ (¬ HasInstance is low high)

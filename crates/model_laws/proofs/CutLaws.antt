@@ -1,5 +1,5 @@
--- What becomes of cuts where times move apart, at equal times, across a time between, and by a new mark.
-use Rattle.std.proofs.Common.{◌≡◌, ◌∙◌, ◌≤◌, ◌+◌, ◌*◌, ◌⊎◌, ◌||◌, ◌&&◌, ℕ, Bool, true, false, List, [], ◌∷◌, ap, sym, refl, subst, inl, inr, arith, Ordering}
+-- Cuts at equal times, across a time between, and by a new mark.
+use Rattle.std.proofs.Common.{◌≡◌, ◌∙◌, ◌⊎◌, ◌||◌, ◌&&◌, ℕ, Bool, true, false, List, [], ◌∷◌, ap, sym, refl, subst, inl, inr, arith, Ordering}
 use Rattle.std.specs.declared.cmp.Ordering.TheVariants.{Less, Equal, Greater}
 use Rattle.std.specs.BTreeSet.{insert_key}
 use Rattle.std.specs.List.{All, list_any}
@@ -8,47 +8,17 @@ use Rattle.std.specs.Prelude.{nat_le, nat_lt}
 use Rattle.std.proofs.lemmas.Bool.{cases_lt, false≢true, false_from_ne_true}
 use Rattle.std.proofs.lemmas.Map.Lookups.{exact_unsigned}
 use Rattle.stream_base.specs.declared.def.Def.{Def}
-use Rattle.stream_base.specs.declared.kind.Kind.{Kind}
-use Rattle.stream_base.specs.declared.kind.Kind.TheVariants.{Tumbling, Sliding, Session, Marks, Events}
-use Rattle.stream_base.specs.Kinds.{CutsBetween, HasBound, IsKindWithin, cuts_between, is_session}
+use Rattle.stream_base.specs.Kinds.{IsKindWithin, cuts_between, is_session}
 use Rattle.stream_base.specs.Model.Cuts.{HasCut, has_cut}
 use Rattle.stream_base.proofs.CutFacts.{cut_decides}
-
--- ---- times that move apart
-bound_stays : (length' slide low high below above : ℕ) → below ≤ low → high ≤ above → HasBound length' slide low high → HasBound length' slide below above
-bound_stays length' slide low high below above a b (k, bound) =
-    elim bound [ inl start ↦ (k, inl (omega (arith, start.0), omega (arith, start.1))) | inr end ↦ (k, inr (omega (arith, end.0), omega (arith, end.1))) ]
-
-window_stays : (kind : Kind) (low high below above : ℕ) → below ≤ low → high ≤ above → CutsBetween kind low high → CutsBetween kind below above
-window_stays (Tumbling length') low high below above a b h = bound_stays length' length' low high below above a b h
-window_stays (Sliding length' slide) low high below above a b h = bound_stays length' slide low high below above a b h
-window_stays (Session gap) low high below above a b h = omega arith
-window_stays Marks low high below above a b h = h
-window_stays (Events count) low high below above a b h = h
-
-cut_stays_apart : (windows : List Def) (marks : List ℕ) (low high below above : ℕ) → below ≤ low → high ≤ above → HasCut windows marks low high → HasCut windows marks below above
-cut_stays_apart windows marks low high below above a b cut = elim cut [
-  | inl w ↦ (let (k, def, l, at, cuts) = w in inl (k, def, l, at, window_stays def.kind low high below above a b cuts))
-  | inr m ↦ (let (k, mark, l, at, within) = m in inr (k, mark, l, at, (omega (arith, within.0), omega (arith, within.1))))
-]
-
-pub has_cut_stays_apart : (windows : List Def) (marks : List ℕ) (low high below above : ℕ) → All (λ w. IsKindWithin w.kind) windows → below ≤ low → high ≤ above → has_cut windows marks low high ≡ true → has_cut windows marks below above ≡ true
-has_cut_stays_apart windows marks low high below above within a b h = (cut_decides windows marks below above within).1 (cut_stays_apart windows marks low high below above a b ((cut_decides windows marks low high within).0 h))
+use Rattle.stream_base.proofs.KindFacts.{cuts_before_or_behind, cuts_tested, no_cut_at_once}
 
 -- ---- equal times
-no_bound : (length' slide time : ℕ) → HasBound length' slide time time → ⊥
-no_bound length' slide time (k, bound) = elim bound [ inl start ↦ omega (arith, start.0, start.1) | inr end ↦ omega (arith, end.0, end.1) ]
-
-no_window : (kind : Kind) (time : ℕ) → IsKindWithin kind → CutsBetween kind time time → ⊥
-no_window (Tumbling length') time within h = no_bound length' length' time h
-no_window (Sliding length' slide) time within h = no_bound length' slide time h
-no_window (Session gap) time within h = omega (arith, within.0)
-no_window Marks time within h = h
-no_window (Events count) time within h = h
-
 no_cut : (windows : List Def) (marks : List ℕ) (time : ℕ) → All (λ w. IsKindWithin w.kind) windows → HasCut windows marks time time → ⊥
 no_cut windows marks time within cut = elim cut [
-  | inl w ↦ (let (k, def, l, at, cuts) = w in no_window def.kind time (subst (λ (x : Def). IsKindWithin x.kind) at (within k def l)) cuts)
+  | inl w ↦ (let (k, def, l, at, cuts) = w in
+      let own : IsKindWithin def.kind = subst (λ (x : Def). IsKindWithin x.kind) at (within k def l) in
+      false≢true (sym (no_cut_at_once def.kind time own) ∙ cuts_tested def.kind time time own cuts))
   | inr m ↦ (let (k, mark, l, at, both) = m in omega (arith, both.0, both.1))
 ]
 
@@ -56,23 +26,10 @@ pub no_cut_at_one_time : (windows : List Def) (marks : List ℕ) (time : ℕ) �
 no_cut_at_one_time windows marks time within = false_from_ne_true (has_cut windows marks time time) (λ h. no_cut windows marks time within ((cut_decides windows marks time time within).0 h))
 
 -- ---- a time between
-bound_before_or_behind : (length' slide low time high : ℕ) → HasBound length' slide low high → HasBound length' slide low time ⊎ HasBound length' slide time high
-bound_before_or_behind length' slide low time high (k, bound) = elim bound [
-  | inl start ↦ elim (cases_lt time (k * slide)) [ inl l ↦ inr (k, inl (l, start.1)) | inr l ↦ inl (k, inl (start.0, l)) ]
-  | inr end ↦ elim (cases_lt time (k * slide + length')) [ inl l ↦ inr (k, inr (l, end.1)) | inr l ↦ inl (k, inr (end.0, l)) ]
-]
-
-window_before_or_behind : (kind : Kind) (low time high : ℕ) → is_session kind ≡ false → CutsBetween kind low high → CutsBetween kind low time ⊎ CutsBetween kind time high
-window_before_or_behind (Tumbling length') low time high none h = bound_before_or_behind length' length' low time high h
-window_before_or_behind (Sliding length' slide) low time high none h = bound_before_or_behind length' slide low time high h
-window_before_or_behind (Session gap) low time high none h = absurd (false≢true (sym none))
-window_before_or_behind Marks low time high none h = absurd h
-window_before_or_behind (Events count) low time high none h = absurd h
-
 pub cut_before_or_behind : (windows : List Def) (marks : List ℕ) (low time high : ℕ) → All (λ w. is_session w.kind ≡ false) windows → HasCut windows marks low high → HasCut windows marks low time ⊎ HasCut windows marks time high
 cut_before_or_behind windows marks low time high none cut = elim cut [
   | inl w ↦ (let (k, def, l, at, cuts) = w in
-      elim (window_before_or_behind def.kind low time high (subst (λ (x : Def). is_session x.kind ≡ false) at (none k def l)) cuts) [
+      elim (cuts_before_or_behind def.kind low time high (subst (λ (x : Def). is_session x.kind ≡ false) at (none k def l)) cuts) [
         | inl before ↦ inl (inl (k, def, l, at, before))
         | inr behind ↦ inr (inl (k, def, l, at, behind))
       ])

@@ -1,5 +1,4 @@
 pub mod WatermarkFacts
-pub mod Selecting
 pub mod ChangeList
 pub mod ChangeOrder
 pub mod ChangesAfter

@@ -29,7 +29,8 @@ use Rattle.stream_base.proofs.ChangeFacts.{enumerate_members, flat_map_none, fla
 use Rattle.stream_base.proofs.Growing.{keys_of_push}
 use Rattle.stream_base.proofs.Distinct.{by_start_total, lt_from_less}
 use Rattle.stream_base.proofs.Rising.{below_tail, Contains-head, Contains-tail, Contains-insert_key, Contains-insert_key_cases, same_members_same_list}
-use Rattle.model_laws.proofs.Absent.{is_key_or_not, nothing_kept, nothing_stands}
+use Rattle.model_laws.proofs.Absent.{is_key_or_not, nothing_kept}
+use Rattle.stream_base.proofs.KindFacts.{nothing_stands}
 use Rattle.model_laws.proofs.ChangesAfter.{keys_in_order, late_is_dropped, moment_of_late, on_time_changes, rises_after}
 use Rattle.model_laws.specs.Counts.{emitted_in, is_gone_in, is_new_in, retracted_in, standing_count}
 

@@ -14,7 +14,7 @@ ghost use Rattle.stream_base.specs.declared.kind.Kind.{Kind};
 /// There is a cut between two times exactly where the computed test says so: some start or end of a
 /// window, or a mark, lies after the first and at or before the second, or they are a gap apart.
 /// Starts and ends are counted by a division, and none is enumerated.
-#[tactic(auto, using(stream_base::proofs::CutFacts::cut_decides, stream_base::proofs::CutFacts::decides))]
+#[tactic(auto, using(stream_base::proofs::CutFacts::cut_decides, stream_base::proofs::KindFacts::decides))]
 pub fn cuts_lie_at_starts_ends_gaps_and_marks()
     ensures cuts { (windows : List Def) (marks : List ℕ) (low high : ℕ)
         → All (λ w. IsKindWithin w.kind) windows

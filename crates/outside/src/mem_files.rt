@@ -54,7 +54,8 @@ impl<'a> Files for MemFiles<'a> {
         ensures content { IfOk result (λ source.
             Some source.whole ≡ bytes_under (map filed self.old.files.now) name.now) }
         ensures out { OnOk result (came_of self.new.log (length (asked_of self.old.log)) ≡ out) }
-        ensures refused { OnErr result (came_of self.new.log (length (asked_of self.old.log)) ≡ refused) }
+        ensures refused { OnErr result
+            (came_of self.new.log (length (asked_of self.old.log)) ≡ refused) }
         ensures others { (i : ℕ) → i ≢ length (asked_of self.old.log)
             → came_of self.new.log i ≡ came_of self.old.log i }
         ensures same { (which : List ℕ) → bytes_under (map filed self.new.files.now) which

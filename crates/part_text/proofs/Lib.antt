@@ -1,3 +1,4 @@
 pub mod Parting
 pub mod DefinitionsTold
 pub mod TextParts
+pub mod Examples

@@ -4,20 +4,19 @@ use Rattle.std.specs.List.{flat_map}
 use Rattle.stream_base.specs.Limits.{Definitions}
 use Rattle.stream_base.specs.declared.def.Def.{Def}
 use Rattle.stream_base.specs.declared.kind.Kind.{Kind}
-use Rattle.stream_base.specs.declared.kind.Kind.TheVariants.{Tumbling, Sliding, Session, Marks, Events}
-use Rattle.window_defs.specs.Windows.{func_word}
+use Rattle.window_defs.specs.Windows.{kind_word, numbers_of, func_word}
 
 -- pieces of text, one behind the other
 abbrev pub pieces : List (List ℕ) → List ℕ
 pieces texts = flat_map (λ text. text) texts
 
+-- the line of a number, behind its key
+abbrev pub number_text : List ℕ × ℕ → List ℕ
+number_text (key, number) = pieces (key ∷ codes " = " ∷ decimal number ∷ codes "\n" ∷ [])
+
 -- the lines of a kind
 abbrev pub kind_text : Kind → List ℕ
-kind_text (Tumbling length) = pieces (codes "kind = \"tumbling\"\nlength = " ∷ decimal length ∷ codes "\n" ∷ [])
-kind_text (Sliding length slide) = pieces (codes "kind = \"sliding\"\nlength = " ∷ decimal length ∷ codes "\nslide = " ∷ decimal slide ∷ codes "\n" ∷ [])
-kind_text (Session gap) = pieces (codes "kind = \"session\"\ngap = " ∷ decimal gap ∷ codes "\n" ∷ [])
-kind_text Marks = pieces (codes "kind = \"marks\"\n" ∷ [])
-kind_text (Events count) = pieces (codes "kind = \"events\"\ncount = " ∷ decimal count ∷ codes "\n" ∷ [])
+kind_text kind = pieces (codes "kind = \"" ∷ kind_word kind ∷ codes "\"\n" ∷ []) ++ flat_map number_text (numbers_of kind)
 
 -- the lines of a window
 abbrev pub window_text : Def → List ℕ

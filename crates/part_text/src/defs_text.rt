@@ -1,16 +1,16 @@
 //! The definitions of parts, written out.
-ghost use Rattle.std.specs.Prelude.{◌≡◌, ◌++◌, Ok, IfOk, IsErrOf, OnOk, IsTrue, ◌↔◌};
+ghost use Rattle.std.specs.Prelude.{◌≡◌, ◌++◌, [], ◌∷◌, Ok, IfOk, IsErrOf, OnOk, IsTrue, ◌↔◌};
 ghost use Rattle.std.specs.List.{flat_map};
 ghost use Rattle.window_defs.specs.Reading.{reading_of};
-ghost use Rattle.window_defs.specs.Windows.{func_word};
+ghost use Rattle.window_defs.specs.Windows.{keyed_numbers};
 ghost use Rattle.part_laws.specs.Joined.{part_definitions};
-ghost use Rattle.part_text.specs.DefinitionsText.{HasNumbers, definitions_text, kind_text, numbers_text, window_text};
+ghost use Rattle.part_text.specs.DefinitionsText.{HasNumbers, definitions_text, kind_text, number_text, numbers_text, window_text};
 
 use crate::defs_text_fault::DefsTextFault;
 use itoa::Buffer;
 use std::alloc::{AllocError, Global};
-use stream_base::{Def, Defs, Func, Kind};
-use window_defs::{DefsFault, read_defs};
+use stream_base::{Def, Defs, Kind};
+use window_defs::{DefsFault, KeyedNumber, func_word, kind_word, numbers_of, read_defs};
 
 /// The definitions for the parts of sources that are read under these, as a definitions file: no
 /// watermark is made, since those that were made are written out, and all else is the same. The text
@@ -117,50 +117,40 @@ fn put_window(window: &Def, text: &mut Vec<u8>) -> Result<(), AllocError>
 {
     put_pieces(&[b"\n[[window]]\n"], text)?;
     put_kind(&window.kind, text)?;
-    put_pieces(&[b"func = \"", func_word(window.func), b"\"\n"], text)
+    put_pieces(
+        &[b"func = \"", func_word(window.func).as_bytes(), b"\"\n"],
+        text,
+    )
 }
 
 fn put_kind(kind: &Kind, text: &mut Vec<u8>) -> Result<(), AllocError>
     ensures { OnOk result (text.new.items ≡ text.old.items ++ kind_text kind.now) }
 {
-    let mut first = Buffer::new();
-    let mut second = Buffer::new();
-    match kind {
-        Kind::Tumbling { length } => {
-            let length = first.format(*length).as_bytes();
-            put_pieces(&[b"kind = \"tumbling\"\nlength = ", length, b"\n"], text)
-        }
-        Kind::Sliding { length, slide } => {
-            let length = first.format(*length).as_bytes();
-            let slide = second.format(*slide).as_bytes();
-            let front: &[u8] = b"kind = \"sliding\"\nlength = ";
-            put_pieces(&[front, length, b"\nslide = ", slide, b"\n"], text)
-        }
-        Kind::Session { gap } => {
-            let gap = first.format(*gap).as_bytes();
-            put_pieces(&[b"kind = \"session\"\ngap = ", gap, b"\n"], text)
-        }
-        Kind::Marks => put_pieces(&[b"kind = \"marks\"\n"], text),
-        Kind::Events { count } => {
-            let count = first.format(*count).as_bytes();
-            put_pieces(&[b"kind = \"events\"\ncount = ", count, b"\n"], text)
-        }
-    }
+    put_pieces(&[b"kind = \"", kind_word(kind).as_bytes(), b"\"\n"], text)?;
+    put_keyed_numbers(&numbers_of(kind), text)
 }
 
-fn func_word(func: Func) -> &'static [u8]
-    ensures { result.now ≡ func_word func }
+fn put_keyed_numbers(numbers: &[Option<KeyedNumber>], text: &mut Vec<u8>) -> Result<(), AllocError>
+    ensures { OnOk result (text.new.items
+        ≡ text.old.items ++ flat_map number_text (keyed_numbers numbers.now)) }
 {
-    match func {
-        Func::Count => b"count",
-        Func::Sum => b"sum",
-        Func::Min => b"min",
-        Func::Max => b"max",
-        Func::Mean => b"mean",
-        Func::First => b"first",
-        Func::Last => b"last",
-        Func::Rises => b"rises",
-        Func::Trace => b"trace",
+    for number in numbers {
+        put_keyed_number(*number, text)?;
+    }
+    Ok(())
+}
+
+fn put_keyed_number(number: Option<KeyedNumber>, text: &mut Vec<u8>) -> Result<(), AllocError>
+    ensures { OnOk result (text.new.items
+        ≡ text.old.items ++ flat_map number_text (keyed_numbers (number ∷ []))) }
+{
+    match number {
+        Some(KeyedNumber { key, number }) => {
+            let mut buffer = Buffer::new();
+            let number = buffer.format(number).as_bytes();
+            put_pieces(&[key.as_bytes(), b" = ", number, b"\n"], text)
+        }
+        None => Ok(()),
     }
 }
 

@@ -1,63 +1,21 @@
 -- How many changes a tuple causes depends on its time alone.
-use Rattle.std.proofs.Common.{◌≡◌, ◌≢◌, ◌∙◌, ℕ, ◌+◌, ◌*◌, ◌-◌, ◌/◌, Bool, true, false, cond, eqb, List, [], ◌∷◌, ◌++◌, length, take, drop, map, ap, sym, refl, subst, ⊎_elim}
-use Rattle.std.specs.Prelude.{nat_le, nat_lt}
-use Rattle.std.specs.List.{Contains, enumerate_from, filter_map, flat_map, range_with_len}
-use Rattle.std.specs.Ordering.{nat_cmp}
+use Rattle.std.proofs.Common.{◌≡◌, ◌≢◌, ◌∙◌, ℕ, ◌+◌, ◌-◌, Bool, true, false, cond, eqb, List, [], ◌∷◌, ◌++◌, length, map, ap, sym, refl}
+use Rattle.std.specs.Prelude.{nat_lt}
+use Rattle.std.specs.List.{Contains, enumerate_from, filter_map, flat_map}
 use Rattle.std.proofs.lemmas.Bool.{eq-eqb, eqb-true, ne_eqb}
-use Rattle.std.proofs.lemmas.List.{take-append-drop}
-use Rattle.std.proofs.lemmas.List.Elements.{Contains-append_left, Contains-append_right}
 use Rattle.std.proofs.Math.ListN.{length-append}
 use Rattle.stream_base.specs.declared.def.Def.{Def}
 use Rattle.stream_base.specs.declared.kept.Kept.{Kept}
-use Rattle.stream_base.specs.declared.kind.Kind.{Kind}
-use Rattle.stream_base.specs.declared.kind.Kind.TheVariants.{Tumbling, Sliding, Session, Marks, Events}
-use Rattle.stream_base.specs.declared.limits.TheConstants.{FINAL}
 use Rattle.stream_base.specs.Model.Changes.{Moment, changes_between, emission, emissions, retraction, retractions, standing_at}
-use Rattle.stream_base.specs.Model.Journal.{put_in_order, rising}
-use Rattle.stream_base.specs.Model.Windows.{Instance, between_times, counted, instances_of, interval, is_complete, is_selecting, is_within, pieces_of, ranks, session, sessions, spans, standing_of, starts_of}
+use Rattle.stream_base.specs.Model.Journal.{put_in_order}
+use Rattle.stream_base.specs.Model.Windows.{instances_of, is_complete, standing_of}
 use Rattle.stream_base.proofs.EventOrder.{put_in_order_cons}
-use Rattle.stream_base.proofs.Members.{filter_members, flat_map_has, map_members}
-use Rattle.stream_base.proofs.Pieces.{pieces_joined}
-use Rattle.stream_base.proofs.Rising.{none_in_nil, Contains-cons_cases, Contains-head, Contains-tail}
+use Rattle.stream_base.proofs.Members.{filter_members}
+use Rattle.stream_base.proofs.Rising.{Contains-head, Contains-tail}
 use Rattle.stream_base.specs.Model.Moments.{moment}
-use Rattle.plain_keys.proofs.Standins.{come_mapped, gone_mapped, mapped, standing_mapped}
-
--- ---- what an instance selects is kept
-in_span : (length' slide : ℕ) (kept : List Kept) (i : Instance) → Contains (spans length' slide kept) i → (z : Kept) → Contains i.chosen z → Contains kept z
-in_span length' slide kept i c z d =
-    let m : (low : ℕ) × Contains (starts_of length' slide kept) low × (interval low (low + length') kept ≡ i) = map_members (λ low. interval low (low + length') kept) (starts_of length' slide kept) i c in
-    (filter_members (is_within m.0 (m.0 + length')) kept z (subst (λ (j : Instance). Contains j.chosen z) (sym m.2) d)).0
-
-in_session : (gap : ℕ) (kept : List Kept) (i : Instance) → Contains (sessions gap kept) i → (z : Kept) → Contains i.chosen z → Contains kept z
-in_session gap kept i c z d =
-    let runs = pieces_of (λ x y. nat_le gap (y.time - x.time)) kept in
-    let m : (r : List Kept) × Contains runs r × (session gap r ≡ i) = map_members (session gap) runs i c in
-    subst (λ l. Contains l z) (pieces_joined (λ x y. nat_le gap (y.time - x.time)) kept) (flat_map_has (λ r. r) runs m.0 z m.1 (subst (λ (j : Instance). Contains j.chosen z) (sym m.2) d))
-
-in_stretch : (times : List ℕ) (kept : List Kept) (i : Instance) → Contains (between_times times kept) i → (z : Kept) → Contains i.chosen z → Contains kept z
-in_stretch [] kept i c z d = absurd (none_in_nil i c)
-in_stretch (a ∷ []) kept i c z d = absurd (none_in_nil i c)
-in_stretch (a ∷ b ∷ times) kept i c z d =
-    ⊎_elim
-    (λ e. (filter_members (is_within a b) kept z (subst (λ (j : Instance). Contains j.chosen z) (sym e) d)).0)
-    (λ f. in_stretch (b ∷ times) kept i f z d)
-    (Contains-cons_cases (interval a b kept) (between_times (b ∷ times) kept) i c)
-
-in_run : (count : ℕ) (kept : List Kept) (i : Instance) → Contains (counted count kept) i → (z : Kept) → Contains i.chosen z → Contains kept z
-in_run count kept i c z d =
-    let m : (k : ℕ) × Contains (range_with_len 0 (length kept / count)) k × (ranks count kept k ≡ i) = map_members (ranks count kept) (range_with_len 0 (length kept / count)) i c in
-    let run : Contains (take count (drop (m.0 * count) kept)) z = subst (λ (j : Instance). Contains j.chosen z) (sym m.2) d in
-    let rest : Contains (drop (m.0 * count) kept) z = subst (λ l. Contains l z) (take-append-drop count (drop (m.0 * count) kept)) (Contains-append_left (take count (drop (m.0 * count) kept)) (drop count (drop (m.0 * count) kept)) z run) in
-    subst (λ l. Contains l z) (take-append-drop (m.0 * count) kept) (Contains-append_right (take (m.0 * count) kept) (drop (m.0 * count) kept) z rest)
-
-selected_is_kept : (kind : Kind) (kept : List Kept) (marks : List ℕ) (i : Instance) → Contains (instances_of kind kept marks) i → (z : Kept) → Contains i.chosen z → Contains kept z
-unfolding instances_of
-selected_is_kept (Tumbling length') kept marks i c z d = in_span length' length' kept i c z d
-selected_is_kept (Sliding length' slide) kept marks i c z d = in_span length' slide kept i c z d
-selected_is_kept (Session gap) kept marks i c z d = in_session gap kept i c z d
-selected_is_kept Marks kept marks i c z d =
-    in_stretch (rising nat_cmp (0 ∷ marks ++ FINAL ∷ [])) kept i (filter_members is_selecting (between_times (rising nat_cmp (0 ∷ marks ++ FINAL ∷ [])) kept) i c).0 z d
-selected_is_kept (Events count) kept marks i c z d = in_run count kept i c z d
+use Rattle.window_laws.specs.Instances.{with_each}
+use Rattle.plain_keys.proofs.Standins.{come_mapped, gone_mapped, standing_mapped}
+use Rattle.stream_base.proofs.KindFacts.{chosen_kept}
 
 -- ---- a tuple in another's place
 put_mapped : (r : Kept → Kept) (times : (y : Kept) → (r y).time ≡ y.time) (ks : List Kept) (x : Kept) → put_in_order (map r ks) (r x) ≡ map r (put_in_order ks x)
@@ -122,7 +80,7 @@ module _ (windows : List Def) (key : List ℕ) (kept : List Kept) (marks : List 
   abbrev with : Kept → Moment
   with k = moment (put_in_order kept k) marks water
 
-  stands : (def : Def) → standing_at def (with y) ≡ map (mapped swapped) (standing_at def (with x))
+  stands : (def : Def) → standing_at def (with y) ≡ map (with_each swapped) (standing_at def (with x))
   stands def = ap (λ ks. standing_of def.kind ks marks water) both_put ∙ standing_mapped swapped times def.kind (put_in_order kept x) marks water
 
   gone_alike : (w : ℕ × Def) → retractions key before (with y) w ≡ retractions key before (with x) w
@@ -134,7 +92,7 @@ module _ (windows : List Def) (key : List ℕ) (kept : List Kept) (marks : List 
   come_alike (window, def) =
       ap (λ now. length (filter_map (emission window key def.func (standing_at def before)) now)) (stands def)
       ∙ come_mapped swapped times window key def.func (standing_at def before) (standing_at def (with x))
-      (λ old c z d w. untold z w (selected_is_kept def.kind kept marks old (filter_members (is_complete water) (instances_of def.kind kept marks) old c).0 z d))
+      (λ old c z d w. untold z w (chosen_kept def.kind kept marks old (filter_members (is_complete water) (instances_of def.kind kept marks) old c).0 z d))
 
   all_gone : (ws : List (ℕ × Def)) → flat_map (retractions key before (with y)) ws ≡ flat_map (retractions key before (with x)) ws
   all_gone [] = refl

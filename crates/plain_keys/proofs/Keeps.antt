@@ -1,8 +1,8 @@
 -- What a key's state keeps, and what calls do to it.
-use Rattle.std.proofs.Common.{◌≡◌, ◌∙◌, ℕ, ℤ, suc, ◌+◌, ◌<◌, ◌≤◌, Bool, true, false, cond, not, List, [], ◌∷◌, length, map, set, ap, sym, refl, subst, inl, inr, arith}
+use Rattle.std.proofs.Common.{◌≡◌, ◌∙◌, ℕ, ℤ, suc, ◌+◌, ◌<◌, ◌≤◌, Bool, true, false, cond, not, List, [], ◌∷◌, length, set, ap, sym, refl, subst, inl, inr, arith}
 use Rattle.std.specs.Prelude.{◌≢◌, nat_lt}
 use Rattle.std.specs.BTreeSet.{insert_key}
-use Rattle.std.specs.List.{All, Contains, enumerate_from, flat_map, position_or_len, range_with_len}
+use Rattle.std.specs.List.{All, Contains, enumerate_from, flat_map, position_or_len}
 use Rattle.std.specs.Ordering.{nat_cmp}
 use Rattle.std.proofs.lemmas.Cmp.{nat_cmp_total}
 use Rattle.std.proofs.lemmas.List.Elements.{All-contains, All-nil, All-weaker}
@@ -20,18 +20,16 @@ use Rattle.stream_base.proofs.EventOrder.{All_put, event_order_total, put_in_eve
 use Rattle.stream_base.proofs.Rising.{none_in_nil, sorted_insert_key, sorted_nil}
 use Rattle.stream_base.specs.Model.Moments.{IsWater, kept_at, moment}
 use Rattle.window_laws.proofs.KeptFacts.{put_distinct}
-use Rattle.stream_base.specs.declared.kind.Kind.{Kind}
-use Rattle.stream_base.specs.declared.kind.Kind.TheVariants.{Tumbling, Sliding, Session, Marks, Events}
-use Rattle.stream_base.specs.Model.Windows.{Instance, instances_of, ranks}
-use Rattle.std.proofs.Math.Nat.{zero-div}
+use Rattle.stream_base.specs.Model.Windows.{Instance}
 use Rattle.plain_windows.specs.Changing.{IsDue}
 use Rattle.plain_windows.specs.Extents.{AreKeyLists}
 use Rattle.plain_windows.proofs.Ahead.{completes_across, nothing_ahead, something_due}
 use Rattle.key_windows.specs.Calls.{changes_by_mark, changes_by_move, changes_by_put}
 use Rattle.key_windows.specs.Dues.{IsExact}
 use Rattle.plain_keys.specs.States.{Fits, IsMarked, IsOfSame, HasOneMore, IsReadyToMove, IsState, State, stand_in}
-use Rattle.plain_keys.proofs.After.{stands_after_mark, stands_after_put}
 use Rattle.plain_keys.proofs.Counting.{as_many, IsNew}
+use Rattle.window_laws.proofs.KindFacts.{mark_after_stands, tuple_after_stands}
+use Rattle.stream_base.proofs.KindFacts.{no_instances}
 
 pub put_length : (kept : List Kept) (x : Kept) → length (put_in_order kept x) ≡ length kept + 1
 put_length [] x = refl
@@ -80,17 +78,17 @@ state_mark kept marks next m h within = record { lists = lists_mark kept marks m
 stands : (d : Definitions) (kept : List Kept) (marks : List ℕ) (water : ℕ) → AreWithinLimits d → AreKeyLists kept marks → (def : Def) → Contains d.windows def → IsKindWithin def.kind
 stands d kept marks water limits h def c = All-contains (λ w. IsKindWithin w.kind) d.windows def limits.kinds c
 
-pub put_nothing : (d : Definitions) (key : List ℕ) (kept : List Kept) (marks : List ℕ) (water : ℕ) (x : Kept) → AreWithinLimits d → AreKeyLists kept marks → water < x.time → changes_by_put d key kept marks water x ≡ []
-put_nothing d key kept marks water x limits h lt =
+pub put_nothing : (d : Definitions) (key : List ℕ) (kept : List Kept) (marks : List ℕ) (water : ℕ) (x : Kept) → AreWithinLimits d → AreKeyLists kept marks → x.time ≤ TIME_MAX → water < x.time → changes_by_put d key kept marks water x ≡ []
+put_nothing d key kept marks water x limits h within lt =
     no_changes d.windows key (moment kept marks water) (moment (put_in_order kept x) marks water)
     (standing_at_rises d.windows (moment kept marks water) limits.kinds (times_do_not_fall kept h.in_order))
-    (λ def c. sym (stands_after_put def.kind kept marks water x (stands d kept marks water limits h def c) (times_do_not_fall kept h.in_order) lt))
+    (λ def c. sym (tuple_after_stands def.kind kept marks water x (stands d kept marks water limits h def c) (times_do_not_fall kept h.in_order) (omega arith) lt))
 
-pub mark_nothing : (d : Definitions) (key : List ℕ) (kept : List Kept) (marks : List ℕ) (water m : ℕ) → AreWithinLimits d → AreKeyLists kept marks → water < m → changes_by_mark d key kept marks water m ≡ []
-mark_nothing d key kept marks water m limits h lt =
+pub mark_nothing : (d : Definitions) (key : List ℕ) (kept : List Kept) (marks : List ℕ) (water m : ℕ) → AreWithinLimits d → AreKeyLists kept marks → m ≤ TIME_MAX → water < m → changes_by_mark d key kept marks water m ≡ []
+mark_nothing d key kept marks water m limits h within lt =
     no_changes d.windows key (moment kept marks water) (moment kept (insert_key nat_cmp marks m) water)
     (standing_at_rises d.windows (moment kept marks water) limits.kinds (times_do_not_fall kept h.in_order))
-    (λ def c. sym (stands_after_mark def.kind kept marks water m lt))
+    (λ def c. sym (mark_after_stands def.kind kept marks water m (omega arith) lt))
 
 pub move_is : (d : Definitions) (key : List ℕ) (kept : List Kept) (marks : List ℕ) (old new : ℕ) → AreWithinLimits d → AreKeyLists kept marks → old ≤ new
     → changes_by_move d key kept marks old new ≡ flat_map (completions key (moment kept marks old) new) (enumerate_from 0 d.windows)
@@ -122,18 +120,9 @@ fits_mark d kept marks water time s mid new fits marked same ahead =
     let ms : new.marks ≡ insert_key nat_cmp marks time = same.marks ∙ marked.marks ∙ ap (λ l. insert_key nat_cmp l time) fits.1 in
     (ks, ms, due_same d.windows new.kept kept new.marks (insert_key nat_cmp marks time) water new.due new.due (sym ks) (sym ms) refl ahead)
 
--- empty lists have no instance
-no_instances : (kind : Kind) → instances_of kind [] [] ≡ []
-unfolding instances_of
-no_instances (Tumbling length') = refl
-no_instances (Sliding length' slide) = refl
-no_instances (Session gap) = refl
-no_instances Marks = refl
-no_instances (Events count) = ap (λ n. map (ranks count []) (range_with_len 0 n)) (zero-div count)
-
 pub none_ahead : (windows : List Def) (water due : ℕ) → FINAL < due → IsDue windows [] [] water due
 none_ahead windows water due beyond = record {
-  ahead = λ def i c d above. absurd (none_in_nil i (subst (λ (is : List Instance). Contains is i) (no_instances def.kind) d));
+  ahead = λ def i c d above. absurd (none_in_nil i (subst (λ (is : List Instance). Contains is i) (no_instances def.kind []) d));
   reached = λ final. absurd (omega (arith, beyond, final));
 }
 

@@ -1,4 +1,3 @@
-pub mod After
 pub mod Standins
 pub mod Counting
 pub mod Places

@@ -136,19 +136,6 @@ ahead_put windows time bound brings kept marks x water due at ahead def i c d ab
     (λ new. omega arith)
     (brings def c kept marks x i at d)
 
--- intervals are what such windows have
-pub brings_tumbling : (length time bound : ℕ)
-    → ((kept : List Kept) (x : Kept) (i : Instance) → x.time ≡ time → Contains (spans length length (put_in_order kept x)) i → HasBound (spans length length kept) i.bound ⊎ (bound ≤ i.bound))
-    → BringsNoneBelow (Tumbling length) time bound
-unfolding instances_of
-brings_tumbling length time bound h kept marks x i at c = h kept x i at c
-
-pub brings_sliding : (length slide time bound : ℕ)
-    → ((kept : List Kept) (x : Kept) (i : Instance) → x.time ≡ time → Contains (spans length slide (put_in_order kept x)) i → HasBound (spans length slide kept) i.bound ⊎ (bound ≤ i.bound))
-    → BringsNoneBelow (Sliding length slide) time bound
-unfolding instances_of
-brings_sliding length slide time bound h kept marks x i at c = h kept x i at c
-
 -- a number that is less tells no more
 pub brings_less : (kind : Kind) (time bound less : ℕ) → less ≤ bound → BringsNoneBelow kind time bound → BringsNoneBelow kind time less
 brings_less kind time bound less le h kept marks x i at c = ⊎_elim (λ old. inl old) (λ new. inr (omega arith)) (h kept marks x i at c)
@@ -205,22 +192,6 @@ due_put windows time bound brings keeps one kept marks x water due at late is = 
       of_window = was.of_window;
       has = subst (HasBound (instances_of (was.def).kind (put_in_order kept x) marks)) was.has.2 (keeps was.def was.of_window kept marks x was.has.0 was.has.1);
     }
-
-pub one_tumbling : (length time bound : ℕ) → time < bound → ((kept : List Kept) (x : Kept) → x.time ≡ time → HasBound (spans length length (put_in_order kept x)) bound) → BringsBound (Tumbling length) time bound
-unfolding instances_of
-one_tumbling length time bound later h = record { later = later; brought = λ kept marks x at. h kept x at }
-
-pub one_sliding : (length slide time bound : ℕ) → time < bound → ((kept : List Kept) (x : Kept) → x.time ≡ time → HasBound (spans length slide (put_in_order kept x)) bound) → BringsBound (Sliding length slide) time bound
-unfolding instances_of
-one_sliding length slide time bound later h = record { later = later; brought = λ kept marks x at. h kept x at }
-
-pub keeps_tumbling : (length : ℕ) → ((kept : List Kept) (x : Kept) (i : Instance) → Contains (spans length length kept) i → HasBound (spans length length (put_in_order kept x)) i.bound) → KeepsBounds (Tumbling length)
-unfolding instances_of
-keeps_tumbling length h kept marks x i c = h kept x i c
-
-pub keeps_sliding : (length slide : ℕ) → ((kept : List Kept) (x : Kept) (i : Instance) → Contains (spans length slide kept) i → HasBound (spans length slide (put_in_order kept x)) i.bound) → KeepsBounds (Sliding length slide)
-unfolding instances_of
-keeps_sliding length slide h kept marks x i c = h kept x i c
 
 -- a move to the least bound completes something
 numbered : {X : Type 0} (n : ℕ) (xs : List X) (x : X) → Contains xs x → (k : ℕ) × Contains (enumerate_from n xs) (k, x)

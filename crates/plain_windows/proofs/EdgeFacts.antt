@@ -15,7 +15,8 @@ use Rattle.stream_base.specs.declared.kind.Kind.TheVariants.{Marks}
 use Rattle.stream_base.specs.declared.limits.TheConstants.{FINAL, TIME_MAX}
 use Rattle.stream_base.specs.Laws.{RiseByStart, TimesDoNotFall}
 use Rattle.stream_base.specs.Model.Windows.{Instance, interval, is_within, within, is_selecting, between_times, stretches, instances_of}
-use Rattle.stream_base.proofs.Distinct.{instances_rise, lt_from_less}
+use Rattle.stream_base.proofs.Distinct.{lt_from_less}
+use Rattle.stream_base.proofs.KindFacts.{instances_rise}
 use Rattle.stream_base.proofs.Members.{filter_members, filter_has}
 use Rattle.stream_base.proofs.Rising.{none_in_nil, Contains-head, Contains-at_head, Contains-tail, Contains-cons_cases, Contains-from_rising, Contains-rising, below_tail, nat_rising_is_sorted}
 use Rattle.stream_base.specs.Places.{IsPlaceOf}
@@ -202,18 +203,6 @@ module _ (marks : List ℕ) (kept : List Kept) where
       let inside : is_within low high x ≡ true = and_from (nat_le low x.time) (nat_lt x.time high) (le-leb low x.time starts) (lt-ltb x.time high ends) in
       let chosen : Contains (within low high kept) x = filter_has (is_within low high) kept x h inside in
       filter_has is_selecting (between_times (edges_of marks) kept) (interval low high kept) (between_has (edges_of marks) kept (edges_sorted marks) low high c d l next) (lt-ltb 0 (length (within low high kept)) (omega (arith, chosen.1)))
-
-  -- a stretch that starts later ends later
-  pub stretch_bounds : (i j : Instance) → Contains (stretches marks kept) i → Contains (stretches marks kept) j → i.low < j.low → i.bound ≤ j.bound
-  stretch_bounds i j c d l =
-      let s : IsStretch i = stretch_members i c in
-      let t : IsStretch j = stretch_members j d in
-      let first : s.low ≡ i.low = ap (λ (x : Instance). x.low) s.is in
-      let second : t.low ≡ j.low = ap (λ (x : Instance). x.low) t.is in
-      let end : s.high ≡ i.bound = ap (λ (x : Instance). x.bound) s.is in
-      let behind : t.high ≡ j.bound = ap (λ (x : Instance). x.bound) t.is in
-      let le : s.high ≤ t.low = s.next t.low t.from (omega arith) in
-      omega (arith, t.rise)
 
   pub stretches_rise : TimesDoNotFall kept → RiseByStart (stretches marks kept)
   unfolding instances_of

@@ -13,6 +13,5 @@ pub mod SpanFacts
 pub mod PieceFacts
 pub mod RunFacts
 pub mod EdgeFacts
-pub mod BoundFacts
 pub mod Turns
 pub mod Neighbours

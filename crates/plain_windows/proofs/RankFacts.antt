@@ -9,7 +9,7 @@ use Rattle.stream_base.specs.Model.Windows.{Instance, last_time, ranks, counted,
 use Rattle.stream_base.specs.declared.kind.Kind.TheVariants.{Events}
 use Rattle.stream_base.specs.Kinds.{IsKindWithin}
 use Rattle.stream_base.specs.Laws.{RiseByStart, TimesDoNotFall}
-use Rattle.stream_base.proofs.Distinct.{instances_rise}
+use Rattle.stream_base.proofs.KindFacts.{instances_rise}
 use Rattle.plain_windows.proofs.Found.{find_first, find_none}
 use Rattle.plain_windows.proofs.PlaceFacts.{some_tuple}
 use Rattle.stream_base.proofs.Members.{range_members, range_has, map_members, map_has}

@@ -84,7 +84,7 @@ module _ (gap : ℕ) (P : ℕ → Type 0) where
       by true = All-cons (λ run. P (last_time run)) (x ∷ []) ((y ∷ ys) ∷ runs) p h
       by false = All-cons (λ run. P (last_time run)) (x ∷ y ∷ ys) runs (All-head (λ run. P (last_time run)) (y ∷ ys) runs h) (All-tail (λ run. P (last_time run)) (y ∷ ys) runs h)
 
-  pub runs_end : (xs : List Kept) → All (λ x. P x.time) xs → All (λ run. P (last_time run)) (runs_of gap xs)
+  runs_end : (xs : List Kept) → All (λ x. P x.time) xs → All (λ run. P (last_time run)) (runs_of gap xs)
   runs_end [] h = All-nil (λ run. P (last_time run))
   runs_end (x ∷ xs) h = glued_ends x (runs_of gap xs) (All-head (λ (y : Kept). P y.time) x xs h) (runs_end xs (All-tail (λ (y : Kept). P y.time) x xs h))
 

@@ -12,7 +12,7 @@ use Rattle.stream_base.specs.Kinds.{IsKindWithin}
 use Rattle.stream_base.specs.Laws.{RiseByStart, TimesDoNotFall}
 use Rattle.stream_base.specs.Model.Journal.{put_in_order}
 use Rattle.stream_base.specs.Model.Windows.{Instance, interval, starts_of, spans, instances_of}
-use Rattle.stream_base.proofs.Distinct.{instances_rise}
+use Rattle.stream_base.proofs.KindFacts.{instances_rise}
 use Rattle.stream_base.proofs.Members.{Contains-insert_new, Contains-insert_old, map_members, map_has}
 use Rattle.stream_base.proofs.Spans.{starts_holding_members, starts_of_members, starts_of_has, starts_of_put_cases}
 use Rattle.stream_base.specs.Places.{IsPlaceOf}
@@ -54,9 +54,6 @@ module _ (long slide : ℕ) (moves : 1 ≤ slide) (overlaps : slide ≤ long) (k
 
   spans_has : (k : ℕ) (x : Kept) → Contains kept x → k * slide ≤ x.time → x.time < k * slide + long → Contains (spans long slide kept) (interval (k * slide) (k * slide + long) kept)
   spans_has k x c low high = map_has (λ low. interval low (low + long) kept) (starts_of long slide kept) (k * slide) (starts_of_has long slide moves overlaps kept x k c low high)
-
-  pub span_bound : (i : Instance) → Contains (spans long slide kept) i → i.bound ≡ i.low + long
-  span_bound i c = let s : IsSpan i = spans_members i c in subst (λ (j : Instance). j.bound ≡ j.low + long) s.is refl
 
   -- with a tuple more, an interval is one that there was, or holds the tuple's time and ends no earlier than the first that does
   pub span_put : (x : Kept) (first : ℕ) → first ≡ (x.time + slide - long) / slide → (i : Instance) → Contains (spans long slide (put_in_order kept x)) i → HasBound (spans long slide kept) i.bound ⊎ (first * slide + long ≤ i.bound)

@@ -17,13 +17,14 @@ use Rattle.stream_base.specs.Kinds.{IsKindWithin, is_events}
 use Rattle.stream_base.specs.Model.Changes.{Moment}
 use Rattle.stream_base.specs.Model.Slices.{is_settled, is_settled_in, unsettled}
 use Rattle.stream_base.specs.Model.Windows.{Instance, instances_of, is_within, within}
-use Rattle.stream_base.proofs.Distinct.{by_start_total, instances_rise, lt_from_less}
+use Rattle.stream_base.proofs.Distinct.{by_start_total, lt_from_less}
+use Rattle.stream_base.proofs.KindFacts.{instances_rise, instances_select}
 use Rattle.stream_base.proofs.EventOrder.{times_do_not_fall}
 use Rattle.stream_base.proofs.Members.{filter_has, filter_members}
 use Rattle.stream_base.proofs.Rising.{Contains-cons_cases, below_tail, none_in_nil}
-use Rattle.model_laws.proofs.Selecting.{instances_select}
 use Rattle.window_laws.specs.Positions.{AreKept, HaveDistinctPositions}
-use Rattle.window_laws.proofs.InstanceFacts.{bounds_are_ends, inside_span, spans_hold_selections}
+use Rattle.window_laws.proofs.InstanceFacts.{inside_span}
+use Rattle.window_laws.proofs.KindFacts.{bounds_are_ends, spans_hold_selections}
 use Rattle.window_laws.proofs.SettledFacts.{settled_by_times, settled_earlier, times_settle}
 use Rattle.plain_windows.specs.declared.extent.Extent.{Extent}
 use Rattle.plain_windows.specs.Extents.{AreKeyLists, IsExtentIn, instance_in}

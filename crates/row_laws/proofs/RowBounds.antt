@@ -1,18 +1,17 @@
 -- The numbers of what stands, and of changes, fit.
-use Rattle.std.proofs.Common.{◌≡◌, ℕ, ◌+◌, ◌-◌, ◌*◌, ◌/◌, ◌^◌, ◌<◌, ◌≤◌, Bool, true, false, cond, List, [], ◌∷◌, ◌++◌, drop, length, map, ap, sym, subst, refl, ⊎_elim, arith, Option, None, Some}
-use Rattle.std.specs.Prelude.{◌&&◌, FitsSigned, filter, nat_le, nat_lt, slice_get}
+use Rattle.std.proofs.Common.{◌≡◌, ℕ, ◌+◌, ◌-◌, ◌*◌, ◌/◌, ◌^◌, ◌<◌, ◌≤◌, Bool, true, false, cond, List, [], ◌∷◌, ◌++◌, drop, length, get_or, map, ap, sym, subst, refl, arith, Option, None, Some}
+use Rattle.std.specs.Prelude.{◌&&◌, FitsSigned, filter, nat_le, nat_lt, slice_get, pos}
 use Rattle.std.specs.Int.{w64}
-use Rattle.std.specs.List.{All, AllByRecursion, Contains, flat_map, insert, position_or_len, range_with_len}
+use Rattle.std.specs.List.{All, AllByRecursion, Contains, insert, position_or_len, range_with_len}
 use Rattle.std.specs.Option.{option_map_or}
-use Rattle.std.specs.Ordering.{nat_cmp}
-use Rattle.std.proofs.lemmas.Bool.{and_from, and_parts, lt-ltb}
-use Rattle.std.proofs.lemmas.List.{length-append, length-drop, length-take, length_push}
-use Rattle.std.proofs.lemmas.List.Elements.{All-contains, All-head, All-nil, All-push, All-tail, All-weaker, recursion_from_All}
+use Rattle.std.proofs.lemmas.Bool.{and_from, and_parts, leb-true, lt-ltb, ltb-true}
+use Rattle.std.proofs.lemmas.List.{length-drop, length-take, length_push}
+use Rattle.std.proofs.lemmas.List.Elements.{All-contains, All-head, All-nil, All-push, All-tail, All-weaker, Contains-get_or, recursion_from_All}
 use Rattle.std.proofs.lemmas.List.Sorted.{IsPermutation-insert, length_permutation}
 use Rattle.std.proofs.lemmas.Option.{get_or_from_slice_get, slice_get_within}
 use Rattle.std.proofs.Math.Nat.{div-mul-le_self, mul-le-mul_right}
 use Rattle.stream_base.specs.Limits.{AreWithinLimits, Definitions, is_value}
-use Rattle.stream_base.specs.Kinds.{IsKindWithin}
+use Rattle.stream_base.specs.Kinds.{IsKindWithin, is_events}
 use Rattle.stream_base.specs.declared.change.Change.{Change}
 use Rattle.stream_base.specs.declared.change.Change.TheVariants.{Gone, New, Again, Dropped}
 use Rattle.stream_base.specs.declared.def.Def.{Def}
@@ -21,42 +20,42 @@ use Rattle.stream_base.specs.declared.former.Former.{Former}
 use Rattle.stream_base.specs.declared.func.Func.{Func}
 use Rattle.stream_base.specs.declared.kept.Kept.{Kept}
 use Rattle.stream_base.specs.declared.kind.Kind.{Kind}
-use Rattle.stream_base.specs.declared.kind.Kind.TheVariants.{Tumbling, Sliding, Session, Marks, Events}
+use Rattle.stream_base.specs.declared.kind.Kind.TheVariants.{Events}
 use Rattle.stream_base.specs.declared.limits.TheConstants.{FINAL, JOURNAL_MAX, TIME_MAX}
 use Rattle.stream_base.specs.declared.row.Row.{Row}
 use Rattle.stream_base.specs.declared.what.What.{What}
 use Rattle.stream_base.specs.declared.what.What.TheVariants.{Tuple, Mark, Water, Idle, End}
 use Rattle.stream_base.specs.Key.{is_key}
-use Rattle.stream_base.specs.Laws.{HoldsKept, IsAcceptedTuple, IsCausedBy, IsStandingRow, accepted_tuple}
+use Rattle.stream_base.specs.Laws.{IsAcceptedTuple, IsCausedBy, IsStandingRow, TimesDoNotFall, accepted_tuple}
 use Rattle.stream_base.specs.Model.Changes.{changes_after, former_of, moment_of, standing_at, standing_rows}
 use Rattle.stream_base.specs.Model.Functions.{shown_of}
 use Rattle.stream_base.specs.Model.Text.{report_of}
 use Rattle.report_laws.specs.ReadBack.{AreWithin}
 use Rattle.row_laws.specs.Reading.{form_of}
 use Rattle.row_laws.specs.Told.{read_text, tells}
-use Rattle.stream_base.specs.Model.Journal.{kept_of, marks_of, put_in_order, rising}
+use Rattle.stream_base.specs.Model.Journal.{kept_of, marks_of, put_in_order}
 use Rattle.stream_base.specs.Model.Journals.{AreEntriesWithin, is_entry_within}
 use Rattle.stream_base.specs.Model.Watermark.{water_of}
-use Rattle.stream_base.specs.Model.What.{is_late, is_what_within, key_in}
-use Rattle.stream_base.specs.Model.Windows.{Instance, between_times, first_time, instances_of, interval, is_complete, is_selecting, is_within, last_time, pieces_of, ranks, session, sessions, starts_of, within}
+use Rattle.stream_base.specs.Model.What.{is_late, is_what_within, key_in, water_time}
+use Rattle.stream_base.specs.Model.Windows.{Instance, instances_of, is_complete, is_within, ranks, counted, within}
 use Rattle.stream_base.proofs.Distinct.{All_from_members}
-use Rattle.stream_base.proofs.EventOrder.{from_the_front}
+use Rattle.stream_base.proofs.EventOrder.{from_the_front, kept_times_do_not_fall}
 use Rattle.stream_base.proofs.Growing.{kept_of_nil, kept_of_push}
 use Rattle.stream_base.proofs.Members.{filter_members, map_members, range_members}
-use Rattle.stream_base.proofs.Pieces.{sessions_joined}
-use Rattle.stream_base.proofs.Rising.{none_in_nil, Contains-cons_cases, Contains-head, Contains-tail, nat_rising_members}
-use Rattle.stream_base.proofs.Spans.{starts_hold_kept}
+use Rattle.stream_base.proofs.Rising.{Contains-head, Contains-tail}
 use Rattle.model_laws.proofs.Absent.{tuple_is_keyed}
-use Rattle.model_laws.proofs.Accepted.{kept_exactly, kept_times_within, kept_values_fit, marks_within}
+use Rattle.model_laws.proofs.Accepted.{kept_exactly, kept_values_fit}
 use Rattle.model_laws.proofs.ChangesAfter.{caused_are_listed, late_is_dropped}
-use Rattle.model_laws.proofs.Selecting.{standing_selects}
-use Rattle.model_laws.proofs.Choosing.{chosen_kept, stands_kept}
+use Rattle.model_laws.proofs.WatermarkBounds.{water_at_most}
+use Rattle.model_laws.proofs.Choosing.{stands_kept}
 use Rattle.row_laws.specs.Fitting.{is_change_fit, is_former_fit, is_row_fit, is_shown_fit}
 use Rattle.model_laws.proofs.StandingRows.{standing_rows_exactly}
 use Rattle.model_laws.proofs.RowChanges.{standing}
 use Rattle.row_laws.proofs.RowWords.{row_fits}
 use Rattle.row_laws.proofs.ToldRows.{AreFit, report_told}
 use Rattle.row_laws.proofs.ValueBounds.{FitsShown, shown_fits, shown_is_fit}
+use Rattle.stream_base.proofs.KindFacts.{instances_select, standing_selects}
+use Rattle.window_laws.proofs.KindFacts.{bounds_are_ends, spans_hold_selections}
 
 abbrev pub IsSmall : ℕ → Type 0
 IsSmall n = n < 2 ^ 64
@@ -112,15 +111,6 @@ length_kept lateness sources key = from_the_front (λ j. length (kept_of latenes
 abbrev pub Few : List Kept → Instance → Type 0
 Few kept i = length i.chosen ≤ length kept
 
-one_of_joined : (is : List Instance) (i : Instance) → Contains is i → length i.chosen ≤ length (flat_map (λ (j : Instance). j.chosen) is)
-one_of_joined [] i c = absurd (none_in_nil i c)
-one_of_joined (j ∷ is) i c =
-    let n : length (j.chosen ++ flat_map (λ (k : Instance). k.chosen) is) ≡ length j.chosen + length (flat_map (λ (k : Instance). k.chosen) is) = length-append j.chosen (flat_map (λ (k : Instance). k.chosen) is) in
-    ⊎_elim
-    (λ e. let same : length j.chosen ≡ length i.chosen = ap (λ (k : Instance). length k.chosen) e in omega (arith, n, same))
-    (λ d. let later : length i.chosen ≤ length (flat_map (λ (k : Instance). k.chosen) is) = one_of_joined is i d in omega (arith, n, later))
-    (Contains-cons_cases j is i c)
-
 -- ---- spans
 -- the start and end are numbers of 64 bits, and no more is chosen than is kept
 pub record IsBounded (kept : List Kept) (i : Instance) : Type 0 where
@@ -128,82 +118,50 @@ pub record IsBounded (kept : List Kept) (i : Instance) : Type 0 where
   pub high : IsSmall i.high
   pub few : Few kept i
 
-module _ (kept : List Kept) (times : All (λ x. x.time ≤ TIME_MAX) kept) where
-  in_time : (x : Kept) → Contains kept x → x.time ≤ TIME_MAX
-  in_time x c = All-contains (λ (y : Kept). y.time ≤ TIME_MAX) kept x times c
+-- of event counts the start and the end are ranks
+ranks_bounded : (kept : List Kept) (count : ℕ) → 1 ≤ count → length kept ≤ JOURNAL_MAX → (n : ℕ) → n < length kept / count → IsBounded kept (ranks count kept n)
+ranks_bounded kept count some few n l =
+    let most : (length kept / count) * count ≤ length kept = div-mul-le_self (length kept) count in
+    let up : (n + 1) * count ≤ (length kept / count) * count = mul-le-mul_right count (omega (arith, l)) in
+    let low : n * count ≤ (n + 1) * count = mul-le-mul_right count (omega arith) in
+    record {
+      low = omega (arith, low, up, most, few);
+      high = omega (arith, up, most, few);
+      few = omega (arith, length-take count (drop (n * count) kept), length-drop (n * count) kept);
+    }
 
-  interval_bounded : (low high : ℕ) → IsSmall low → IsSmall high → IsBounded kept (interval low high kept)
-  interval_bounded low high l h = record { low = l; high = h; few = fewer (is_within low high) kept }
+counts_bounded : (kept : List Kept) (count : ℕ) → 1 ≤ count → length kept ≤ JOURNAL_MAX → (i : Instance) → Contains (counted count kept) i → IsBounded kept i
+counts_bounded kept count some few i c =
+    let (n, among, is) = map_members (ranks count kept) (range_with_len 0 (length kept / count)) i c in
+    let within : (0 ≤ n) × (n < 0 + length kept / count) = range_members 0 (length kept / count) n among in
+    subst (IsBounded kept) is (ranks_bounded kept count some few n (omega (arith, within.1)))
 
-  spans_bounded : (len slide : ℕ) → 1 ≤ slide → slide ≤ len → len ≤ TIME_MAX → (i : Instance) → Contains (map (λ low. interval low (low + len) kept) (starts_of len slide kept)) i → IsBounded kept i
-  spans_bounded len slide s l m i c =
-      let (low, among, is) = map_members (λ low. interval low (low + len) kept) (starts_of len slide kept) i c in
-      let h : HoldsKept len slide kept low = (starts_hold_kept len slide kept low s l).0 among in
-      let t : h.1.time ≤ TIME_MAX = in_time h.1 h.2 in
-      let u : low ≤ h.1.time = h.4 in
-      subst (IsBounded kept) is (interval_bounded low (low + len) (omega (arith, t, u)) (omega (arith, t, u, m)))
+-- of all other windows an instance is complete at its end, and selects the tuples within its span
+spans_bounded : (kind : Kind) (kept : List Kept) (marks : List ℕ) → IsKindWithin kind → is_events kind ≡ false → TimesDoNotFall kept → (i : Instance) → Contains (instances_of kind kept marks) i → i.bound ≤ FINAL → IsBounded kept i
+spans_bounded kind kept marks k e h i c due =
+    let all : List Instance = instances_of kind kept marks in
+    let some : 1 ≤ length i.chosen = All-contains (λ (j : Instance). 1 ≤ length j.chosen) all i (instances_select kind kept marks k) c in
+    let held : i.chosen ≡ within i.low i.high kept = All-contains (λ (j : Instance). j.chosen ≡ within j.low j.high kept) all i (spans_hold_selections kind kept marks k e h) c in
+    let end : i.bound ≡ i.high = All-contains (λ (j : Instance). j.bound ≡ j.high) all i (bounds_are_ends kind kept marks e) c in
+    let rises : i.low < i.high = runs_on i.low i.high (subst (λ l. 1 ≤ length l) held some) in
+    record {
+      low = omega (arith, rises, end, due);
+      high = omega (arith, end, due);
+      few = subst (λ l. length l ≤ length kept) (sym held) (fewer (is_within i.low i.high) kept);
+    }
+  where
+    runs_on : (low high : ℕ) → 1 ≤ length (within low high kept) → low < high
+    runs_on low high some =
+        let any : Kept = record { position = 0; time = 0; value = pos 0 } in
+        let x : Kept = get_or (within low high kept) 0 any in
+        let m : Contains kept x × (is_within low high x ≡ true) = filter_members (is_within low high) kept x (Contains-get_or (within low high kept) 0 any some) in
+        let both : (nat_le low x.time ≡ true) × (nat_lt x.time high ≡ true) = and_parts (nat_le low x.time) (nat_lt x.time high) m.1 in
+        omega (arith, leb-true low x.time both.0, ltb-true x.time high both.1)
 
-  first_small : (run : List Kept) → ((x : Kept) → Contains run x → Contains kept x) → first_time run ≤ TIME_MAX
-  first_small [] h = omega arith
-  first_small (x ∷ run) h = in_time x (h x (Contains-head x run))
-
-  last_small : (run : List Kept) → ((x : Kept) → Contains run x → Contains kept x) → last_time run ≤ TIME_MAX
-  last_small [] h = omega arith
-  last_small (x ∷ []) h = in_time x (h x (Contains-head x []))
-  last_small (x ∷ y ∷ run) h = last_small (y ∷ run) (λ z c. h z (Contains-tail x (y ∷ run) z c))
-
-  session_bounded : (gap : ℕ) → gap ≤ TIME_MAX → (run : List Kept) → ((x : Kept) → Contains run x → Contains kept x) → length run ≤ length kept → IsBounded kept (session gap run)
-  session_bounded gap g run h few = record { low = omega (arith, first_small run h); high = omega (arith, g, last_small run h); few = few }
-
-  sessions_bounded : (gap : ℕ) → gap ≤ TIME_MAX → (i : Instance) → Contains (sessions gap kept) i → ((x : Kept) → Contains i.chosen x → Contains kept x) → IsBounded kept i
-  sessions_bounded gap g i c chosen =
-      let (run, among, is) = map_members (session gap) (pieces_of (λ x y. nat_le gap (y.time - x.time)) kept) i c in
-      let few : length i.chosen ≤ length kept = subst (λ l. length i.chosen ≤ length l) (sessions_joined gap kept) (one_of_joined (sessions gap kept) i c) in
-      let own : run ≡ i.chosen = ap (λ (j : Instance). j.chosen) is in
-      subst (IsBounded kept) is (session_bounded gap g run (λ x d. chosen x (subst (λ l. Contains l x) own d)) (subst (λ l. length l ≤ length kept) (sym own) few))
-
-  between_bounded : (ends : List ℕ) → ((t : ℕ) → Contains ends t → IsSmall t) → (i : Instance) → Contains (between_times ends kept) i → IsBounded kept i
-  between_bounded [] h i c = absurd (none_in_nil i c)
-  between_bounded (a ∷ []) h i c = absurd (none_in_nil i c)
-  between_bounded (a ∷ b ∷ ends) h i c =
-      ⊎_elim
-      (λ e. subst (IsBounded kept) e (interval_bounded a b (h a (Contains-head a (b ∷ ends))) (h b (Contains-tail a (b ∷ ends) b (Contains-head b ends)))))
-      (λ d. between_bounded (b ∷ ends) (λ t k. h t (Contains-tail a (b ∷ ends) t k)) i d)
-      (Contains-cons_cases (interval a b kept) (between_times (b ∷ ends) kept) i c)
-
-  edge_short : (marks : List ℕ) → All (λ time. time ≤ TIME_MAX) marks → (t : ℕ) → Contains (rising nat_cmp (0 ∷ marks ++ FINAL ∷ [])) t → IsSmall t
-  edge_short marks m t c =
-      ⊎_elim
-      (λ e. omega (arith, e))
-      (λ d. ends marks m d)
-      (Contains-cons_cases 0 (marks ++ FINAL ∷ []) t ((nat_rising_members (0 ∷ marks ++ FINAL ∷ []) t).0 c))
-    where
-      ends : (ms : List ℕ) → All (λ time. time ≤ TIME_MAX) ms → Contains (ms ++ FINAL ∷ []) t → IsSmall t
-      ends ms a d = All-contains IsSmall (ms ++ FINAL ∷ []) t (All-push IsSmall ms FINAL (All-weaker (λ n. n ≤ TIME_MAX) IsSmall (λ n l. omega (arith, l)) ms a) (omega arith)) d
-
-  ranks_bounded : (count : ℕ) → 1 ≤ count → length kept ≤ JOURNAL_MAX → (n : ℕ) → n < length kept / count → IsBounded kept (ranks count kept n)
-  ranks_bounded count some few n l =
-      let most : (length kept / count) * count ≤ length kept = div-mul-le_self (length kept) count in
-      let up : (n + 1) * count ≤ (length kept / count) * count = mul-le-mul_right count (omega (arith, l)) in
-      let low : n * count ≤ (n + 1) * count = mul-le-mul_right count (omega arith) in
-      record {
-        low = omega (arith, low, up, most, few);
-        high = omega (arith, up, most, few);
-        few = omega (arith, length-take count (drop (n * count) kept), length-drop (n * count) kept);
-      }
-
-  pub bounded : (kind : Kind) (marks : List ℕ) → IsKindWithin kind → All (λ time. time ≤ TIME_MAX) marks → length kept ≤ JOURNAL_MAX → (i : Instance) → Contains (instances_of kind kept marks) i → IsBounded kept i
-  unfolding instances_of
-  bounded (Tumbling len) marks k m few i c = spans_bounded len len k.0 (omega arith) k.1 i c
-  bounded (Sliding len slide) marks k m few i c = spans_bounded len slide k.2 k.3 k.1 i c
-  bounded (Session gap) marks k m few i c = sessions_bounded gap k.1 i c (chosen_kept (Session gap) kept marks i c)
-  bounded Marks marks k m few i c =
-      between_bounded (rising nat_cmp (0 ∷ marks ++ FINAL ∷ [])) (edge_short marks m) i
-      (filter_members is_selecting (between_times (rising nat_cmp (0 ∷ marks ++ FINAL ∷ [])) kept) i c).0
-  bounded (Events count) marks k m few i c =
-      let (n, among, is) = map_members (ranks count kept) (range_with_len 0 (length kept / count)) i c in
-      let within : (0 ≤ n) × (n < 0 + length kept / count) = range_members 0 (length kept / count) n among in
-      subst (IsBounded kept) is (ranks_bounded count k.0 few n (omega (arith, within.1)))
+pub bounded : (kind : Kind) (kept : List Kept) (marks : List ℕ) → IsKindWithin kind → TimesDoNotFall kept → length kept ≤ JOURNAL_MAX → (i : Instance) → Contains (instances_of kind kept marks) i → i.bound ≤ FINAL → IsBounded kept i
+unfolding instances_of
+bounded (Events count) kept marks k h few i c due = counts_bounded kept count k.0 few i c
+bounded kind kept marks k h few i c due = spans_bounded kind kept marks k refl h i c due
 
 -- ---- rows that stand
 key_within : (what : What) (key : List ℕ) → is_what_within what ≡ true → key_in what ≡ Some key → is_key key ≡ true
@@ -215,6 +173,10 @@ key_within (Mark k time) key h e = let same : k ≡ key = cc in subst (λ l. is_
 key_within (Water time) key h e = cc
 key_within Idle key h e = cc
 key_within End key h e = cc
+
+early : (what : What) → is_what_within what ≡ true → water_time what ≤ FINAL
+early (Water time) h = omega (arith, leb-true time TIME_MAX h)
+early what h = omega arith
 
 entry_within : (journal : List Entry) (k : ℕ) (e : Entry) → AreEntriesWithin journal → slice_get journal k ≡ Some e → is_what_within e.what ≡ true
 entry_within journal k e h g =
@@ -240,9 +202,10 @@ module _ (d : Definitions) (sources : ℕ) (limits : AreWithinLimits d) where
       let marks : List ℕ = marks_of d.lateness sources key journal in
       let kind : IsKindWithin def.kind = All-contains (λ (w : Def). IsKindWithin w.kind) d.windows def limits.kinds among in
       let n : length kept ≤ length journal = length_kept d.lateness sources key journal in
-      let b : IsBounded kept i
-      = bounded kept (kept_times_within d.lateness sources key journal within) def.kind marks kind (marks_within d.lateness sources key journal within) (omega (arith, n, few)) i
-      (filter_members (is_complete (water_of sources journal)) (instances_of def.kind kept marks) i stands).0 in
+      let m : Contains (instances_of def.kind kept marks) i × (is_complete (water_of sources journal) i ≡ true) = filter_members (is_complete (water_of sources journal)) (instances_of def.kind kept marks) i stands in
+      let due : i.bound ≤ water_of sources journal = leb-true i.bound (water_of sources journal) m.1 in
+      let final : water_of sources journal ≤ FINAL = water_at_most sources journal (All-weaker (λ (e : Entry). is_entry_within e ≡ true) (λ e. water_time e.what ≤ FINAL) (λ e h. early e.what (and_parts (nat_lt e.source (2 ^ 16)) (is_what_within e.what) h).1) journal within) in
+      let b : IsBounded kept i = bounded def.kind kept marks kind (kept_times_do_not_fall d.lateness sources key journal) (omega (arith, n, few)) i m.0 (omega (arith, due, final)) in
       let some : 1 ≤ length i.chosen = All-contains (λ (j : Instance). 1 ≤ length j.chosen) (standing_at def (moment_of d sources key journal)) i (standing_selects def.kind kept marks (water_of sources journal) kind) stands in
       record {
         own = a_key i.chosen some (stands_kept d sources key journal def i stands);

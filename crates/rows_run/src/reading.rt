@@ -39,7 +39,8 @@ fn read_rows<S: Source>(alloc: Global, source: &mut S) -> Result<Vec<ShardRows>,
     requires fresh { (S.reads source.old).given ≡ [] }
     requires quiet { (S.reads source.old).faults ≡ 0 }
     ensures place { (S.reads source.new).place ≡ (S.reads source.old).place }
-    ensures told { IfOk result (λ shards. read_text (S.reads source.new).given ≡ tells shards.items) }
+    ensures told { IfOk result (λ shards.
+        read_text (S.reads source.new).given ≡ tells shards.items) }
     ensures whole { IfOk result (λ shards. S.reads source.new
         ≡ all_read (S.reads source.old).place (S.reads source.new).given) }
     ensures stopped { IfErr result (StopsReading (S.reads source.new)) }

@@ -15,7 +15,8 @@ use Rattle.stream_base.specs.declared.kept.Kept.{Kept}
 use Rattle.stream_base.specs.Laws.{RiseByStart, becomes_complete, completions}
 use Rattle.stream_base.specs.Model.Changes.{Moment, changes_between, row_of, standing_at}
 use Rattle.stream_base.specs.Model.Windows.{Instance, instances_of, is_complete}
-use Rattle.model_laws.proofs.Absent.{is_key_or_not, no_instances}
+use Rattle.model_laws.proofs.Absent.{is_key_or_not}
+use Rattle.stream_base.proofs.KindFacts.{no_instances}
 use Rattle.stream_base.proofs.ChangeFacts.{changes_at_water, flat_map_same, no_changes}
 use Rattle.stream_base.proofs.Distinct.{by_start_total}
 use Rattle.stream_base.proofs.Members.{filter_has, filter_members, filter_same}

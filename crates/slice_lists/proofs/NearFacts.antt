@@ -2,17 +2,16 @@
 use Rattle.std.proofs.Common.{◌≡◌, ◌∙◌, ℕ, zero, suc, ◌+◌, ◌-◌, ◌<◌, ◌≤◌, Bool, true, false, cond, not, List, [], ◌∷◌, ◌++◌, length, get_or, take, drop, ap, sym, refl, subst, arith, inl, inr, ⊎_elim, drop-cons}
 use Rattle.std.specs.Prelude.{◌⊎◌, ◌||◌, ◌&&◌, nat_lt, nat_le}
 use Rattle.std.specs.List.{All, filter, list_any}
-use Rattle.std.proofs.lemmas.Bool.{lt-ltb, le-ltb, lt-leb, cases_lt, cases_eq, false≢true}
+use Rattle.std.proofs.lemmas.Bool.{lt-ltb, le-ltb, cases_lt, cases_eq, false≢true}
 use Rattle.std.proofs.lemmas.Bool.Decides.{nat_tests}
 use Rattle.std.proofs.lemmas.List.{append-nil, drop-drop, length-drop, length-take, get_or-drop, get_or-take, get_or_default, take-append-drop}
 use Rattle.std.proofs.lemmas.List.Elements.{All-head, All-tail, filter-append}
 use Rattle.stream_base.specs.declared.def.Def.{Def}
 use Rattle.stream_base.specs.declared.kept.Kept.{Kept}
-use Rattle.stream_base.specs.declared.kind.Kind.{Kind}
-use Rattle.stream_base.specs.declared.kind.Kind.TheVariants.{Tumbling, Sliding, Session, Marks, Events}
 use Rattle.stream_base.specs.Kinds.{IsKindWithin, cuts_between}
 use Rattle.stream_base.specs.Model.Cuts.{has_cut}
 use Rattle.stream_base.specs.Model.Windows.{first_time, last_time}
+use Rattle.stream_base.proofs.KindFacts.{no_cut_at_once}
 use Rattle.slice_lists.specs.Runs.{AreInOrder, AreParted, ArePartFrom, AreRuns, IsPartFrom}
 use Rattle.slice_lists.proofs.MarkRuns.{earlier_cut, later_cut}
 use Rattle.stream_base.proofs.Filters.{filter_all, filter_none}
@@ -93,13 +92,6 @@ module _ (near apart : ℕ → ℕ → Type 0) (runs : List (List Kept)) (x : Ke
       (merged near apart (take at runs) p q (drop (suc (suc at)) runs) x (subst (AreParted near apart) two a) n m))
 
 -- ---- there is no cut between a time and itself
-kind_self : (kind : Kind) (t : ℕ) → IsKindWithin kind → cuts_between kind t t ≡ false
-kind_self (Tumbling length) t w = grind (arith, nat_tests)
-kind_self (Sliding length slide) t w = grind (arith, nat_tests)
-kind_self (Session gap) t w = lt-leb gap (t - t) (omega (arith, w.0))
-kind_self Marks t w = refl
-kind_self (Events count) t w = refl
-
 none_of_marks : (marks : List ℕ) (t : ℕ) → list_any (λ m. nat_lt t m && nat_le m t) marks ≡ false
 none_of_marks [] t = refl
 none_of_marks (m ∷ marks) t = let e : (nat_lt t m && nat_le m t) ≡ false = grind (arith, nat_tests) in ap (λ b. b || list_any (λ m. nat_lt t m && nat_le m t) marks) e ∙ none_of_marks marks t
@@ -107,7 +99,7 @@ none_of_marks (m ∷ marks) t = let e : (nat_lt t m && nat_le m t) ≡ false = g
 none_of_windows : (windows : List Def) (t : ℕ) → All (λ w. IsKindWithin w.kind) windows → list_any (λ (d : Def). cuts_between d.kind t t) windows ≡ false
 none_of_windows [] t w = refl
 none_of_windows (d ∷ ds) t w =
-    ap (λ b. b || list_any (λ (e : Def). cuts_between e.kind t t) ds) (kind_self d.kind t (All-head (λ (e : Def). IsKindWithin e.kind) d ds w)) ∙ none_of_windows ds t (All-tail (λ (e : Def). IsKindWithin e.kind) d ds w)
+    ap (λ b. b || list_any (λ (e : Def). cuts_between e.kind t t) ds) (no_cut_at_once d.kind t (All-head (λ (e : Def). IsKindWithin e.kind) d ds w)) ∙ none_of_windows ds t (All-tail (λ (e : Def). IsKindWithin e.kind) d ds w)
 
 cut_self : (windows : List Def) (marks : List ℕ) (t : ℕ) → All (λ w. IsKindWithin w.kind) windows → has_cut windows marks t t ≡ false
 cut_self windows marks t w = ap (λ b. b || list_any (λ m. nat_lt t m && nat_le m t) marks) (none_of_windows windows t w) ∙ none_of_marks marks t

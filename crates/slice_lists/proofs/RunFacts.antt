@@ -1,20 +1,14 @@
 -- One tuple more among the pieces of a list in order.
-use Rattle.std.proofs.Common.{◌≡◌, ◌∙◌, ℕ, zero, suc, ◌-◌, ◌/◌, ◌<◌, ◌≤◌, Bool, true, false, cond, List, [], ◌∷◌, ◌++◌, ap, sym, refl, subst, arith, inl, inr}
-use Rattle.std.specs.Prelude.{◌⊎◌, ◌||◌, ◌&&◌, nat_lt, nat_le}
-use Rattle.std.specs.List.{list_any}
-use Rattle.std.proofs.lemmas.Bool.{ltb-true, ltb-false, lt-ltb, leb-true, le-leb, cases_lt, or_left, or_right, false≢true}
-use Rattle.std.proofs.lemmas.Bool.Decides.{nat_tests}
-use Rattle.std.proofs.lemmas.Nat.{le-div}
-use Rattle.std.proofs.Math.Nat.{div-mul-le_self, div-zero}
+use Rattle.std.proofs.Common.{◌≡◌, ◌∙◌, ℕ, ◌<◌, ◌≤◌, Bool, true, false, cond, List, [], ◌∷◌, ◌++◌, ap, sym, refl, subst, arith, inl, inr}
+use Rattle.std.specs.Prelude.{◌⊎◌, nat_lt}
+use Rattle.std.proofs.lemmas.Bool.{ltb-true, ltb-false}
 use Rattle.stream_base.specs.declared.def.Def.{Def}
 use Rattle.stream_base.specs.declared.kept.Kept.{Kept}
-use Rattle.stream_base.specs.declared.kind.Kind.{Kind}
-use Rattle.stream_base.specs.declared.kind.Kind.TheVariants.{Tumbling, Sliding, Session, Marks, Events}
 use Rattle.stream_base.specs.Model.Cuts.{has_cut}
-use Rattle.stream_base.specs.Kinds.{bounds_up_to, cuts_between, has_bound}
 use Rattle.stream_base.specs.Model.Journal.{put_in_order}
 use Rattle.stream_base.specs.Model.Slices.{runs_of}
 use Rattle.stream_base.specs.Model.Windows.{glued, pieces_of}
+use Rattle.stream_base.proofs.CutFacts.{cut_stays}
 use Rattle.stream_base.proofs.EventOrder.{put_in_order_cons}
 use Rattle.slice_lists.specs.Runs.{IsPutInRuns}
 use Rattle.stream_base.proofs.Filters.{cases_of}
@@ -171,70 +165,12 @@ module _ (cut : Kept → Kept → Bool) (farther : (a b c : Kept) → a.time ≤
           (put_from_placed h x (pieces_of cut (h ∷ hs)) (pieces_of cut (h ∷ put_in_order hs x)) behind (placed h hs x behind))
 
 -- ---- the cut of definitions and marks
-any_more : {X : Type 0} (p q : X → Bool) (xs : List X) → ((x : X) → p x ≡ true → q x ≡ true) → list_any p xs ≡ true → list_any q xs ≡ true
-any_more p q [] h e = absurd (false≢true e)
-any_more p q (x ∷ xs) h e = by (p x) refl (any_more p q xs h) e
-  where
-    by : (b : Bool) → p x ≡ b → (list_any p xs ≡ true → list_any q xs ≡ true) → (b || list_any p xs) ≡ true → (q x || list_any q xs) ≡ true
-    by true is later g = ap (λ c. c || list_any q xs) (h x is)
-    by false is later g = or_right (q x) (list_any q xs) (later g)
+module _ (a b c : ℕ) (l : a ≤ b) (r : b ≤ c) (windows : List Def) (marks : List ℕ) where
+  pub cut_farther : has_cut windows marks a b ≡ true → has_cut windows marks a c ≡ true
+  cut_farther = cut_stays windows marks a b a c (omega arith) r
 
-quotient_rises : (m n k : ℕ) → m ≤ n → m / k ≤ n / k
-quotient_rises m n zero h = omega (arith, div-zero m, div-zero n)
-quotient_rises m n (suc k) h = le-div (m / suc k) n (suc k) (omega arith) (omega (arith, div-mul-le_self m (suc k)))
-
-count_rises : (offset slide s t : ℕ) → s ≤ t → bounds_up_to offset slide s ≤ bounds_up_to offset slide t
-count_rises offset slide s t h = by (cases_lt s offset) (cases_lt t offset)
-  where
-    quotient : (s - offset) / slide ≤ (t - offset) / slide
-    quotient = quotient_rises (s - offset) (t - offset) slide (omega arith)
-
-    by : (s < offset) ⊎ (offset ≤ s) → (t < offset) ⊎ (offset ≤ t) → bounds_up_to offset slide s ≤ bounds_up_to offset slide t
-    by (inl a) _ = grind (arith, nat_tests)
-    by (inr a) (inl b) = absurd (omega arith)
-    by (inr a) (inr b) = grind (arith, nat_tests, quotient)
-
-module _ (a b c : ℕ) (l : a ≤ b) (r : b ≤ c) where
-  bound_farther : (offset slide : ℕ) → has_bound offset slide a b ≡ true → has_bound offset slide a c ≡ true
-  bound_farther offset slide h =
-      let m : bounds_up_to offset slide a < bounds_up_to offset slide b = ltb-true _ _ h in
-      lt-ltb (bounds_up_to offset slide a) (bounds_up_to offset slide c) (omega (arith, count_rises offset slide b c r))
-
-  bound_earlier : (offset slide : ℕ) → has_bound offset slide b c ≡ true → has_bound offset slide a c ≡ true
-  bound_earlier offset slide h =
-      let m : bounds_up_to offset slide b < bounds_up_to offset slide c = ltb-true _ _ h in
-      lt-ltb (bounds_up_to offset slide a) (bounds_up_to offset slide c) (omega (arith, count_rises offset slide a b l))
-
-  either : (p q s t : Bool) → (p ≡ true → s ≡ true) → (q ≡ true → t ≡ true) → (p || q) ≡ true → (s || t) ≡ true
-  either true q s t f g h = or_left s t (f refl)
-  either false q s t f g h = or_right s t (g h)
-
-  kind_farther : (kind : Kind) → cuts_between kind a b ≡ true → cuts_between kind a c ≡ true
-  kind_farther (Tumbling length) h = bound_farther 0 length h
-  kind_farther (Sliding length slide) h = either (has_bound 0 slide a b) (has_bound length slide a b) (has_bound 0 slide a c) (has_bound length slide a c) (bound_farther 0 slide) (bound_farther length slide) h
-  kind_farther (Session gap) h = let g : gap ≤ b - a = leb-true gap (b - a) h in le-leb gap (c - a) (omega arith)
-  kind_farther Marks h = h
-  kind_farther (Events count) h = h
-
-  kind_earlier : (kind : Kind) → cuts_between kind b c ≡ true → cuts_between kind a c ≡ true
-  kind_earlier (Tumbling length) h = bound_earlier 0 length h
-  kind_earlier (Sliding length slide) h = either (has_bound 0 slide b c) (has_bound length slide b c) (has_bound 0 slide a c) (has_bound length slide a c) (bound_earlier 0 slide) (bound_earlier length slide) h
-  kind_earlier (Session gap) h = let g : gap ≤ c - b = leb-true gap (c - b) h in le-leb gap (c - a) (omega arith)
-  kind_earlier Marks h = h
-  kind_earlier (Events count) h = h
-
-  -- a cut stays where the times move apart
-  pub cut_farther : (windows : List Def) (marks : List ℕ) → has_cut windows marks a b ≡ true → has_cut windows marks a c ≡ true
-  cut_farther windows marks =
-      either (list_any (λ (w : Def). cuts_between w.kind a b) windows) (list_any (λ m. nat_lt a m && nat_le m b) marks) (list_any (λ (w : Def). cuts_between w.kind a c) windows) (list_any (λ m. nat_lt a m && nat_le m c) marks)
-      (any_more (λ (w : Def). cuts_between w.kind a b) (λ w. cuts_between w.kind a c) windows (λ w. kind_farther w.kind))
-      (any_more (λ m. nat_lt a m && nat_le m b) (λ m. nat_lt a m && nat_le m c) marks (λ m h. grind (arith, nat_tests)))
-
-  pub cut_earlier : (windows : List Def) (marks : List ℕ) → has_cut windows marks b c ≡ true → has_cut windows marks a c ≡ true
-  cut_earlier windows marks =
-      either (list_any (λ (w : Def). cuts_between w.kind b c) windows) (list_any (λ m. nat_lt b m && nat_le m c) marks) (list_any (λ (w : Def). cuts_between w.kind a c) windows) (list_any (λ m. nat_lt a m && nat_le m c) marks)
-      (any_more (λ (w : Def). cuts_between w.kind b c) (λ w. cuts_between w.kind a c) windows (λ w. kind_earlier w.kind))
-      (any_more (λ m. nat_lt b m && nat_le m c) (λ m. nat_lt a m && nat_le m c) marks (λ m h. grind (arith, nat_tests)))
+  pub cut_earlier : has_cut windows marks b c ≡ true → has_cut windows marks a c ≡ true
+  cut_earlier = cut_stays windows marks b c a c l (omega arith)
 
 pub runs_after_put : (windows : List Def) (marks : List ℕ) (kept : List Kept) (x : Kept) → IsPutInRuns (runs_of windows marks kept) x (runs_of windows marks (put_in_order kept x))
 runs_after_put windows marks kept x =

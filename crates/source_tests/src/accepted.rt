@@ -1,6 +1,6 @@
 use std::test::Fail;
 use stream_base::{Def, Func, Kind};
-use window_defs::read_defs;
+use window_defs::{FUNCS, KINDS, func_named, is_kind, read_defs};
 
 const IN_ORDER: [Def; 2] = [
     Def {
@@ -81,5 +81,16 @@ fn numbers_at_their_limits_are_taken(rt: HostRuntime) -> Result<(), Fail> {
         (defs.lateness(), defs.every(), defs.disorder()),
         (1_000_000_000_000_000, 1_000_000, 1_000_000_000_000_000)
     );
+    Ok(())
+}
+
+#[test]
+fn each_listed_word_names_a_kind_or_a_function(rt: HostRuntime) -> Result<(), Fail> {
+    for word in &KINDS {
+        assert!(rt; is_kind(word));
+    }
+    for word in &FUNCS {
+        assert!(rt; func_named(word).is_some());
+    }
     Ok(())
 }

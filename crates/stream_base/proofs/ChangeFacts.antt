@@ -16,7 +16,8 @@ use Rattle.stream_base.specs.Model.Changes.{row_of, former_of, is_same, are_same
 use Rattle.stream_base.specs.Laws.{by_start, RiseByStart, becomes_complete, completions}
 use Rattle.stream_base.proofs.Rising.{none_in_nil, Contains-head, Contains-at_head, Contains-tail, Contains-cons_cases}
 use Rattle.stream_base.proofs.Members.{filter_members, filter_has}
-use Rattle.stream_base.proofs.Distinct.{instances_rise, standing_rises, is_same_itself, find_same, one_of_a_start}
+use Rattle.stream_base.proofs.Distinct.{is_same_itself, find_same, one_of_a_start}
+use Rattle.stream_base.proofs.KindFacts.{instances_rise, standing_rises}
 
 -- ---- chains that give nothing, or one item for each
 filter_map_none : {X Y : Type 0} (f : X → Option Y) (xs : List X) → ((x : X) → Contains xs x → f x ≡ None) → filter_map f xs ≡ []

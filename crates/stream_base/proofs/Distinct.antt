@@ -14,11 +14,8 @@ use Rattle.std.proofs.lemmas.List.Kept.{IsStrictlySortedBy-filter}
 use Rattle.std.proofs.lemmas.Map.Keys.{sorted_head, sorted_tail}
 use Rattle.stream_base.specs.declared.limits.TheConstants.{FINAL}
 use Rattle.stream_base.specs.declared.kept.Kept.{Kept}
-use Rattle.stream_base.specs.declared.kind.Kind.{Kind}
-use Rattle.stream_base.specs.declared.kind.Kind.TheVariants.{Tumbling, Sliding, Session, Marks, Events}
-use Rattle.stream_base.specs.Kinds.{IsKindWithin}
 use Rattle.stream_base.specs.Model.Journal.{rising}
-use Rattle.stream_base.specs.Model.Windows.{Instance, interval, starts_of, spans, glued, pieces_of, first_time, session, sessions, is_selecting, between_times, stretches, ranks, counted, instances_of, is_complete, standing_of}
+use Rattle.stream_base.specs.Model.Windows.{Instance, interval, starts_of, spans, glued, pieces_of, first_time, session, sessions, is_selecting, between_times, stretches, ranks, counted}
 use Rattle.stream_base.specs.Model.Changes.{is_same}
 use Rattle.stream_base.specs.Laws.{by_start, RiseByStart}
 use Rattle.stream_base.proofs.Rising.{none_in_nil, Contains-at_head, Contains-tail, Contains-cons_cases, sorted_cons, sorted_nil, below_tail, nat_rising_is_sorted}
@@ -52,7 +49,7 @@ range_sorted a (suc n) =
     (All_from_members (λ k. nat_cmp a k ≡ Less) (range_with_len (a + 1) n) (λ k c. less_from_lt a k (omega (arith, (range_members (a + 1) n k c).0))))
     (range_sorted (a + 1) n)
 
-spans_rise : (length slide : ℕ) (kept : List Kept) → RiseByStart (spans length slide kept)
+pub spans_rise : (length slide : ℕ) (kept : List Kept) → RiseByStart (spans length slide kept)
 spans_rise length slide kept = sorted_map by_start_total (λ low. interval low (low + length) kept) (λ a b h. h) (starts_of length slide kept) (starts_of_is_sorted length slide kept)
 
 times_rise : (count a b : ℕ) → 1 ≤ count → a < b → a * count < b * count
@@ -63,7 +60,7 @@ times_rise count a b pos h =
     mono : (a b c : ℕ) → a ≤ b → a * c ≤ b * c
     mono a b c h = grind arith
 
-counted_rise : (count : ℕ) (kept : List Kept) → 1 ≤ count → RiseByStart (counted count kept)
+pub counted_rise : (count : ℕ) (kept : List Kept) → 1 ≤ count → RiseByStart (counted count kept)
 counted_rise count kept pos = sorted_map by_start_total (ranks count kept) (λ a b h. less_from_lt (a * count) (b * count) (times_rise count a b pos (lt_from_less a b h))) (range_with_len 0 (length kept / count)) (range_sorted 0 (length kept / count))
 
 between_times_starts : (times : List ℕ) (kept : List Kept) (i : Instance) → Contains (between_times times kept) i → Contains times i.low
@@ -83,7 +80,7 @@ between_times_rise (a ∷ b ∷ times) kept s =
     (All_from_members (λ i. by_start (interval a b kept) i ≡ Less) (between_times (b ∷ times) kept) (λ i c. below_tail nat_cmp_total a (b ∷ times) s i.low (between_times_starts (b ∷ times) kept i c)))
     (between_times_rise (b ∷ times) kept (sorted_tail nat_cmp a (b ∷ times) s))
 
-stretches_rise : (marks : List ℕ) (kept : List Kept) → RiseByStart (stretches marks kept)
+pub stretches_rise : (marks : List ℕ) (kept : List Kept) → RiseByStart (stretches marks kept)
 stretches_rise marks kept =
     IsStrictlySortedBy-filter by_start is_selecting (between_times (rising nat_cmp (0 ∷ marks ++ FINAL ∷ [])) kept)
     (between_times_rise (rising nat_cmp (0 ∷ marks ++ FINAL ∷ [])) kept (nat_rising_is_sorted (0 ∷ marks ++ FINAL ∷ [])))
@@ -147,20 +144,8 @@ pieces_in_order gap (x ∷ xs) pos h = glued_pieces gap x (pieces_of (λ x y. na
     next [] low k = record { full = k.full; rise = k.rise; late = All-nil (λ run. x.time ≤ first_time run) }
     next (y ∷ ys) low k = earlier y.time x.time (pieces_of (λ x y. nat_le gap (y.time - x.time)) (y ∷ ys)) (low 0 y (omega arith)) k
 
-sessions_rise : (gap : ℕ) (kept : List Kept) → 1 ≤ gap → IsNonDecreasingBy (λ (x : Kept). x.time) kept → RiseByStart (sessions gap kept)
+pub sessions_rise : (gap : ℕ) (kept : List Kept) → 1 ≤ gap → IsNonDecreasingBy (λ (x : Kept). x.time) kept → RiseByStart (sessions gap kept)
 sessions_rise gap kept pos h = sorted_map by_start_total (session gap) (λ run other l. l) (pieces_of (λ x y. nat_le gap (y.time - x.time)) kept) (pieces_in_order gap kept pos h).rise
-
--- the starts of the instances of a window rise
-pub instances_rise : (kind : Kind) (kept : List Kept) (marks : List ℕ) → IsKindWithin kind → IsNonDecreasingBy (λ (x : Kept). x.time) kept → RiseByStart (instances_of kind kept marks)
-unfolding instances_of
-instances_rise (Tumbling length) kept marks k h = spans_rise length length kept
-instances_rise (Sliding length slide) kept marks k h = spans_rise length slide kept
-instances_rise (Session gap) kept marks k h = sessions_rise gap kept k.0 h
-instances_rise Marks kept marks k h = stretches_rise marks kept
-instances_rise (Events count) kept marks k h = counted_rise count kept k.0
-
-pub standing_rises : (kind : Kind) (kept : List Kept) (marks : List ℕ) (water : ℕ) → IsKindWithin kind → IsNonDecreasingBy (λ (x : Kept). x.time) kept → RiseByStart (standing_of kind kept marks water)
-standing_rises kind kept marks water k h = IsStrictlySortedBy-filter by_start (is_complete water) (instances_of kind kept marks) (instances_rise kind kept marks k h)
 
 -- an instance is the same as itself
 pub is_same_itself : (i : Instance) → is_same i i ≡ true

@@ -4,17 +4,9 @@ use Rattle.std.proofs.lemmas.Bool.Decides.{nat_tests}
 use Rattle.std.proofs.lemmas.List.Sums.{prefix_len_passes}
 use Rattle.std.specs.List.{All, position, position_or_len}
 use Rattle.stream_base.specs.declared.def.Def.{Def}
-use Rattle.stream_base.specs.declared.kind.Kind.{Kind}
-use Rattle.stream_base.specs.declared.kind.Kind.TheVariants.{Tumbling, Sliding, Session, Marks, Events}
 use Rattle.stream_base.specs.Limits.{is_beyond}
 use Rattle.stream_base.specs.Kinds.{IsKindWithin, is_kind_within}
-
-kind_within : (k : Kind) → is_kind_within k ≡ true → IsKindWithin k
-kind_within (Tumbling l) h = grind (arith, nat_tests)
-kind_within (Sliding l s) h = grind (arith, nat_tests)
-kind_within (Session g) h = grind (arith, nat_tests)
-kind_within Marks h = tt
-kind_within (Events n) h = grind (arith, nat_tests)
+use Rattle.stream_base.proofs.KindFacts.{kind_within}
 
 past : (m n : ℕ) → cond (ltb m n) (Some m) None ≡ None → n ≤ m
 past m n h = grind (arith, nat_tests)

@@ -10,9 +10,8 @@ use Rattle.std.proofs.lemmas.List.Kept.{IsStrictlySortedBy-filter}
 use Rattle.std.proofs.lemmas.Map.Lookups.{exact_unsigned}
 use Rattle.std.proofs.lemmas.Nat.{le-div, div_below, div-add-mod'}
 use Rattle.stream_base.specs.declared.kept.Kept.{Kept}
-use Rattle.stream_base.specs.declared.kind.Kind.TheVariants.{Tumbling, Sliding}
 use Rattle.stream_base.specs.Model.Journal.{put_in_order}
-use Rattle.stream_base.specs.Model.Windows.{is_within, within, interval, starts_holding, starts_of, spans, instances_of, is_complete, standing_of}
+use Rattle.stream_base.specs.Model.Windows.{is_within, within, interval, starts_holding, starts_of, spans, is_complete}
 use Rattle.stream_base.specs.Laws.{HoldsKept, HoldsTime}
 use Rattle.stream_base.proofs.Rising.{nat_rising_increases, Contains-from_rising, Contains-rising, nat_rising_is_sorted, same_members_same_list}
 use Rattle.stream_base.proofs.Members.{range_members, range_has, map_members, map_has, map_same, flat_map_members, flat_map_has, filter_members, filter_has, filter_insert_refused, filter_map_of, Contains-insert_cases, Contains-insert_old, Contains-insert_new}
@@ -138,15 +137,6 @@ module _ (water length slide : ℕ) (moves : 1 ≤ slide) (overlaps : slide ≤ 
           let le : a + length ≤ water = leb-true (a + length) water (filter_members (λ low. nat_le (low + length) water) (starts_of length slide kept) a c).1 in
           let same : within a (a + length) (put_in_order kept x) ≡ within a (a + length) kept = within_put a (a + length) kept x (inr (omega arith)) in
           λ i. record { low = a; high = a + length; bound = a + length; chosen = same i }
-
--- what stands of a tumbling or sliding window stays where a tuple at or after the watermark comes
-pub standing_of_tumbling_put : (length : ℕ) (kept : List Kept) (marks : List ℕ) (water : ℕ) (x : Kept) → 1 ≤ length → water ≤ x.time → standing_of (Tumbling length) (put_in_order kept x) marks water ≡ standing_of (Tumbling length) kept marks water
-unfolding instances_of
-standing_of_tumbling_put length kept marks water x pos later = complete_spans_put water length length pos (omega arith) kept x later
-
-pub standing_of_sliding_put : (length slide : ℕ) (kept : List Kept) (marks : List ℕ) (water : ℕ) (x : Kept) → 1 ≤ slide → slide ≤ length → water ≤ x.time → standing_of (Sliding length slide) (put_in_order kept x) marks water ≡ standing_of (Sliding length slide) kept marks water
-unfolding instances_of
-standing_of_sliding_put length slide kept marks water x moves overlaps later = complete_spans_put water length slide moves overlaps kept x later
 
 pub starts_hold_kept : (length slide : ℕ) (kept : List Kept) (a : ℕ) → 1 ≤ slide → slide ≤ length → Contains (starts_of length slide kept) a ↔ HoldsKept length slide kept a
 starts_hold_kept length slide kept a moves overlaps = (

@@ -13,11 +13,12 @@ use Rattle.stream_base.specs.declared.def.Def.{Def}
 use Rattle.stream_base.specs.declared.func.Func.{Func}
 use Rattle.stream_base.specs.declared.kept.Kept.{Kept}
 use Rattle.stream_base.specs.declared.kind.Kind.{Kind}
-use Rattle.stream_base.specs.declared.kind.Kind.TheVariants.{Tumbling, Sliding, Session, Marks, Events}
+use Rattle.stream_base.specs.declared.kind.Kind.TheVariants.{Tumbling, Sliding}
 use Rattle.stream_base.specs.Laws.{becomes_complete, completions}
 use Rattle.stream_base.specs.Kinds.{is_timed, length_of, slide_of}
 use Rattle.stream_base.specs.Model.Changes.{row_of}
 use Rattle.stream_base.specs.Model.Windows.{instances_of, interval, is_within, spans, starts_of, within}
+use Rattle.stream_base.proofs.KindFacts.{timed_instances}
 use Rattle.stream_base.proofs.Members.{filter_has, filter_members, map_same}
 use Rattle.stream_base.proofs.Rising.{none_in_nil, same_members_same_list}
 use Rattle.stream_base.proofs.Spans.{starts_of_has, starts_of_is_sorted, starts_of_members}
@@ -82,15 +83,6 @@ module _ (len slide : ℕ) (span : IsSpan len slide) (old new : ℕ) (gone kept 
   told_without window key func =
       ap (map (new_at window key func len (gone ++ kept))) same_due
       ∙ map_same (new_at window key func len (gone ++ kept)) (new_at window key func len kept) (due_from len slide kept (next_start len slide old) new) (same_new window key func)
-
--- ---- the instances of a tumbling or sliding window
-timed_instances : (kind : Kind) (kept : List Kept) (marks : List ℕ) → is_timed kind ≡ true → instances_of kind kept marks ≡ spans (length_of kind) (slide_of kind) kept
-unfolding instances_of
-timed_instances (Tumbling length) kept marks t = refl
-timed_instances (Sliding length slide) kept marks t = refl
-timed_instances (Session gap) kept marks t = absurd (false≢true t)
-timed_instances Marks kept marks t = absurd (false≢true t)
-timed_instances (Events count) kept marks t = absurd (false≢true t)
 
 pub completions_told : (window : ℕ) (key : List ℕ) (def : Def) (old new : ℕ) (gone kept : List Kept) (marks : List ℕ) → is_timed def.kind ≡ true → IsSpan (length_of def.kind) (slide_of def.kind) → AreApartAbove def.kind old gone
     → map (new_at window key def.func (length_of def.kind) kept) (completed_starts def.kind kept old new) ≡ completions key (moment (gone ++ kept) marks old) new (window, def)

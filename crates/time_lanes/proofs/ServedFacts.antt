@@ -6,9 +6,10 @@ use Rattle.std.proofs.lemmas.Bool.{false≢true}
 use Rattle.std.proofs.lemmas.Option.{get_or_from_slice_get, slice_get_within}
 use Rattle.stream_base.specs.declared.def.Def.{Def}
 use Rattle.stream_base.specs.declared.kind.Kind.{Kind}
-use Rattle.stream_base.specs.declared.kind.Kind.TheVariants.{Tumbling, Sliding, Session, Marks, Events}
+use Rattle.stream_base.specs.declared.kind.Kind.TheVariants.{Tumbling, Sliding}
 use Rattle.stream_base.specs.Kinds.{IsKindWithin, is_timed, length_of, slide_of}
 use Rattle.stream_base.specs.Model.Slices.{runs_of}
+use Rattle.stream_base.proofs.KindFacts.{timed_within}
 use Rattle.slice_lists.specs.Runs.{IsAligned}
 use Rattle.window_laws.proofs.EdgeFacts.{interval_ends_align, interval_starts_align}
 use Rattle.agg_store.specs.Stored.{IsSliced, Stored, tuples_of}
@@ -27,11 +28,7 @@ parted_at_edges windows window def s length slide kinds stands timed sliced l m 
 
 -- its intervals move on, and overlap or touch
 pub span_of_kind : (kind : Kind) → is_timed kind ≡ true → IsKindWithin kind → IsSpan (length_of kind) (slide_of kind)
-span_of_kind (Tumbling length) t k = record { moves = k.0; overlaps = omega arith; short = k.1 }
-span_of_kind (Sliding length slide) t k = record { moves = k.2; overlaps = k.3; short = k.1 }
-span_of_kind (Session gap) t k = absurd (false≢true t)
-span_of_kind Marks t k = absurd (false≢true t)
-span_of_kind (Events count) t k = absurd (false≢true t)
+span_of_kind kind t k = let w = timed_within kind t k in record { moves = w.0; overlaps = w.1; short = w.2 }
 
 -- there is one window at a place
 pub same_window : (windows : List Def) (window : ℕ) (d e : Def) → IsWindowAt windows window d → IsWindowAt windows window e → d ≡ e

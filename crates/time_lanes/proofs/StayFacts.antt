@@ -8,7 +8,7 @@ use Rattle.std.proofs.lemmas.List.Elements.{All-contains, filter-append}
 use Rattle.stream_base.specs.declared.def.Def.{Def}
 use Rattle.stream_base.specs.declared.kept.Kept.{Kept}
 use Rattle.stream_base.specs.declared.kind.Kind.{Kind}
-use Rattle.stream_base.specs.declared.kind.Kind.TheVariants.{Tumbling, Sliding, Session, Marks, Events}
+use Rattle.stream_base.specs.declared.kind.Kind.TheVariants.{Tumbling, Sliding}
 use Rattle.stream_base.specs.Kinds.{CutsBetween, IsKindWithin, is_timed, length_of, slide_of}
 use Rattle.stream_base.specs.Model.Cuts.{has_cut}
 use Rattle.stream_base.specs.Model.Journal.{put_in_order}
@@ -17,6 +17,7 @@ use Rattle.stream_base.proofs.CutFacts.{cut_decides}
 use Rattle.stream_base.proofs.Members.{filter_members}
 use Rattle.stream_base.proofs.Rising.{Contains-head, Contains-tail}
 use Rattle.slice_lists.specs.Runs.{AreInOrder, IsRun, parted_at, runs_within}
+use Rattle.stream_base.proofs.KindFacts.{timed_cuts}
 use Rattle.window_laws.specs.Walk.{next_start_of}
 use Rattle.slice_lists.proofs.RunEdits.{parted}
 use Rattle.slice_lists.proofs.RunFacts.{put_behind, put_first}
@@ -34,11 +35,7 @@ use Rattle.time_lanes.proofs.ServedFacts.{parted_at_edges, stands_among}
 -- ---- an edge of a window cuts
 edge_cuts : (kind : Kind) (edge a b : ℕ) → is_timed kind ≡ true → IsEdge (length_of kind) (slide_of kind) edge → a < edge → edge ≤ b → CutsBetween kind a b
 edge_cuts kind edge a b t (inl z) l r = absurd (omega arith)
-edge_cuts (Tumbling length) edge a b t (inr h) l r = (h.0, inr (omega (arith, h.1), omega (arith, h.1)))
-edge_cuts (Sliding length slide) edge a b t (inr h) l r = (h.0, inr (omega (arith, h.1), omega (arith, h.1)))
-edge_cuts (Session gap) edge a b t (inr h) l r = absurd (false≢true t)
-edge_cuts Marks edge a b t (inr h) l r = absurd (false≢true t)
-edge_cuts (Events count) edge a b t (inr h) l r = absurd (false≢true t)
+edge_cuts kind edge a b t (inr h) l r = timed_cuts kind a b t (h.0, inr (omega (arith, h.1), omega (arith, h.1)))
 
 -- ---- slices that begin behind an edge are not of the interval
 none_from : (low edge : ℕ) (runs : List (List Kept)) → ((run : List Kept) → Contains runs run → edge ≤ first_time run) → runs_within low edge runs ≡ []

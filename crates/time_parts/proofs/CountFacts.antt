@@ -12,7 +12,7 @@ use Rattle.stream_base.specs.declared.change.Change.{Change}
 use Rattle.stream_base.specs.declared.def.Def.{Def}
 use Rattle.stream_base.specs.declared.kept.Kept.{Kept}
 use Rattle.stream_base.specs.declared.kind.Kind.{Kind}
-use Rattle.stream_base.specs.declared.kind.Kind.TheVariants.{Tumbling, Sliding, Session, Marks, Events}
+use Rattle.stream_base.specs.declared.kind.Kind.TheVariants.{Events}
 use Rattle.stream_base.specs.declared.limits.TheConstants.{FINAL}
 use Rattle.stream_base.specs.Laws.{TimesDoNotFall}
 use Rattle.stream_base.specs.Model.Changes.{Moment, emissions, retractions}
@@ -30,10 +30,10 @@ use Rattle.time_lanes.proofs.WalkFacts.{one_time_more}
 use Rattle.key_parts.specs.Calls.{window_at, window_kind}
 use Rattle.key_parts.specs.Work.{change_work, row_work}
 use Rattle.key_parts.specs.Moves.{AreLists}
+use Rattle.time_parts.specs.Places.{among, passes_at}
 use Rattle.time_parts.specs.Counted.{Counts, CountsAt}
 use Rattle.time_parts.proofs.DueFacts.{counts_early}
 use Rattle.time_parts.proofs.LaneFacts.{nothing_changes}
-use Rattle.time_parts.proofs.WindowFacts.{among, passes_at}
 
 -- ---- the window at the place
 pub counts_at : (d : Definitions) (window : ℕ) → CountsAt d window → is_events (window_kind d window) ≡ true
@@ -43,34 +43,19 @@ pub count_within : (d : Definitions) (window : ℕ) → CountsAt d window → Al
 count_within d window t kinds = All-contains (λ w. IsKindWithin w.kind) d.windows (window_at d window) kinds (among (λ def. is_events def.kind) d window t)
 
 pub counts_so_many : (kind : Kind) → is_events kind ≡ true → kind ≡ Events (count_of kind)
-counts_so_many (Tumbling length) t = absurd (false≢true t)
-counts_so_many (Sliding length slide) t = absurd (false≢true t)
-counts_so_many (Session gap) t = absurd (false≢true t)
-counts_so_many Marks t = absurd (false≢true t)
 counts_so_many (Events count) t = refl
+counts_so_many kind t = absurd (false≢true t)
 
 some_events : (kind : Kind) → is_events kind ≡ true → IsKindWithin kind → 1 ≤ count_of kind
-some_events (Tumbling length) t k = absurd (false≢true t)
-some_events (Sliding length slide) t k = absurd (false≢true t)
-some_events (Session gap) t k = absurd (false≢true t)
-some_events Marks t k = absurd (false≢true t)
-some_events (Events count) t k = k.0
+some_events kind t k = (subst IsKindWithin (counts_so_many kind t) k).0
 
 -- a change of it takes two combines for each tuple of the instance
 pub counted_work : (kind : Kind) (reach : ℕ) → is_events kind ≡ true → change_work kind reach ≡ 2 * count_of kind
-counted_work (Tumbling length) reach t = absurd (false≢true t)
-counted_work (Sliding length slide) reach t = absurd (false≢true t)
-counted_work (Session gap) reach t = absurd (false≢true t)
-counted_work Marks reach t = absurd (false≢true t)
-counted_work (Events count) reach t = refl
+counted_work kind reach t = ap (λ k. change_work k reach) (counts_so_many kind t)
 
 -- and a row that a move completes one
 pub counted_row : (kind : Kind) (reach : ℕ) → is_events kind ≡ true → row_work kind reach ≡ count_of kind
-counted_row (Tumbling length) reach t = absurd (false≢true t)
-counted_row (Sliding length slide) reach t = absurd (false≢true t)
-counted_row (Session gap) reach t = absurd (false≢true t)
-counted_row Marks reach t = absurd (false≢true t)
-counted_row (Events count) reach t = refl
+counted_row kind reach t = ap (λ k. row_work k reach) (counts_so_many kind t)
 
 -- ---- the tuples of its lane
 -- it has those that come behind the watermark minus the lateness, and at later times
@@ -115,11 +100,8 @@ told_by_put window key w def m x water out all at is none told =
 -- ---- a mark comes
 marks_aside : (kind : Kind) (kept : List Kept) (marks others : List ℕ) (water : ℕ) → is_events kind ≡ true → standing_of kind kept marks water ≡ standing_of kind kept others water
 unfolding instances_of
-marks_aside (Tumbling length) kept marks others water t = absurd (false≢true t)
-marks_aside (Sliding length slide) kept marks others water t = absurd (false≢true t)
-marks_aside (Session gap) kept marks others water t = absurd (false≢true t)
-marks_aside Marks kept marks others water t = absurd (false≢true t)
 marks_aside (Events count) kept marks others water t = refl
+marks_aside kind kept marks others water t = absurd (false≢true t)
 
 pub mark_changes_no_count : (window : ℕ) (key : List ℕ) (w : Def) (m : Moment) (time : ℕ) → is_events w.kind ≡ true → IsKindWithin w.kind → TimesDoNotFall m.kept → retractions key m (with_mark m time) (window, w) ++ emissions key m (with_mark m time) (window, w) ≡ []
 mark_changes_no_count window key w m time t k order = nothing_changes window key w m time (marks_aside w.kind m.kept m.marks (with_mark m time).marks m.water t) k order

@@ -3,20 +3,21 @@ use Rattle.std.proofs.Common.{◌≡◌, ◌≢◌, ◌∙◌, ℕ, Bool, ◌+�
 use Rattle.std.specs.Prelude.{◌&&◌, ◌⊎◌, find, nat_le, nat_lt}
 use Rattle.std.specs.List.{All, Contains, filter, range_with_len}
 use Rattle.std.specs.Option.{option_map_or}
-use Rattle.std.proofs.lemmas.Bool.{false≢true, and_from, cases_Bool, le-leb, ltb-true}
+use Rattle.std.proofs.lemmas.Bool.{and_from, cases_Bool, le-leb, ltb-true}
 use Rattle.std.proofs.lemmas.List.{length-map}
 use Rattle.std.proofs.lemmas.List.Elements.{All-contains, All-get_or, All-head, All-tail}
 use Rattle.stream_base.specs.declared.change.Change.TheVariants.{New}
 use Rattle.stream_base.specs.declared.def.Def.{Def}
 use Rattle.stream_base.specs.declared.kept.Kept.{Kept}
 use Rattle.stream_base.specs.declared.kind.Kind.{Kind}
-use Rattle.stream_base.specs.declared.kind.Kind.TheVariants.{Tumbling, Sliding, Session, Marks, Events}
+use Rattle.stream_base.specs.declared.kind.Kind.TheVariants.{Events}
 use Rattle.stream_base.specs.declared.limits.TheConstants.{FINAL, TIME_MAX}
 use Rattle.stream_base.specs.Laws.{becomes_complete, completions}
-use Rattle.stream_base.specs.Kinds.{IsKindWithin, is_timed}
+use Rattle.stream_base.specs.Kinds.{length_of, slide_of, IsKindWithin, is_timed}
 use Rattle.stream_base.specs.Model.Changes.{Moment, row_of}
 use Rattle.stream_base.specs.Model.Windows.{Instance, counted, instances_of, interval, ranks, spans, starts_of}
 use Rattle.stream_base.proofs.Distinct.{All_from_members}
+use Rattle.stream_base.proofs.KindFacts.{timed_instances, timed_within}
 use Rattle.stream_base.proofs.Members.{map_members, range_members}
 use Rattle.stream_base.proofs.Spans.{starts_of_members}
 use Rattle.window_laws.specs.Due.{first_open}
@@ -87,12 +88,9 @@ spans_early length slide kept moves overlaps short times =
     subst (λ (i : Instance). i.bound < FINAL) g.2 (omega arith))
 
 pub timed_early : (kind : Kind) (kept : List Kept) (marks : List ℕ) → is_timed kind ≡ true → IsKindWithin kind → All (λ x. x.time ≤ TIME_MAX) kept → All (λ (i : Instance). i.bound < FINAL) (instances_of kind kept marks)
-unfolding instances_of
-timed_early (Tumbling length) kept marks t k times = spans_early length length kept k.0 (omega arith) k.1 times
-timed_early (Sliding length slide) kept marks t k times = spans_early length slide kept k.2 k.3 k.1 times
-timed_early (Session gap) kept marks t k times = absurd (false≢true t)
-timed_early Marks kept marks t k times = absurd (false≢true t)
-timed_early (Events count) kept marks t k times = absurd (false≢true t)
+timed_early kind kept marks t k times =
+    let w = timed_within kind t k in
+    subst (All (λ (i : Instance). i.bound < FINAL)) (sym (timed_instances kind kept marks t)) (spans_early (length_of kind) (slide_of kind) kept w.0 w.1 w.2 times)
 
 pub counts_early : (kind : Kind) (count : ℕ) (kept : List Kept) (marks : List ℕ) → kind ≡ Events count → 1 ≤ count → All (λ x. x.time < FINAL) kept → All (λ (i : Instance). i.bound < FINAL) (instances_of kind kept marks)
 unfolding instances_of

@@ -1,72 +1,45 @@
 -- What a lane meets where a tuple or a mark comes, where the watermark moves, and where slices leave.
-use Rattle.std.proofs.Common.{◌≡◌, ◌∙◌, ℕ, ◌+◌, ◌*◌, ◌<◌, ◌≤◌, true, false, cond, Option, Some, List, [], ◌∷◌, ◌++◌, length, take, drop, map, ap, sym, refl, subst, arith, inl, inr}
+use Rattle.std.proofs.Common.{cond, ◌≡◌, ◌∙◌, ℕ, ◌+◌, ◌*◌, ◌<◌, ◌≤◌, true, false, Option, Some, List, [], ◌∷◌, ◌++◌, length, take, drop, map, ap, sym, refl, subst, arith, inl, inr}
 use Rattle.std.specs.Prelude.{◌&&◌, ◌⊎◌, find, nat_le, nat_lt}
 use Rattle.std.specs.List.{filter}
 use Rattle.std.specs.List.Sorted.{IsNonDecreasingBy}
 use Rattle.std.specs.Option.{option_map_or}
-use Rattle.std.proofs.lemmas.Bool.{false≢true, and_right, cases_Bool, lt-leb}
+use Rattle.std.proofs.lemmas.Bool.{and_right, cases_Bool, lt-leb}
 use Rattle.std.proofs.lemmas.List.{length-map, take-append-drop}
 use Rattle.std.proofs.lemmas.List.Elements.{All-cons, All-weaker}
 use Rattle.stream_base.specs.Limits.{Definitions}
-use Rattle.stream_base.specs.Kinds.{IsKindWithin, is_events, is_timed, length_of}
+use Rattle.stream_base.specs.Kinds.{events_in, IsKindWithin, is_events, is_timed, length_of}
 use Rattle.stream_base.specs.declared.change.Change.{Change}
 use Rattle.stream_base.specs.declared.change.Change.TheVariants.{New}
 use Rattle.stream_base.specs.declared.former.Former.{Former}
 use Rattle.stream_base.specs.declared.def.Def.{Def}
 use Rattle.stream_base.specs.declared.kept.Kept.{Kept}
 use Rattle.stream_base.specs.declared.kind.Kind.{Kind}
-use Rattle.stream_base.specs.declared.kind.Kind.TheVariants.{Tumbling, Sliding, Session, Marks, Events}
 use Rattle.stream_base.specs.declared.limits.TheConstants.{FINAL}
 use Rattle.stream_base.specs.Laws.{TimesDoNotFall, becomes_complete, completions}
 use Rattle.stream_base.specs.Model.Changes.{Moment, emissions, retractions, row_of}
 use Rattle.stream_base.specs.Model.Journal.{put_in_order}
 use Rattle.stream_base.specs.Model.Windows.{Instance, instances_of, standing_of}
 use Rattle.stream_base.proofs.ChangeFacts.{none_emitted, none_retracted}
-use Rattle.stream_base.proofs.Distinct.{standing_rises}
+use Rattle.stream_base.proofs.KindFacts.{standing_rises, timed_counts_not, timed_stand_at_mark}
 use Rattle.window_laws.specs.After.{with_mark, with_tuple}
 use Rattle.window_laws.specs.Due.{first_open}
-use Rattle.window_laws.proofs.InstanceFacts.{bounds_do_not_fall}
+use Rattle.window_laws.proofs.KindFacts.{bounds_do_not_fall}
 use Rattle.window_laws.proofs.LateFacts.{timed_none_gone}
 use Rattle.stream_base.proofs.Filters.{filter_none}
 use Rattle.stream_base.specs.Model.Moments.{moment}
 use Rattle.slice_lists.proofs.Order.{nd_head, nd_tail}
-use Rattle.window_laws.proofs.SettledFacts.{all_member}
 use Rattle.agg_store.specs.Stored.{Stored, tuples_of}
 use Rattle.time_lanes.specs.Told.{former_at}
 use Rattle.time_lanes.specs.Late.{IsLate, complete_holding, formers_of}
-use Rattle.key_parts.specs.Calls.{window_at, window_kind}
-use Rattle.key_parts.specs.Moves.{Comes, IsPutStep, IsStored}
-use Rattle.key_parts.specs.Moves.Comes.{Enters, Leaves}
-use Rattle.key_parts.specs.Work.{change_work, row_work, slice_work}
+use Rattle.key_parts.specs.Calls.{window_at}
+use Rattle.key_parts.specs.Moves.{IsPutStep}
+use Rattle.key_parts.specs.Work.{fold_work, change_work, row_work, slice_work}
+use Rattle.time_parts.specs.Untold.{taken_in}
 use Rattle.time_parts.specs.Lanes.{IsTimedAt}
-use Rattle.time_parts.proofs.WindowFacts.{apart_at, member_at, timed_at}
-
--- ---- a tuple comes
-timed_counts_not : (kind : Kind) → is_timed kind ≡ true → is_events kind ≡ false
-timed_counts_not (Tumbling length) t = refl
-timed_counts_not (Sliding length slide) t = refl
-timed_counts_not (Session gap) t = absurd (false≢true t)
-timed_counts_not Marks t = absurd (false≢true t)
-timed_counts_not (Events count) t = absurd (false≢true t)
-
-pub counts_not : (d : Definitions) (window : ℕ) → IsTimedAt d window → is_events (window_kind d window) ≡ false
-counts_not d window t = timed_counts_not (window_kind d window) (timed_at d window t)
-
--- the store takes it in, since this window doesn't count events
-pub taken_in : (d : Definitions) (window n : ℕ) (before : Stored) (x : Kept) (more : ℕ) (after : Stored) → IsTimedAt d window → Comes d n before x more after → IsStored d before x after × (more ≡ n)
-taken_in d window n before x more after t (Enters some stored) = (stored, refl)
-taken_in d window n before x more after t (Leaves all none) =
-    absurd (false≢true (sym (counts_not d window t) ∙ all_member (λ (w : Def). is_events w.kind) d.windows (window_at d window) all (member_at d window t)))
+use Rattle.time_parts.proofs.WindowFacts.{apart_at}
 
 -- ---- a mark comes
-marks_aside : (kind : Kind) (kept : List Kept) (marks others : List ℕ) (water : ℕ) → is_timed kind ≡ true → standing_of kind kept marks water ≡ standing_of kind kept others water
-unfolding instances_of
-marks_aside (Tumbling length') kept marks others water t = refl
-marks_aside (Sliding length' slide) kept marks others water t = refl
-marks_aside (Session gap) kept marks others water t = absurd (false≢true t)
-marks_aside Marks kept marks others water t = absurd (false≢true t)
-marks_aside (Events count) kept marks others water t = absurd (false≢true t)
-
 -- where the same stands, nothing changes
 pub nothing_changes : (window : ℕ) (key : List ℕ) (w : Def) (m : Moment) (time : ℕ) → standing_of w.kind m.kept m.marks m.water ≡ standing_of w.kind m.kept (with_mark m time).marks m.water → IsKindWithin w.kind → TimesDoNotFall m.kept → retractions key m (with_mark m time) (window, w) ++ emissions key m (with_mark m time) (window, w) ≡ []
 nothing_changes window key w m time same k order =
@@ -76,7 +49,7 @@ nothing_changes window key w m time same k order =
 
 -- a mark changes no interval
 pub mark_changes_nothing : (window : ℕ) (key : List ℕ) (w : Def) (m : Moment) (time : ℕ) → is_timed w.kind ≡ true → IsKindWithin w.kind → TimesDoNotFall m.kept → retractions key m (with_mark m time) (window, w) ++ emissions key m (with_mark m time) (window, w) ≡ []
-mark_changes_nothing window key w m time t k order = nothing_changes window key w m time (marks_aside w.kind m.kept m.marks (with_mark m time).marks m.water t) k order
+mark_changes_nothing window key w m time t k order = nothing_changes window key w m time (timed_stand_at_mark w.kind m.kept m.marks (with_mark m time).marks m.water t) k order
 
 -- ---- the watermark moves
 not_yet : (water new : ℕ) (i : Instance) → new < i.bound → becomes_complete water new i ≡ false
@@ -128,27 +101,15 @@ told_number w time water m formers is told =
 
 -- a change of it takes one fold
 pub timed_work : (kind : Kind) (reach : ℕ) → is_timed kind ≡ true → change_work kind reach ≡ 64 * (reach + 2)
-timed_work (Tumbling length) reach t = refl
-timed_work (Sliding length slide) reach t = refl
-timed_work (Session gap) reach t = absurd (false≢true t)
-timed_work Marks reach t = absurd (false≢true t)
-timed_work (Events count) reach t = absurd (false≢true t)
+timed_work kind reach t = ap (λ b. cond b (2 * events_in kind) (fold_work reach)) (timed_counts_not kind t)
 
 -- a slice takes ten steps of a move
 pub timed_slice : (kind : Kind) → is_timed kind ≡ true → slice_work kind ≡ 10
-timed_slice (Tumbling length) t = refl
-timed_slice (Sliding length slide) t = refl
-timed_slice (Session gap) t = absurd (false≢true t)
-timed_slice Marks t = absurd (false≢true t)
-timed_slice (Events count) t = absurd (false≢true t)
+timed_slice kind t = ap (λ b. cond b 10 0) t
 
 -- and a row that a move completes one
 pub timed_row : (kind : Kind) (reach : ℕ) → is_timed kind ≡ true → row_work kind reach ≡ 1
-timed_row (Tumbling length) reach t = refl
-timed_row (Sliding length slide) reach t = refl
-timed_row (Session gap) reach t = absurd (false≢true t)
-timed_row Marks reach t = absurd (false≢true t)
-timed_row (Events count) reach t = absurd (false≢true t)
+timed_row kind reach t = ap (λ b. cond b 1 (cond (is_events kind) (events_in kind) (fold_work reach))) t
 
 -- the store holds it in its place, and what stood is told of all tuples before
 pub is_late : (d : Definitions) (window : ℕ) (m : Moment) (n : ℕ) (before : Stored) (x : Kept) (more : ℕ) (after : Stored) (formers : List (Option Former)) (water : ℕ) → IsTimedAt d window → IsPutStep d m n before x more after → m.water ≡ water → formers ≡ formers_of (window_at d window) x.time m.water m.kept → IsLate (window_at d window) x.time water (take n m.kept) (drop n m.kept) x formers after

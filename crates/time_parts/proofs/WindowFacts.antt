@@ -1,20 +1,14 @@
 -- The window of a part, and the settled tuples that have left the store of its key.
-use Rattle.std.proofs.Common.{◌≡◌, ◌∙◌, ℕ, Bool, ◌+◌, ◌-◌, ◌*◌, ◌/◌, ◌<◌, ◌≤◌, true, false, Option, Some, None, List, [], length, take, drop, ap, sym, refl, subst, arith, inl, inr, get_or-drop, length-drop}
-use Rattle.std.specs.Prelude.{slice_get}
+use Rattle.std.proofs.Common.{◌≡◌, ◌∙◌, ℕ, ◌+◌, ◌-◌, ◌*◌, ◌/◌, ◌<◌, ◌≤◌, true, false, List, [], length, take, drop, ap, sym, refl, subst, arith, inl, inr, get_or-drop, length-drop}
 use Rattle.std.specs.List.{All, Contains, slice_index_or}
-use Rattle.std.specs.Option.{option_map_or}
-use Rattle.std.proofs.lemmas.Bool.{false≢true, cases_Bool, cases_lt}
+use Rattle.std.proofs.lemmas.Bool.{cases_Bool, cases_lt}
 use Rattle.std.proofs.lemmas.List.{take-append-drop}
 use Rattle.std.proofs.lemmas.List.Elements.{All-contains, All-drop, Contains-append_left}
 use Rattle.std.proofs.lemmas.List.Sorted.{IsNonDecreasingBy-drop}
 use Rattle.std.proofs.lemmas.Nat.{le-div, div-add-mod', mod_below}
-use Rattle.std.proofs.lemmas.Option.{get_or_from_slice_get}
 use Rattle.stream_base.specs.Limits.{Definitions}
-use Rattle.stream_base.specs.Kinds.{IsKindWithin, is_timed, length_of, slide_of}
-use Rattle.stream_base.specs.declared.def.Def.{Def}
-use Rattle.stream_base.specs.declared.func.Func.TheVariants.{Count}
+use Rattle.stream_base.specs.Kinds.{IsKindWithin, length_of, slide_of}
 use Rattle.stream_base.specs.declared.kept.Kept.{Kept}
-use Rattle.stream_base.specs.declared.kind.Kind.TheVariants.{Marks}
 use Rattle.stream_base.specs.declared.limits.TheConstants.{FINAL}
 use Rattle.stream_base.specs.Model.Changes.{Moment}
 use Rattle.stream_base.specs.Model.Slices.{is_settled, is_settled_in}
@@ -32,37 +26,15 @@ use Rattle.window_laws.proofs.SettleTimes.{timed_settles}
 use Rattle.window_laws.proofs.WalkFacts.{from_next}
 use Rattle.time_lanes.specs.Late.{AreApartAt}
 use Rattle.time_lanes.specs.Moves.{AreApartAbove}
-use Rattle.time_lanes.specs.Spans.{IsSpan, IsWindowAt}
-use Rattle.time_lanes.proofs.ServedFacts.{span_of_kind, stands_among}
+use Rattle.time_lanes.specs.Spans.{IsSpan}
+use Rattle.time_lanes.proofs.ServedFacts.{span_of_kind}
 use Rattle.time_lanes.proofs.WalkFacts.{start_behind, times_mono}
 use Rattle.key_parts.specs.Calls.{window_at, window_kind}
 use Rattle.key_parts.specs.Moves.{SettlesUpTo}
 use Rattle.time_parts.specs.Lanes.{IsTimedAt, open_from}
+use Rattle.time_parts.specs.Places.{member_at, timed_at}
 
 -- ---- the window at the place
-module _ (p : Def → Bool) (d : Definitions) (window : ℕ) (t : option_map_or p (slice_get d.windows window) false ≡ true) where
-  pub found_at : IsWindowAt d.windows window (window_at d window)
-  found_at = by (slice_get d.windows window) refl t
-    where
-      by : (o : Option Def) → slice_get d.windows window ≡ o → option_map_or p o false ≡ true → slice_get d.windows window ≡ Some (window_at d window)
-      by None e t = absurd (false≢true t)
-      by (Some def) e t = e ∙ ap Some (sym (get_or_from_slice_get d.windows window def (record { kind = Marks; func = Count }) e))
-
-  pub passes_at : p (window_at d window) ≡ true
-  passes_at = sym (ap (λ o. option_map_or p o false) found_at) ∙ t
-
-  pub among : Contains d.windows (window_at d window)
-  among = stands_among d.windows window (window_at d window) found_at
-
-pub stands_at : (d : Definitions) (window : ℕ) → IsTimedAt d window → IsWindowAt d.windows window (window_at d window)
-stands_at d window t = found_at (λ def. is_timed def.kind) d window t
-
-pub timed_at : (d : Definitions) (window : ℕ) → IsTimedAt d window → is_timed (window_kind d window) ≡ true
-timed_at d window t = passes_at (λ def. is_timed def.kind) d window t
-
-pub member_at : (d : Definitions) (window : ℕ) → IsTimedAt d window → Contains d.windows (window_at d window)
-member_at d window t = among (λ def. is_timed def.kind) d window t
-
 pub within_at : (d : Definitions) (window : ℕ) → IsTimedAt d window → All (λ w. IsKindWithin w.kind) d.windows → IsKindWithin (window_kind d window)
 within_at d window t kinds = All-contains (λ w. IsKindWithin w.kind) d.windows (window_at d window) kinds (member_at d window t)
 

@@ -1,2 +1,4 @@
 pub mod Lanes
 pub mod Counted
+pub mod Places
+pub mod Untold

@@ -55,7 +55,11 @@ fn count_of(kind: &Kind) -> u64
 impl<M: Partial> KeyPart<M> for CountPart {
     ghost use Rattle.std.proofs.Common.{◌≤◌, zero-le};
     ghost use Rattle.stream_base.specs.declared.limits.TheConstants.{FINAL};
+    ghost use Rattle.stream_base.specs.Kinds.{is_events};
     ghost use Rattle.time_parts.specs.Counted.{Counts, CountsAt, KeepsFew, counts_on, fill_room, shift_room};
+    ghost use Rattle.time_parts.specs.Places.{counts_shown, counts_untimed};
+
+    ghost serves_kind = { is_events };
 
     ghost is_for = { CountsAt };
 
@@ -89,6 +93,8 @@ impl<M: Partial> KeyPart<M> for CountPart {
 
     ghost is_lean = { KeepsFew };
 
+    ghost is_for_served = { counts_shown M.serves };
+
     ghost stands_with_room = { λ d window m n s more part same stood. stood };
 
     ghost ahead_with_room = { λ d window water s more part same ahead. ahead };
@@ -97,6 +103,16 @@ impl<M: Partial> KeyPart<M> for CountPart {
         counts_on d window m new part at.stood rises };
 
     ghost complete_in_time = { λ d window water. zero-le };
+
+    ghost stands_with_tuple = { λ d window m n before x more after part timed behind step stood.
+        absurd (counts_untimed d window stood.counts timed) };
+
+    ghost ahead_with_tuple = { λ d window m n before x more after part timed behind step stood ahead.
+        ahead };
+
+    fn can_serve(kind: &Kind) -> bool {
+        matches!(kind, Kind::Events { .. })
+    }
 
     fn fresh(alloc: Global, defs: &Defs, window: u32) -> Self {
         CountPart {

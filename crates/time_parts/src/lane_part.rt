@@ -8,7 +8,7 @@ use aggregates::Partial;
 use key_parts::KeyPart;
 use std::alloc::Global;
 use std::marker::Model;
-use stream_base::{Change, Defs, Former, Kept, KeyText, NoMemory};
+use stream_base::{Change, Defs, Former, Kept, KeyText, Kind, NoMemory};
 use time_lanes::Lane;
 
 /// The part of a tumbling or sliding window: its lane, and what stood of the complete intervals
@@ -35,6 +35,11 @@ impl<M: Partial, Q: AggQueue<M>> Model for LanePart<M, Q> {
 impl<M: Partial, Q: AggQueue<M> + Drop> KeyPart<M> for LanePart<M, Q> {
     ghost use Rattle.std.specs.Prelude.{length};
     ghost use Rattle.time_parts.specs.Lanes.{CanMove, HasTold, IsTimedShown, MissesNone, Serves, complete_in_time, complete_up_to, late_room, misses_with_room, open_from, rows_due, serves_on, serves_with_room, slices_completed, slices_of_last};
+    ghost use Rattle.time_parts.specs.Places.{timed_shown};
+    ghost use Rattle.stream_base.specs.Kinds.{is_timed};
+    ghost use Rattle.time_parts.specs.Untold.{misses_with_tuple, serves_with_tuple};
+
+    ghost serves_kind = { is_timed };
 
     ghost is_for = { IsTimedShown M.serves };
 
@@ -68,6 +73,8 @@ impl<M: Partial, Q: AggQueue<M> + Drop> KeyPart<M> for LanePart<M, Q> {
 
     ghost is_lean = { λ d window water p. Unit {0} };
 
+    ghost is_for_served = { timed_shown M.serves };
+
     ghost stands_with_room = { λ d window m n s more part same stood.
         serves_with_room d window m s more part.lane same stood };
 
@@ -78,6 +85,16 @@ impl<M: Partial, Q: AggQueue<M> + Drop> KeyPart<M> for LanePart<M, Q> {
         serves_on d window key m n s part.lane new at.store at.held at.stood rises none };
 
     ghost complete_in_time = { complete_in_time };
+
+    ghost stands_with_tuple = { λ d window m n before x more after part timed behind step stood.
+        serves_with_tuple d window m n before x more after part.lane behind step stood };
+
+    ghost ahead_with_tuple = { λ d window m n before x more after part timed behind step stood ahead.
+        misses_with_tuple d window m n before x more after part.lane stood.timed behind step ahead };
+
+    fn can_serve(kind: &Kind) -> bool {
+        matches!(kind, Kind::Tumbling { .. } | Kind::Sliding { .. })
+    }
 
     fn fresh(alloc: Global, defs: &Defs, window: u32) -> Self {
         LanePart {

@@ -1,5 +1,5 @@
 -- Reading the windows one after the other, as a loop does, and the limits of those that were read.
-use Rattle.std.proofs.Common.{◌≡◌, ◌≤◌, ℕ, pos, negsuc, ◌+◌, leb, ltb, cond, true, false, not, List, [], ◌∷◌, ◌++◌, length, Option, None, Some, Result, Ok, Err, refl, sym, ap, subst, ◌∙◌, append_assoc, option_map, arith, le-leb}
+use Rattle.std.proofs.Common.{◌≡◌, ◌≤◌, ℕ, ◌+◌, leb, ltb, cond, true, false, not, List, [], ◌∷◌, ◌++◌, length, Option, None, Some, Result, Ok, Err, refl, sym, ap, subst, ◌∙◌, append_assoc, option_map, arith, le-leb}
 use Rattle.std.proofs.lemmas.Bool.Decides.{nat_tests}
 use Rattle.std.proofs.lemmas.List.{append-nil}
 use Rattle.std.proofs.lemmas.Option.{cond_some}
@@ -8,16 +8,13 @@ use Rattle.std.specs.Option.{ok_or, option_and_then}
 use Rattle.stream_base.specs.declared.def.Def.{Def}
 use Rattle.stream_base.specs.declared.func.Func.{Func}
 use Rattle.stream_base.specs.declared.kind.Kind.{Kind}
-use Rattle.stream_base.specs.declared.kind.Kind.TheVariants as kinds
 use Rattle.stream_base.specs.declared.limits.TheConstants.{TIME_MAX, EVERY_MAX, WINDOWS_MAX}
 use Rattle.stream_base.specs.Limits.{is_beyond, definitions_of, limit_fault}
 use Rattle.stream_base.specs.Kinds.{is_kind_within}
 use Rattle.toml.specs.Data.{Data}
 use Rattle.window_defs.specs.declared.defs_fault.DefsFault.{DefsFault}
 use Rattle.window_defs.specs.declared.defs_fault.DefsFault.TheVariants.{Long, Toml, Shape, Many, Limit, NoMemory}
-use Rattle.window_defs.specs.declared.window.RawKind.{RawKind}
-use Rattle.window_defs.specs.declared.window.RawKind.TheVariants as raws
-use Rattle.window_defs.specs.Windows.{raw_window_of, within_limits, kind_of, def_of}
+use Rattle.window_defs.specs.Windows.{raw_window_of, natural_kind, within_limits, kind_of, def_of}
 use Rattle.window_defs.specs.Reading.{◌>>=◌, Refuses, window_at, windows_from}
 
 -- what refuses one reading refuses another that is refused alike
@@ -64,17 +61,9 @@ kept kind found h =
     let (within, same) = cond_some (is_kind_within kind) kind found h in
     rw same at within
 
-kind_kept : (raw : RawKind) (kind : Kind) → kind_of raw ≡ Some kind → is_kind_within kind ≡ true
-kind_kept (raws.Tumbling (pos n)) kind h = kept (kinds.Tumbling n) kind h
-kind_kept (raws.Tumbling (negsuc n)) kind h = absurd (cc h)
-kind_kept (raws.Sliding (pos l) (pos s)) kind h = kept (kinds.Sliding l s) kind h
-kind_kept (raws.Sliding (pos l) (negsuc s)) kind h = absurd (cc h)
-kind_kept (raws.Sliding (negsuc l) s) kind h = absurd (cc h)
-kind_kept (raws.Session (pos n)) kind h = kept (kinds.Session n) kind h
-kind_kept (raws.Session (negsuc n)) kind h = absurd (cc h)
-kind_kept raws.Marks kind h = let same : kinds.Marks ≡ kind = grind (arith, h) in rw (← same) refl
-kind_kept (raws.Events (pos n)) kind h = kept (kinds.Events n) kind h
-kind_kept (raws.Events (negsuc n)) kind h = absurd (cc h)
+kind_kept : (natural : Option Kind) (kind : Kind) → option_and_then within_limits natural ≡ Some kind → is_kind_within kind ≡ true
+kind_kept None kind h = absurd (cc h)
+kind_kept (Some found) kind h = kept found kind h
 
 made : (o : Option Kind) (func : Func) (w : Def) → option_and_then (λ kind. Some (record { kind = kind; func = func })) o ≡ Some w → o ≡ Some w.kind
 made None func w h = absurd (cc h)
@@ -84,7 +73,7 @@ window_kept : (i : ℕ) (value : Data) (w : Def) → window_at i value ≡ Ok w 
 window_kept i value w h =
     let (raw, shaped, limited) = bind_ok (ok_or (raw_window_of value) (Shape (Some i))) (λ raw. ok_or (def_of raw) (Limit (Some i))) w h in
     let defined : def_of raw ≡ Some w = ok_from (def_of raw) (Limit (Some i)) w limited in
-    let within : is_kind_within w.kind ≡ true = kind_kept raw.kind w.kind (made (kind_of raw.kind) raw.func w defined) in
+    let within : is_kind_within w.kind ≡ true = kind_kept (natural_kind raw.kind) w.kind (made (kind_of raw.kind) raw.func w defined) in
     rw within refl
 
 -- windows that are read are within their limits, one from each element

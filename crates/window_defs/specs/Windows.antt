@@ -1,5 +1,7 @@
 -- How an element of the array of windows reads as a window.
-use Rattle.std.specs.Prelude.{◌≡◌, ℕ, ℤ, pos, negsuc, Bool, false, ◌||◌, List, Option, None, Some, if◌then◌else◌, codes}
+use denote.Ref.{Bor}
+use Rattle.std.specs.Prelude.{◌≡◌, ℕ, ℤ, pos, negsuc, Bool, false, ◌||◌, List, [], ◌∷◌, Option, None, Some, option_map, if◌then◌else◌, codes}
+use Rattle.std.specs.List.{filter_map}
 use Rattle.std.specs.Option.{option_and_then}
 use Rattle.std.specs.Str.{bytes_eq}
 use Rattle.toml.specs.Data.{Data, Members, as_table}
@@ -9,6 +11,7 @@ use Rattle.stream_base.specs.declared.kind.Kind.TheVariants as kinds
 use Rattle.stream_base.specs.declared.func.Func.{Func}
 use Rattle.stream_base.specs.declared.func.Func.TheVariants.{Count, Sum, Min, Max, Mean, First, Last, Rises, Trace}
 use Rattle.stream_base.specs.Kinds.{is_kind_within}
+use Rattle.window_defs.specs.declared.keyed_number.KeyedNumber.{KeyedNumber}
 use Rattle.window_defs.specs.declared.window.KindName.{KindName}
 use Rattle.window_defs.specs.declared.window.KindName.TheVariants.{Tumbling, Sliding, Session, Marks, Events}
 use Rattle.window_defs.specs.declared.window.RawKind.{RawKind}
@@ -29,6 +32,42 @@ kind_named word =
     else if bytes_eq word (codes "marks") then Some Marks
     else if bytes_eq word (codes "events") then Some Events
     else None
+
+-- and the word of each
+abbrev pub kind_word : Kind → List ℕ
+kind_word (kinds.Tumbling length) = codes "tumbling"
+kind_word (kinds.Sliding length slide) = codes "sliding"
+kind_word (kinds.Session gap) = codes "session"
+kind_word kinds.Marks = codes "marks"
+kind_word (kinds.Events count) = codes "events"
+
+-- the numbers of a kind, each behind its key, in the order in which they are written
+abbrev pub numbers_of : Kind → List (List ℕ × ℕ)
+numbers_of (kinds.Tumbling length) = (codes "length", length) ∷ []
+numbers_of (kinds.Sliding length slide) = (codes "length", length) ∷ (codes "slide", slide) ∷ []
+numbers_of (kinds.Session gap) = (codes "gap", gap) ∷ []
+numbers_of kinds.Marks = []
+numbers_of (kinds.Events count) = (codes "count", count) ∷ []
+
+-- the keys of the numbers of a kind, in that order
+abbrev pub keys_of : KindName → List (List ℕ)
+keys_of Tumbling = codes "length" ∷ []
+keys_of Sliding = codes "length" ∷ codes "slide" ∷ []
+keys_of Session = codes "gap" ∷ []
+keys_of Marks = []
+keys_of Events = codes "count" ∷ []
+
+-- the keys that are there
+abbrev pub keys_there : List (Option (Bor (List ℕ))) → List (List ℕ)
+keys_there keys = filter_map (option_map (λ key. key.now)) keys
+
+-- a number behind its key
+abbrev pub keyed : Option KeyedNumber → Option (List ℕ × ℕ)
+keyed number = option_map (λ n. (n.key.now, n.number)) number
+
+-- the numbers that are there, each behind its key
+abbrev pub keyed_numbers : List (Option KeyedNumber) → List (List ℕ × ℕ)
+keyed_numbers numbers = filter_map keyed numbers
 
 -- the functions, by their words
 abbrev pub func_named : List ℕ → Option Func
@@ -93,10 +132,10 @@ raw_kind_of Events fields = do
 unfoldable pub raw_window_of : Data → Option RawWindow
 raw_window_of value = do
   fields ← as_table value
-  kind_word ← text_at (codes "kind") fields
-  kind ← kind_named kind_word
-  func_word ← text_at (codes "func") fields
-  func ← func_named func_word
+  word_of_kind ← text_at (codes "kind") fields
+  kind ← kind_named word_of_kind
+  word_of_func ← text_at (codes "func") fields
+  func ← func_named word_of_func
   raw ← raw_kind_of kind fields
   if has_other (is_window_key kind) fields then None else Some (record { kind = raw; func = func })
 
@@ -109,22 +148,28 @@ natural (negsuc n) = None
 abbrev pub within_limits : Kind → Option Kind
 within_limits kind = if is_kind_within kind then Some kind else None
 
--- the kind with its numbers, if they are within the limits of the kind
-abbrev pub kind_of : RawKind → Option Kind
-kind_of (raws.Tumbling length) = do
+-- the kind with its integers as natural numbers, if none is negative
+abbrev pub natural_kind : RawKind → Option Kind
+natural_kind (raws.Tumbling length) = do
   l ← natural length
-  within_limits (kinds.Tumbling l)
-kind_of (raws.Sliding length slide) = do
+  Some (kinds.Tumbling l)
+natural_kind (raws.Sliding length slide) = do
   l ← natural length
   s ← natural slide
-  within_limits (kinds.Sliding l s)
-kind_of (raws.Session gap) = do
+  Some (kinds.Sliding l s)
+natural_kind (raws.Session gap) = do
   g ← natural gap
-  within_limits (kinds.Session g)
-kind_of raws.Marks = Some kinds.Marks
-kind_of (raws.Events count) = do
+  Some (kinds.Session g)
+natural_kind raws.Marks = Some kinds.Marks
+natural_kind (raws.Events count) = do
   n ← natural count
-  within_limits (kinds.Events n)
+  Some (kinds.Events n)
+
+-- the kind with its numbers, if they are within the limits of the kind
+abbrev pub kind_of : RawKind → Option Kind
+kind_of raw = do
+  kind ← natural_kind raw
+  within_limits kind
 
 -- the definition of a window of the right shape, if its numbers are within the limits
 abbrev pub def_of : RawWindow → Option Def

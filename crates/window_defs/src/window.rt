@@ -1,19 +1,38 @@
-//! How an element of the array of windows reads as a window.
-ghost use Rattle.std.specs.Prelude.{◌≡◌, ◌≤◌, ◌↔◌, List, length, map, Err, IfSome, IfNone};
+//! How an element of the array of windows reads as a window, and the words that this takes.
+ghost use Rattle.std.specs.Prelude.{◌≡◌, ◌≤◌, ◌↔◌, List, Some, [], IsTrue, IsSome, length, map, Err, IfSome, IfNone};
+ghost use Rattle.std.specs.Option.{option_map_or};
 ghost use Rattle.toml.specs.Data.{Data};
 ghost use Rattle.toml.specs.View.{view, table_view};
 ghost use Rattle.window_defs.specs.Tables.{has_other};
-ghost use Rattle.window_defs.specs.Windows.{IsFunc, kind_named, func_named, func_word, is_number_key, is_window_key, raw_kind_of, raw_window_of, natural, within_limits, kind_of, def_of};
+ghost use Rattle.window_defs.specs.Windows.{IsFunc, kind_named, keys_of, keys_there, kind_word, numbers_of, keyed, keyed_numbers, func_named, func_word, is_number_key, is_window_key, raw_kind_of, raw_window_of, natural, natural_kind, within_limits, kind_of, def_of};
 ghost use Rattle.window_defs.specs.Reading.{Gives, window_at, windows_from};
 ghost use Rattle.window_defs.specs.Trouble.{IsOfFirstInTrouble};
 ghost use Rattle.window_defs.specs.declared.defs_fault.DefsFault.{DefsFault};
 
 use crate::defs_fault::DefsFault;
+use crate::keyed_number::KeyedNumber;
 use crate::raw_window::RawWindow;
 use crate::table::{integer_at, text_at};
 use std::alloc::Global;
 use stream_base::{Def, Func, Kind};
 use toml::{Table, Value};
+
+/// The words that name kinds.
+pub const KINDS: [&str; 5] = ["tumbling", "sliding", "session", "marks", "events"];
+
+/// The words that name functions.
+pub const FUNCS: [&str; 9] = [
+    "count", "sum", "min", "max", "mean", "first", "last", "rises", "trace",
+];
+
+// The keys of the numbers of the kinds.
+const LENGTH: &str = "length";
+
+const SLIDE: &str = "slide";
+
+const GAP: &str = "gap";
+
+const COUNT: &str = "count";
 
 /// The word for a kind of window.
 #[derive(Clone, Copy, Debug, PartialEq, Eq)]
@@ -94,6 +113,60 @@ fn kind_named(word: &str) -> Option<KindName>
     }
 }
 
+/// Whether a word names a kind.
+pub fn is_kind(word: &str) -> bool
+    ensures { IsTrue result ↔ IsSome (kind_named word.now) }
+{
+    kind_named(word).is_some()
+}
+
+/// The keys of the numbers of the kind that a word names, in the order in which they are written, and
+/// `None` behind them; none where it names no kind.
+pub fn number_keys(word: &str) -> [Option<&'static str>; 2]
+    ensures { keys_there result ≡ option_map_or keys_of (kind_named word.now) [] }
+{
+    match kind_named(word) {
+        Some(KindName::Tumbling) => [Some(LENGTH), None],
+        Some(KindName::Sliding) => [Some(LENGTH), Some(SLIDE)],
+        Some(KindName::Session) => [Some(GAP), None],
+        Some(KindName::Events) => [Some(COUNT), None],
+        Some(KindName::Marks) | None => [None, None],
+    }
+}
+
+/// The word that names a kind.
+pub fn kind_word(kind: &Kind) -> &'static str
+    ensures { result.now ≡ kind_word kind.now }
+{
+    match kind {
+        Kind::Tumbling { .. } => "tumbling",
+        Kind::Sliding { .. } => "sliding",
+        Kind::Session { .. } => "session",
+        Kind::Marks => "marks",
+        Kind::Events { .. } => "events",
+    }
+}
+
+/// The numbers of a kind with their keys, in the order in which they are written, and `None` behind
+/// them.
+pub fn numbers_of(kind: &Kind) -> [Option<KeyedNumber>; 2]
+    ensures { keyed_numbers result ≡ numbers_of kind.now }
+{
+    match *kind {
+        Kind::Tumbling { length } => [keyed(LENGTH, length), None],
+        Kind::Sliding { length, slide } => [keyed(LENGTH, length), keyed(SLIDE, slide)],
+        Kind::Session { gap } => [keyed(GAP, gap), None],
+        Kind::Marks => [None, None],
+        Kind::Events { count } => [keyed(COUNT, count), None],
+    }
+}
+
+fn keyed(key: &'static str, number: u64) -> Option<KeyedNumber>
+    ensures { keyed result ≡ Some (key.now, number) }
+{
+    Some(KeyedNumber { key, number })
+}
+
 /// The function that a word names.
 pub fn func_named(word: &str) -> Option<Func>
     ensures value { result ≡ func_named word.now }
@@ -114,26 +187,43 @@ pub fn func_named(word: &str) -> Option<Func>
     }
 }
 
+/// The word that names a function.
+pub fn func_word(func: Func) -> &'static str
+    ensures { result.now ≡ func_word func }
+{
+    match func {
+        Func::Count => "count",
+        Func::Sum => "sum",
+        Func::Min => "min",
+        Func::Max => "max",
+        Func::Mean => "mean",
+        Func::First => "first",
+        Func::Last => "last",
+        Func::Rises => "rises",
+        Func::Trace => "trace",
+    }
+}
+
 fn raw_kind(kind: KindName, fields: &Table) -> Option<RawKind>
     ensures { result ≡ raw_kind_of kind (table_view fields.now) }
 {
     match kind {
         KindName::Tumbling => {
-            let length = integer_at(fields, "length")?;
+            let length = integer_at(fields, LENGTH)?;
             Some(RawKind::Tumbling { length })
         }
         KindName::Sliding => {
-            let length = integer_at(fields, "length")?;
-            let slide = integer_at(fields, "slide")?;
+            let length = integer_at(fields, LENGTH)?;
+            let slide = integer_at(fields, SLIDE)?;
             Some(RawKind::Sliding { length, slide })
         }
         KindName::Session => {
-            let gap = integer_at(fields, "gap")?;
+            let gap = integer_at(fields, GAP)?;
             Some(RawKind::Session { gap })
         }
         KindName::Marks => Some(RawKind::Marks),
         KindName::Events => {
-            let count = integer_at(fields, "count")?;
+            let count = integer_at(fields, COUNT)?;
             Some(RawKind::Events { count })
         }
     }
@@ -160,11 +250,11 @@ fn is_number_key(kind: KindName, key: &str) -> bool
     ensures { result ≡ is_number_key kind key.now }
 {
     match kind {
-        KindName::Tumbling => key == "length",
-        KindName::Sliding => key == "length" || key == "slide",
-        KindName::Session => key == "gap",
+        KindName::Tumbling => key == LENGTH,
+        KindName::Sliding => key == LENGTH || key == SLIDE,
+        KindName::Session => key == GAP,
         KindName::Marks => false,
-        KindName::Events => key == "count",
+        KindName::Events => key == COUNT,
     }
 }
 
@@ -181,24 +271,30 @@ fn def_of(raw: RawWindow) -> Option<Def>
 fn kind_of(raw: RawKind) -> Option<Kind>
     ensures { result ≡ kind_of raw }
 {
+    within_limits(natural_kind(raw)?)
+}
+
+fn natural_kind(raw: RawKind) -> Option<Kind>
+    ensures { result ≡ natural_kind raw }
+{
     match raw {
         RawKind::Tumbling { length } => {
             let length = natural(length)?;
-            within_limits(Kind::Tumbling { length })
+            Some(Kind::Tumbling { length })
         }
         RawKind::Sliding { length, slide } => {
             let length = natural(length)?;
             let slide = natural(slide)?;
-            within_limits(Kind::Sliding { length, slide })
+            Some(Kind::Sliding { length, slide })
         }
         RawKind::Session { gap } => {
             let gap = natural(gap)?;
-            within_limits(Kind::Session { gap })
+            Some(Kind::Session { gap })
         }
         RawKind::Marks => Some(Kind::Marks),
         RawKind::Events { count } => {
             let count = natural(count)?;
-            within_limits(Kind::Events { count })
+            Some(Kind::Events { count })
         }
     }
 }

@@ -16,23 +16,11 @@ use Rattle.stream_base.specs.Model.Changes.{Moment, row_of}
 use Rattle.stream_base.specs.Model.Windows.{Instance, instances_of}
 use Rattle.stream_base.proofs.ChangeFacts.{enumerate_members, flat_map_none, flat_map_same}
 use Rattle.stream_base.proofs.Members.{filter_has, filter_same, flat_map_has, map_has}
-use Rattle.stream_base.proofs.Rising.{none_in_nil, Contains-cons_cases}
 use Rattle.window_laws.specs.After.{at_water}
 use Rattle.window_laws.specs.Due.{completed_of, first_open, next_bound, open_bounds}
-use Rattle.window_laws.proofs.InstanceFacts.{bounds_do_not_fall}
+use Rattle.window_laws.proofs.KindFacts.{bounds_do_not_fall}
 use Rattle.slice_lists.proofs.Order.{All-map_of, nd_head, nd_tail}
-
-pub least_below : (start : ℕ) (xs : List ℕ) → fold min start xs ≤ start
-least_below start [] = omega arith
-least_below start (x ∷ xs) = omega (arith, least_below (min start x) xs)
-
-pub least_of : (start : ℕ) (xs : List ℕ) (x : ℕ) → Contains xs x → fold min start xs ≤ x
-least_of start [] x c = absurd (none_in_nil x c)
-least_of start (y ∷ ys) x c =
-    ⊎_elim
-    (λ e. omega (arith, least_below (min start y) ys, e))
-    (λ d. least_of (min start y) ys x d)
-    (Contains-cons_cases y ys x c)
+use Rattle.window_laws.proofs.WalkFacts.{least_of}
 
 -- the bound of an instance that isn't complete is at or after the next
 bound_from_next : (windows : List Def) (m : Moment) (def : Def) (i : Instance) → Contains windows def → Contains (instances_of def.kind m.kept m.marks) i → m.water < i.bound → next_bound windows m ≤ i.bound

@@ -1,147 +1,38 @@
 -- The starts and ends of a window's instances cut between the tuples at their sides, so an instance selects whole slices.
-use Rattle.std.proofs.Common.{◌≡◌, ◌∙◌, ℕ, ◌+◌, ◌-◌, ◌*◌, ◌<◌, ◌≤◌, Bool, true, false, cond, List, [], ◌∷◌, ◌++◌, length, get_or, ap, sym, refl, subst, arith, inl, inr}
+use Rattle.std.proofs.Common.{◌≡◌, ◌∙◌, ℕ, ◌+◌, ◌*◌, ◌<◌, ◌≤◌, Bool, true, false, cond, List, [], ◌∷◌, ◌++◌, get_or, ap, sym, refl, subst, arith, inl, inr}
 use Rattle.std.specs.Prelude.{◌⊎◌, ◌&&◌, nat_le, nat_lt}
-use Rattle.std.specs.List.{All, Any, Contains, flat_map}
-use Rattle.std.specs.Ordering.{nat_cmp}
+use Rattle.std.specs.List.{All, Contains, flat_map}
 use Rattle.std.proofs.lemmas.Bool.{and_from, and_left, and_right, cases_lt, false≢true, le-leb, le-ltb, lt-leb, lt-ltb}
 use Rattle.std.proofs.lemmas.Grind.{flat_map-append}
-use Rattle.std.proofs.lemmas.List.Elements.{All-append, All-contains, All-head, All-tail, All-weaker, Contains-append_cases, Contains-append_right, filter-append}
+use Rattle.std.proofs.lemmas.List.Elements.{All-append, All-contains, All-head, All-tail, All-weaker, Contains-append_right, filter-append}
 use Rattle.stream_base.specs.declared.def.Def.{Def}
 use Rattle.stream_base.specs.declared.kept.Kept.{Kept}
-use Rattle.stream_base.specs.declared.kind.Kind.{Kind}
-use Rattle.stream_base.specs.declared.kind.Kind.TheVariants.{Tumbling, Sliding, Session, Marks, Events}
 use Rattle.stream_base.specs.declared.limits.TheConstants.{FINAL}
 use Rattle.stream_base.specs.Laws.{TimesDoNotFall}
 use Rattle.stream_base.specs.Kinds.{CutsBetween, IsKindWithin, is_events, is_timed, length_of, slide_of}
 use Rattle.stream_base.specs.Model.Cuts.{has_cut}
-use Rattle.stream_base.specs.Model.Journal.{rising}
 use Rattle.stream_base.specs.Model.Slices.{runs_of}
-use Rattle.stream_base.specs.Model.Windows.{Instance, between_times, first_time, instances_of, interval, is_selecting, is_within, last_time, pieces_of, session, sessions, spans, starts_of, within}
+use Rattle.stream_base.specs.Model.Windows.{Instance, first_time, instances_of, is_within, last_time, within}
 use Rattle.stream_base.proofs.CutFacts.{cut_decides}
+use Rattle.stream_base.proofs.KindFacts.{timed_cuts}
 use Rattle.stream_base.proofs.Distinct.{All_from_members}
-use Rattle.stream_base.proofs.Members.{filter_members, flat_map_has, map_members}
+use Rattle.stream_base.proofs.Members.{flat_map_has}
 use Rattle.stream_base.proofs.Pieces.{pieces_joined}
-use Rattle.stream_base.proofs.Rising.{nat_rising_is_sorted, Contains-cons_cases, Contains-from_rising, Contains-head, Contains-tail, none_in_nil}
-use Rattle.stream_base.proofs.Spans.{starts_of_members}
+use Rattle.stream_base.proofs.Rising.{Contains-head, Contains-tail}
 use Rattle.slice_lists.specs.Runs.{AreParted, IsAligned, IsRun, runs_within}
 use Rattle.window_laws.specs.Walk.{IsFirstFrom}
-use Rattle.window_laws.proofs.InstanceFacts.{All-joined, above_span, below_span, between_ends, gap_cut, inside_span, session_far, session_near, session_runs, spans_hold_selections}
+use Rattle.window_laws.proofs.InstanceFacts.{All-joined, above_span, below_span, inside_span}
+use Rattle.window_laws.proofs.KindFacts.{edge_cuts, spans_hold_selections}
 use Rattle.stream_base.proofs.Filters.{filter_all, filter_none}
-use Rattle.slice_lists.proofs.Order.{All-split, IsApart, IsNear, amid, pieces_in_order, run_spans, runs_are_runs, runs_before, runs_behind}
-
--- ---- the sides of a session
--- a tuple lies at least the gap in front of a session, in it, or at or behind its end
-module _ (gap : ℕ) (some : 1 ≤ gap) where
-  far : (a b : ℕ) → IsApart (gap_cut gap) a b → a + gap ≤ b
-  far a b = session_far gap a b some
-
-  behind_of : (before : List (List Kept)) (run : List Kept) (behind : List (List Kept)) → AreParted (IsNear (gap_cut gap)) (IsApart (gap_cut gap)) (before ++ run ∷ behind) → AreParted (IsNear (gap_cut gap)) (IsApart (gap_cut gap)) (run ∷ behind)
-  behind_of [] run behind a = a
-  behind_of (r ∷ before) run behind a = behind_of before run behind a.2
-
-  abbrev Sided : List Kept → Kept → Type 0
-  Sided run z = (z.time + gap ≤ first_time run) ⊎ (((first_time run ≤ z.time) × (z.time ≤ last_time run)) ⊎ (last_time run + gap ≤ z.time))
-
-  sides : (front : List (List Kept)) (run : List Kept) (back : List (List Kept)) → AreParted (IsNear (gap_cut gap)) (IsApart (gap_cut gap)) (front ++ run ∷ back) → (z : Kept) → Contains (flat_map (λ r. r) (front ++ run ∷ back)) z → (z.time + gap ≤ first_time run) ⊎ (((first_time run ≤ z.time) × (z.time ≤ last_time run)) ⊎ (last_time run + gap ≤ z.time))
-  sides front run back a z c =
-      elim (Contains-append_cases (flat_map (λ r. r) front) (run ++ flat_map (λ r. r) back) z (subst (λ l. Contains l z) (flat_map-append (λ r. r) front (run ∷ back)) c)) [
-        | inl f ↦ inl (All-contains (λ (z : Kept). z.time + gap ≤ first_time run) (flat_map (λ r. r) front) z fronts f)
-        | inr g ↦ elim (Contains-append_cases run (flat_map (λ r. r) back) z g) [
-          | inl h ↦ inr (inl (All-contains (λ (z : Kept). (first_time run ≤ z.time) × (z.time ≤ last_time run)) run z (spans_of run (behind_of front run back a).0).0 h))
-          | inr h ↦ inr (inr (All-contains (λ (z : Kept). last_time run + gap ≤ z.time) (flat_map (λ r. r) back) z backs h))
-        ]
-      ]
-    where
-      spans_of : (run : List Kept) → IsRun (IsNear (gap_cut gap)) run → All (λ z. (first_time run ≤ z.time) × (z.time ≤ last_time run)) run × (first_time run ≤ last_time run)
-      spans_of = run_spans (IsNear (gap_cut gap)) (IsApart (gap_cut gap)) gap (session_near gap) far
-
-      all : All (IsRun (IsNear (gap_cut gap))) front × All (IsRun (IsNear (gap_cut gap))) (run ∷ back)
-      all = All-split (IsRun (IsNear (gap_cut gap))) front (run ∷ back) (runs_are_runs (IsNear (gap_cut gap)) (IsApart (gap_cut gap)) gap (session_near gap) far (front ++ run ∷ back) a)
-
-      fronts : All (λ (z : Kept). z.time + gap ≤ first_time run) (flat_map (λ r. r) front)
-      fronts =
-          All-joined (λ (z : Kept). z.time + gap ≤ first_time run) front
-          (λ k d l. let b = runs_before (IsNear (gap_cut gap)) (IsApart (gap_cut gap)) gap (session_near gap) far front run back a k d l in
-          let r = (spans_of (get_or front k d) (all.0 k d l)).0 in
-          λ j e m. omega (arith, b.0, (r j e m).1))
-
-      backs : All (λ (z : Kept). last_time run + gap ≤ z.time) (flat_map (λ r. r) back)
-      backs =
-          All-joined (λ (z : Kept). last_time run + gap ≤ z.time) back
-          (λ k d l. let b = runs_behind (IsNear (gap_cut gap)) (IsApart (gap_cut gap)) gap (session_near gap) far run back (behind_of front run back a) k d l in
-          let r = (spans_of (get_or back k d) (All-tail (IsRun (IsNear (gap_cut gap))) run back all.1 k d l)).0 in
-          λ j e m. omega (arith, b.0, (r j e m).0))
-
-pub session_sides : (gap : ℕ) (kept : List Kept) (i : Instance) → 1 ≤ gap → TimesDoNotFall kept → Contains (sessions gap kept) i → (z : Kept) → Contains kept z
-    → (z.time + gap ≤ i.low) ⊎ (((i.low ≤ z.time) × (z.time + gap ≤ i.high)) ⊎ (i.high ≤ z.time))
-session_sides gap kept i some h c z d =
-    let runs : List (List Kept) = pieces_of (λ x y. nat_le gap (y.time - x.time)) kept in
-    let m : (run : List Kept) × Contains runs run × (session gap run ≡ i) = map_members (session gap) runs i c in
-    let a = amid runs m.0 m.1 in
-    let s = sides gap some a.front m.0 a.back (subst (AreParted (IsNear (gap_cut gap)) (IsApart (gap_cut gap))) a.is (session_runs gap kept h)) z (subst (λ l. Contains l z) (sym (pieces_joined (λ x y. nat_le gap (y.time - x.time)) kept) ∙ ap (flat_map (λ r. r)) a.is) d) in
-    subst (λ (j : Instance). (z.time + gap ≤ j.low) ⊎ (((j.low ≤ z.time) × (z.time + gap ≤ j.high)) ⊎ (j.high ≤ z.time))) m.2
-    (elim s [ inl e ↦ inl e | inr e ↦ inr (elim e [ inl f ↦ inl (f.0, omega (arith, f.1)) | inr f ↦ inr f ]) ])
+use Rattle.slice_lists.proofs.Order.{All-split, IsApart, IsNear, pieces_in_order, run_spans, runs_are_runs, runs_behind}
 
 -- ---- edges cut
--- an edge of a window of a kind cuts between two tuples at its sides: the window does, or a mark lies between
+-- so has the key a cut at the edge of an instance
 module _ (kept : List Kept) (marks : List ℕ) (h : TimesDoNotFall kept) (early : All (λ (z : Kept). z.time < FINAL) kept) where
-  mark_between : (t : ℕ) (a b : Kept) → Contains kept b → a.time < t → t ≤ b.time → Contains (rising nat_cmp (0 ∷ marks ++ FINAL ∷ [])) t → Any (λ m. (a.time < m) × (m ≤ b.time)) marks
-  mark_between t a b d l r c =
-      elim (Contains-cons_cases 0 (marks ++ FINAL ∷ []) t (Contains-from_rising nat_cmp (0 ∷ marks ++ FINAL ∷ []) t c)) [
-        | inl e ↦ absurd (omega arith)
-        | inr e ↦ elim (Contains-append_cases marks (FINAL ∷ []) t e) [
-          | inl m ↦ (m.0, t, m.1, m.2, (l, r))
-          | inr f ↦ elim (Contains-cons_cases FINAL [] t f) [
-            | inl g ↦ absurd (let z : b.time < FINAL = All-contains (λ (z : Kept). z.time < FINAL) kept b early d in let y : FINAL ≤ b.time = subst (λ n. n ≤ b.time) (sym g) r in omega arith)
-            | inr g ↦ absurd (none_in_nil t g)
-          ]
-        ]
-      ]
-
-  span_edge : (length slide : ℕ) (i : Instance) → 1 ≤ slide → slide ≤ length → Contains (spans length slide kept) i → (k : ℕ) × (i.low ≡ k * slide) × (i.high ≡ k * slide + length)
-  span_edge length slide i moves overlaps c =
-      let m : (low : ℕ) × Contains (starts_of length slide kept) low × (interval low (low + length) kept ≡ i) = map_members (λ low. interval low (low + length) kept) (starts_of length slide kept) i c in
-      let s = starts_of_members length slide moves overlaps kept m.0 m.1 in
-      (s.0, sym (ap (λ (j : Instance). j.low) m.2) ∙ s.3, sym (ap (λ (j : Instance). j.high) m.2) ∙ ap (λ n. n + length) s.3)
-
-  pub edge_cuts : (kind : Kind) (i : Instance) → IsKindWithin kind → is_events kind ≡ false → Contains (instances_of kind kept marks) i → (t : ℕ) → (t ≡ i.low) ⊎ (t ≡ i.high) → (a b : Kept) → Contains kept a → Contains kept b → a.time < t → t ≤ b.time → CutsBetween kind a.time b.time ⊎ Any (λ m. (a.time < m) × (m ≤ b.time)) marks
-  unfolding instances_of
-  edge_cuts (Tumbling length) i k e c t (inl at) a b d f l r = let s = span_edge length length i k.0 (omega arith) c in inl (s.0, inl (omega (arith, s.1), omega (arith, s.1)))
-  edge_cuts (Tumbling length) i k e c t (inr at) a b d f l r = let s = span_edge length length i k.0 (omega arith) c in inl (s.0, inr (omega (arith, s.2), omega (arith, s.2)))
-  edge_cuts (Sliding length slide) i k e c t (inl at) a b d f l r = let s = span_edge length slide i k.2 k.3 c in inl (s.0, inl (omega (arith, s.1), omega (arith, s.1)))
-  edge_cuts (Sliding length slide) i k e c t (inr at) a b d f l r = let s = span_edge length slide i k.2 k.3 c in inl (s.0, inr (omega (arith, s.2), omega (arith, s.2)))
-  edge_cuts (Session gap) i k e c t (inl at) a b d f l r =
-      inl (elim (session_sides gap kept i k.0 h c a d) [ inl s ↦ omega arith | inr s ↦ elim s [ inl u ↦ absurd (omega (arith, u.0)) | inr u ↦ absurd (omega (arith, ends i c)) ] ])
-    where
-      ends : (i : Instance) → Contains (sessions gap kept) i → i.low ≤ i.high
-      ends i c =
-          let runs : List (List Kept) = pieces_of (λ x y. nat_le gap (y.time - x.time)) kept in
-          let m : (run : List Kept) × Contains runs run × (session gap run ≡ i) = map_members (session gap) runs i c in
-          let r : IsRun (IsNear (gap_cut gap)) m.0 = All-contains (IsRun (IsNear (gap_cut gap))) runs m.0 (runs_are_runs (IsNear (gap_cut gap)) (IsApart (gap_cut gap)) gap (session_near gap) (far gap k.0) runs (session_runs gap kept h)) m.1 in
-          let s = (run_spans (IsNear (gap_cut gap)) (IsApart (gap_cut gap)) gap (session_near gap) (far gap k.0) m.0 r).1 in
-          subst (λ (j : Instance). j.low ≤ j.high) m.2 (omega (arith, s))
-  edge_cuts (Session gap) i k e c t (inr at) a b d f l r =
-      inl (elim (session_sides gap kept i k.0 h c a d) [ inl s ↦ omega (arith, one b f) | inr s ↦ elim s [ inl u ↦ omega (arith, u.1) | inr u ↦ absurd (omega arith) ] ])
-    where
-      one : (b : Kept) → Contains kept b → i.low ≤ i.high
-      one b f =
-          let runs : List (List Kept) = pieces_of (λ x y. nat_le gap (y.time - x.time)) kept in
-          let m : (run : List Kept) × Contains runs run × (session gap run ≡ i) = map_members (session gap) runs i c in
-          let r : IsRun (IsNear (gap_cut gap)) m.0 = All-contains (IsRun (IsNear (gap_cut gap))) runs m.0 (runs_are_runs (IsNear (gap_cut gap)) (IsApart (gap_cut gap)) gap (session_near gap) (far gap k.0) runs (session_runs gap kept h)) m.1 in
-          let s = (run_spans (IsNear (gap_cut gap)) (IsApart (gap_cut gap)) gap (session_near gap) (far gap k.0) m.0 r).1 in
-          subst (λ (j : Instance). j.low ≤ j.high) m.2 (omega (arith, s))
-  edge_cuts Marks i k e c t at a b d f l r =
-      let edges = rising nat_cmp (0 ∷ marks ++ FINAL ∷ []) in
-      let m : Contains (between_times edges kept) i × (is_selecting i ≡ true) = filter_members is_selecting (between_times edges kept) i c in
-      let g = All-contains (λ (i : Instance). (i.low < i.high) × (i.bound ≡ i.high) × (i.chosen ≡ within i.low i.high kept) × Contains edges i.low × Contains edges i.high) (between_times edges kept) i (between_ends edges kept (nat_rising_is_sorted (0 ∷ marks ++ FINAL ∷ []))) m.0 in
-      inr (mark_between t a b f l r (elim at [ inl z ↦ subst (Contains edges) (sym z) g.3 | inr z ↦ subst (Contains edges) (sym z) g.4 ]))
-  edge_cuts (Events count) i k e c t at a b d f l r = absurd (false≢true (sym e))
-
-  -- and so has the key a cut there
   pub edge_is_cut : (windows : List Def) (def : Def) (i : Instance) → All (λ w. IsKindWithin w.kind) windows → Contains windows def → is_events def.kind ≡ false → Contains (instances_of def.kind kept marks) i → (t : ℕ) → (t ≡ i.low) ⊎ (t ≡ i.high) → (a b : Kept) → Contains kept a → Contains kept b → a.time < t → t ≤ b.time → has_cut windows marks a.time b.time ≡ true
   edge_is_cut windows def i within c e d t at a b f g l r =
       (cut_decides windows marks a.time b.time within).1
-      (elim (edge_cuts def.kind i (All-contains (λ w. IsKindWithin w.kind) windows def within c) e d t at a b f g l r) [ inl u ↦ inl (c.0, def, c.1, c.2, u) | inr u ↦ inr u ])
+      (elim (edge_cuts kept marks h early def.kind i (All-contains (λ w. IsKindWithin w.kind) windows def within c) e d t at a b f g l r) [ inl u ↦ inl (c.0, def, c.1, c.2, u) | inr u ↦ inr u ])
 
 -- ---- whole slices
 -- a run has no two tuples with a cut point between them
@@ -225,26 +116,12 @@ end_is_cut windows marks kept def i a b within h early c e d f g l r = edge_is_c
 -- ---- the starts and ends of intervals, and marks, part the slices
 pub interval_edges_align : (windows : List Def) (marks : List ℕ) (kept : List Kept) (w : Def) (k : ℕ) → All (λ w. IsKindWithin w.kind) windows → TimesDoNotFall kept → Contains windows w → is_timed w.kind ≡ true → IsAligned (runs_of windows marks kept) (k * slide_of w.kind) × IsAligned (runs_of windows marks kept) (k * slide_of w.kind + length_of w.kind)
 interval_edges_align windows marks kept w k within h c t = (
-  aligned windows marks kept h (k * slide_of w.kind) (λ a b d e l r. is_cut a b (start w.kind t a.time b.time l r)),
-  aligned windows marks kept h (k * slide_of w.kind + length_of w.kind) (λ a b d e l r. is_cut a b (end w.kind t a.time b.time l r)),
+  aligned windows marks kept h (k * slide_of w.kind) (λ a b d e l r. is_cut a b (timed_cuts w.kind a.time b.time t (k, inl (l, r)))),
+  aligned windows marks kept h (k * slide_of w.kind + length_of w.kind) (λ a b d e l r. is_cut a b (timed_cuts w.kind a.time b.time t (k, inr (l, r)))),
 )
   where
     is_cut : (a b : Kept) → CutsBetween w.kind a.time b.time → has_cut windows marks a.time b.time ≡ true
     is_cut a b g = (cut_decides windows marks a.time b.time within).1 (inl (c.0, w, c.1, c.2, g))
-
-    start : (kind : Kind) → is_timed kind ≡ true → (a b : ℕ) → a < k * slide_of kind → k * slide_of kind ≤ b → CutsBetween kind a b
-    start (Tumbling length) t a b l r = (k, inl (l, r))
-    start (Sliding length slide) t a b l r = (k, inl (l, r))
-    start (Session gap) t a b l r = absurd (false≢true t)
-    start Marks t a b l r = absurd (false≢true t)
-    start (Events count) t a b l r = absurd (false≢true t)
-
-    end : (kind : Kind) → is_timed kind ≡ true → (a b : ℕ) → a < k * slide_of kind + length_of kind → k * slide_of kind + length_of kind ≤ b → CutsBetween kind a b
-    end (Tumbling length) t a b l r = (k, inr (l, r))
-    end (Sliding length slide) t a b l r = (k, inr (l, r))
-    end (Session gap) t a b l r = absurd (false≢true t)
-    end Marks t a b l r = absurd (false≢true t)
-    end (Events count) t a b l r = absurd (false≢true t)
 
 pub interval_starts_align : (windows : List Def) (marks : List ℕ) (kept : List Kept) (w : Def) (k : ℕ) → All (λ w. IsKindWithin w.kind) windows → TimesDoNotFall kept → Contains windows w → is_timed w.kind ≡ true → IsAligned (runs_of windows marks kept) (k * slide_of w.kind)
 interval_starts_align windows marks kept w k within h c t = (interval_edges_align windows marks kept w k within h c t).0

@@ -4,20 +4,17 @@ use Rattle.std.specs.Prelude.{◌⊎◌, ◌&&◌, nat_le, nat_lt, pos}
 use Rattle.std.specs.List.{All, Contains, filter, flat_map, range_with_len}
 use Rattle.std.specs.List.Sorted.{IsNonDecreasingBy, IsStrictlySortedBy}
 use Rattle.std.specs.Ordering.{nat_cmp}
-use Rattle.std.proofs.lemmas.Bool.{leb-true, le-leb, lt-ltb, lt-leb, le-ltb, and_from, and_left, and_right, cases_lt, false≢true}
+use Rattle.std.proofs.lemmas.Bool.{leb-true, le-leb, lt-ltb, lt-leb, le-ltb, and_from, and_left, and_right, cases_lt}
 use Rattle.std.proofs.lemmas.Grind.{flat_map-append}
 use Rattle.std.proofs.lemmas.List.{append-nil, get_or-drop, get_or-take, length-drop, length-take}
-use Rattle.std.proofs.lemmas.List.Elements.{All-append, All-cons, All-nil, All-head, All-tail, All-weaker, All-filter, filter-append}
+use Rattle.std.proofs.lemmas.List.Elements.{All-filter, All-append, All-cons, All-nil, All-head, All-tail, All-weaker, filter-append}
 use Rattle.std.proofs.lemmas.List.Kept.{IsNonDecreasingBy-filter}
 use Rattle.std.proofs.lemmas.Map.Keys.{sorted_tail}
 use Rattle.stream_base.specs.declared.limits.TheConstants.{FINAL}
 use Rattle.stream_base.specs.declared.kept.Kept.{Kept}
-use Rattle.stream_base.specs.declared.kind.Kind.{Kind}
-use Rattle.stream_base.specs.declared.kind.Kind.TheVariants.{Tumbling, Sliding, Session, Marks, Events}
 use Rattle.stream_base.specs.Laws.{TimesDoNotFall}
-use Rattle.stream_base.specs.Kinds.{IsKindWithin, is_events}
 use Rattle.stream_base.specs.Model.Journal.{rising}
-use Rattle.stream_base.specs.Model.Windows.{Instance, between_times, counted, first_time, instances_of, interval, is_complete, is_selecting, is_within, last_time, pieces_of, ranks, session, sessions, spans, standing_of, starts_of, stretches, within}
+use Rattle.stream_base.specs.Model.Windows.{Instance, between_times, counted, first_time, interval, is_complete, is_selecting, is_within, last_time, pieces_of, ranks, session, sessions, spans, starts_of, stretches, within}
 use Rattle.stream_base.proofs.Distinct.{All_from_members, lt_from_less}
 use Rattle.stream_base.proofs.Members.{range_members}
 use Rattle.stream_base.proofs.Pieces.{pieces_joined}
@@ -31,7 +28,7 @@ use Rattle.stream_base.proofs.Filters.{filter_all, filter_none}
 use Rattle.slice_lists.proofs.Order.{All-map_of, All-split, IsApart, IsNear, amid, ends_rise, nd_cons, nd_head, nd_map, nd_nil, nd_sorted, nd_tail, pieces_in_order, run_spans, runs_are_runs, runs_before, runs_behind}
 
 -- ---- bounds don't fall
-spans_bounds : (length slide : ℕ) (kept : List Kept) → IsNonDecreasingBy (λ (i : Instance). i.bound) (spans length slide kept)
+pub spans_bounds : (length slide : ℕ) (kept : List Kept) → IsNonDecreasingBy (λ (i : Instance). i.bound) (spans length slide kept)
 spans_bounds length slide kept =
     nd_map (λ (i : Instance). i.bound) (λ low. interval low (low + length) kept) (starts_of length slide kept)
     (nd_sorted (λ low. low + length) (λ a b l. omega arith) (starts_of length slide kept) (starts_of_is_sorted length slide kept))
@@ -49,7 +46,7 @@ session_far gap a b some h = let l : gap ≤ b - a = leb-true gap (b - a) h.1 in
 pub session_runs : (gap : ℕ) (kept : List Kept) → TimesDoNotFall kept → AreParted (IsNear (gap_cut gap)) (IsApart (gap_cut gap)) (pieces_of (λ x y. nat_le gap (y.time - x.time)) kept)
 session_runs gap kept h = pieces_in_order (gap_cut gap) kept h
 
-sessions_bounds : (gap : ℕ) (kept : List Kept) → 1 ≤ gap → TimesDoNotFall kept → IsNonDecreasingBy (λ (i : Instance). i.bound) (sessions gap kept)
+pub sessions_bounds : (gap : ℕ) (kept : List Kept) → 1 ≤ gap → TimesDoNotFall kept → IsNonDecreasingBy (λ (i : Instance). i.bound) (sessions gap kept)
 sessions_bounds gap kept some h =
     nd_map (λ (i : Instance). i.bound) (session gap) (pieces_of (λ x y. nat_le gap (y.time - x.time)) kept)
     (more (pieces_of (λ x y. nat_le gap (y.time - x.time)) kept) (ends_rise (IsNear (gap_cut gap)) (IsApart (gap_cut gap)) gap (session_near gap) (λ a b. session_far gap a b some) (pieces_of (λ x y. nat_le gap (y.time - x.time)) kept) (session_runs gap kept h)))
@@ -84,7 +81,7 @@ between_bounds (a ∷ b ∷ times) kept s =
     omega (arith, e.0, e.1, between_low b times kept t k d l))
     (between_bounds (b ∷ times) kept (sorted_tail nat_cmp a (b ∷ times) s))
 
-stretches_bounds : (marks : List ℕ) (kept : List Kept) → IsNonDecreasingBy (λ (i : Instance). i.bound) (stretches marks kept)
+pub stretches_bounds : (marks : List ℕ) (kept : List Kept) → IsNonDecreasingBy (λ (i : Instance). i.bound) (stretches marks kept)
 stretches_bounds marks kept =
     IsNonDecreasingBy-filter (λ (i : Instance). i.bound) is_selecting (between_times (rising nat_cmp (0 ∷ marks ++ FINAL ∷ [])) kept)
     (between_bounds (rising nat_cmp (0 ∷ marks ++ FINAL ∷ [])) kept (nat_rising_is_sorted (0 ∷ marks ++ FINAL ∷ [])))
@@ -115,7 +112,7 @@ ranks_bound count kept i d some h =
     ∙ ap (λ (x : Kept). x.time) (get_or-take count (drop (i * count) kept) (count - 1) d (omega arith) ∙ get_or-drop (i * count) kept (count - 1) d)
     ∙ ap (λ n. (get_or kept n d).time) f
 
-counted_bounds : (count : ℕ) (kept : List Kept) → 1 ≤ count → TimesDoNotFall kept → IsNonDecreasingBy (λ (i : Instance). i.bound) (counted count kept)
+pub counted_bounds : (count : ℕ) (kept : List Kept) → 1 ≤ count → TimesDoNotFall kept → IsNonDecreasingBy (λ (i : Instance). i.bound) (counted count kept)
 counted_bounds count kept some h = nd_map (λ (i : Instance). i.bound) (ranks count kept) (range_with_len 0 (length kept / count)) (along 0 (length kept / count) (omega arith))
   where
     above : (i j : ℕ) → i ≤ j → j < length kept / count → (ranks count kept i).bound ≤ (ranks count kept j).bound
@@ -133,15 +130,6 @@ counted_bounds count kept some h = nd_map (λ (i : Instance). i.bound) (ranks co
         nd_cons (λ i. (ranks count kept i).bound) a (range_with_len (a + 1) n)
         (All_from_members (λ j. (ranks count kept a).bound ≤ (ranks count kept j).bound) (range_with_len (a + 1) n) (λ j c. let m : (a + 1 ≤ j) × (j < a + 1 + n) = range_members (a + 1) n j c in above a j (omega (arith, m.0)) (omega (arith, m.1))))
         (along (a + 1) n (omega arith))
-
--- the bounds of the instances of a window don't fall
-pub bounds_do_not_fall : (kind : Kind) (kept : List Kept) (marks : List ℕ) → IsKindWithin kind → TimesDoNotFall kept → IsNonDecreasingBy (λ (i : Instance). i.bound) (instances_of kind kept marks)
-unfolding instances_of
-bounds_do_not_fall (Tumbling length) kept marks k h = spans_bounds length length kept
-bounds_do_not_fall (Sliding length slide) kept marks k h = spans_bounds length slide kept
-bounds_do_not_fall (Session gap) kept marks k h = sessions_bounds gap kept k.0 h
-bounds_do_not_fall Marks kept marks k h = stretches_bounds marks kept
-bounds_do_not_fall (Events count) kept marks k h = counted_bounds count kept k.0 h
 
 -- ---- an instance selects the tuples within its span
 pub All-joined : (P : Kept → Type 0) (runs : List (List Kept)) → All (All P) runs → All P (flat_map (λ run. run) runs)
@@ -219,29 +207,6 @@ sessions_select gap kept some h =
     runs : List (List Kept)
     runs = pieces_of (λ x y. nat_le gap (y.time - x.time)) kept
 
-pub spans_hold_selections : (kind : Kind) (kept : List Kept) (marks : List ℕ) → IsKindWithin kind → is_events kind ≡ false → TimesDoNotFall kept → All (λ (i : Instance). i.chosen ≡ within i.low i.high kept) (instances_of kind kept marks)
-unfolding instances_of
-spans_hold_selections (Tumbling length) kept marks k e h = All-map_of (λ (i : Instance). i.chosen ≡ within i.low i.high kept) (λ low. interval low (low + length) kept) (starts_of length length kept) (λ k d l. refl)
-spans_hold_selections (Sliding length slide) kept marks k e h = All-map_of (λ (i : Instance). i.chosen ≡ within i.low i.high kept) (λ low. interval low (low + length) kept) (starts_of length slide kept) (λ k d l. refl)
-spans_hold_selections (Session gap) kept marks k e h = sessions_select gap kept k.0 h
-spans_hold_selections Marks kept marks k e h =
-    All-filter is_selecting (λ (i : Instance). i.chosen ≡ within i.low i.high kept) (between_times (rising nat_cmp (0 ∷ marks ++ FINAL ∷ [])) kept)
-    (All-weaker (λ (i : Instance). (i.low < i.high) × (i.bound ≡ i.high) × (i.chosen ≡ within i.low i.high kept) × Contains (rising nat_cmp (0 ∷ marks ++ FINAL ∷ [])) i.low × Contains (rising nat_cmp (0 ∷ marks ++ FINAL ∷ [])) i.high) (λ i. i.chosen ≡ within i.low i.high kept) (λ i h. h.2) (between_times (rising nat_cmp (0 ∷ marks ++ FINAL ∷ [])) kept)
-    (between_ends (rising nat_cmp (0 ∷ marks ++ FINAL ∷ [])) kept (nat_rising_is_sorted (0 ∷ marks ++ FINAL ∷ []))))
-spans_hold_selections (Events count) kept marks k e h = absurd (false≢true (sym e))
-
--- the bound of an instance is its end, but for events
-pub bounds_are_ends : (kind : Kind) (kept : List Kept) (marks : List ℕ) → is_events kind ≡ false → All (λ (i : Instance). i.bound ≡ i.high) (instances_of kind kept marks)
-unfolding instances_of
-bounds_are_ends (Tumbling length) kept marks e = All-map_of (λ (i : Instance). i.bound ≡ i.high) (λ low. interval low (low + length) kept) (starts_of length length kept) (λ k d l. refl)
-bounds_are_ends (Sliding length slide) kept marks e = All-map_of (λ (i : Instance). i.bound ≡ i.high) (λ low. interval low (low + length) kept) (starts_of length slide kept) (λ k d l. refl)
-bounds_are_ends (Session gap) kept marks e = All-map_of (λ (i : Instance). i.bound ≡ i.high) (session gap) (pieces_of (λ x y. nat_le gap (y.time - x.time)) kept) (λ k d l. refl)
-bounds_are_ends Marks kept marks e =
-    All-filter is_selecting (λ (i : Instance). i.bound ≡ i.high) (between_times (rising nat_cmp (0 ∷ marks ++ FINAL ∷ [])) kept)
-    (All-weaker (λ (i : Instance). (i.low < i.high) × (i.bound ≡ i.high) × (i.chosen ≡ within i.low i.high kept) × Contains (rising nat_cmp (0 ∷ marks ++ FINAL ∷ [])) i.low × Contains (rising nat_cmp (0 ∷ marks ++ FINAL ∷ [])) i.high) (λ i. i.bound ≡ i.high) (λ i h. h.1) (between_times (rising nat_cmp (0 ∷ marks ++ FINAL ∷ [])) kept)
-    (between_ends (rising nat_cmp (0 ∷ marks ++ FINAL ∷ [])) kept (nat_rising_is_sorted (0 ∷ marks ++ FINAL ∷ []))))
-bounds_are_ends (Events count) kept marks e = absurd (false≢true (sym e))
-
 -- ---- what stands comes first
 pub split_at_water : (water : ℕ) (is : List Instance) → IsNonDecreasingBy (λ (i : Instance). i.bound) is → is ≡ filter (is_complete water) is ++ incomplete water is
 split_at_water water [] h = refl
@@ -258,10 +223,7 @@ split_at_water water (x ∷ is) h = by (cases_lt water x.bound) (split_at_water 
         ap (λ k. x ∷ k) later
         ∙ sym (λ j. cond (le-leb x.bound water l j) (x ∷ filter (is_complete water) is) (filter (is_complete water) is) ++ cond (le-ltb water x.bound l j) (x ∷ incomplete water is) (incomplete water is))
 
-pub standing_comes_first : (kind : Kind) (kept : List Kept) (marks : List ℕ) (water : ℕ) → IsKindWithin kind → TimesDoNotFall kept → instances_of kind kept marks ≡ standing_of kind kept marks water ++ incomplete water (instances_of kind kept marks)
-standing_comes_first kind kept marks water k h = split_at_water water (instances_of kind kept marks) (bounds_do_not_fall kind kept marks k h)
-
-moved_on : (old new : ℕ) (is : List Instance) → old ≤ new → IsNonDecreasingBy (λ (i : Instance). i.bound) is → filter (is_complete new) is ≡ filter (is_complete old) is ++ completed old new is
+pub moved_on : (old new : ℕ) (is : List Instance) → old ≤ new → IsNonDecreasingBy (λ (i : Instance). i.bound) is → filter (is_complete new) is ≡ filter (is_complete old) is ++ completed old new is
 moved_on old new [] le h = refl
 moved_on old new (x ∷ is) le h = by (cases_lt old x.bound) (moved_on old new is le (nd_tail (λ (i : Instance). i.bound) x is h))
   where
@@ -287,5 +249,25 @@ moved_on old new (x ∷ is) le h = by (cases_lt old x.bound) (moved_on old new i
         ∙ ap (λ k. x ∷ k) later
         ∙ sym (λ j. cond (le-leb x.bound old l j) (x ∷ filter (is_complete old) is) (filter (is_complete old) is) ++ cond (le-ltb old x.bound l j && nat_le x.bound new) (x ∷ completed old new is) (completed old new is))
 
-pub move_adds_behind : (kind : Kind) (kept : List Kept) (marks : List ℕ) (old new : ℕ) → IsKindWithin kind → TimesDoNotFall kept → old ≤ new → standing_of kind kept marks new ≡ standing_of kind kept marks old ++ completed old new (instances_of kind kept marks)
-move_adds_behind kind kept marks old new k h le = moved_on old new (instances_of kind kept marks) le (bounds_do_not_fall kind kept marks k h)
+-- an interval selects what lies within it
+pub spans_hold : (length slide : ℕ) (kept : List Kept) → All (λ (i : Instance). i.chosen ≡ within i.low i.high kept) (spans length slide kept)
+spans_hold length slide kept = All-map_of (λ (i : Instance). i.chosen ≡ within i.low i.high kept) (λ low. interval low (low + length) kept) (starts_of length slide kept) (λ k d l. refl)
+
+pub stretches_hold : (marks : List ℕ) (kept : List Kept) → All (λ (i : Instance). i.chosen ≡ within i.low i.high kept) (stretches marks kept)
+stretches_hold marks kept =
+    All-filter is_selecting (λ (i : Instance). i.chosen ≡ within i.low i.high kept) (between_times (rising nat_cmp (0 ∷ marks ++ FINAL ∷ [])) kept)
+    (All-weaker (λ (i : Instance). (i.low < i.high) × (i.bound ≡ i.high) × (i.chosen ≡ within i.low i.high kept) × Contains (rising nat_cmp (0 ∷ marks ++ FINAL ∷ [])) i.low × Contains (rising nat_cmp (0 ∷ marks ++ FINAL ∷ [])) i.high) (λ i. i.chosen ≡ within i.low i.high kept) (λ i h. h.2) (between_times (rising nat_cmp (0 ∷ marks ++ FINAL ∷ [])) kept)
+    (between_ends (rising nat_cmp (0 ∷ marks ++ FINAL ∷ [])) kept (nat_rising_is_sorted (0 ∷ marks ++ FINAL ∷ []))))
+
+-- its bound is its end, and so is that of a session
+pub span_bounds_are_ends : (length slide : ℕ) (kept : List Kept) → All (λ (i : Instance). i.bound ≡ i.high) (spans length slide kept)
+span_bounds_are_ends length slide kept = All-map_of (λ (i : Instance). i.bound ≡ i.high) (λ low. interval low (low + length) kept) (starts_of length slide kept) (λ k d l. refl)
+
+pub stretch_bounds_are_ends : (marks : List ℕ) (kept : List Kept) → All (λ (i : Instance). i.bound ≡ i.high) (stretches marks kept)
+stretch_bounds_are_ends marks kept =
+    All-filter is_selecting (λ (i : Instance). i.bound ≡ i.high) (between_times (rising nat_cmp (0 ∷ marks ++ FINAL ∷ [])) kept)
+    (All-weaker (λ (i : Instance). (i.low < i.high) × (i.bound ≡ i.high) × (i.chosen ≡ within i.low i.high kept) × Contains (rising nat_cmp (0 ∷ marks ++ FINAL ∷ [])) i.low × Contains (rising nat_cmp (0 ∷ marks ++ FINAL ∷ [])) i.high) (λ i. i.bound ≡ i.high) (λ i h. h.1) (between_times (rising nat_cmp (0 ∷ marks ++ FINAL ∷ [])) kept)
+    (between_ends (rising nat_cmp (0 ∷ marks ++ FINAL ∷ [])) kept (nat_rising_is_sorted (0 ∷ marks ++ FINAL ∷ []))))
+
+pub session_bounds_are_ends : (gap : ℕ) (kept : List Kept) → All (λ (i : Instance). i.bound ≡ i.high) (sessions gap kept)
+session_bounds_are_ends gap kept = All-map_of (λ (i : Instance). i.bound ≡ i.high) (session gap) (pieces_of (λ x y. nat_le gap (y.time - x.time)) kept) (λ k d l. refl)

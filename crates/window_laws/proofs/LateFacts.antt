@@ -16,15 +16,14 @@ use Rattle.stream_base.specs.declared.func.Func.{Func}
 use Rattle.stream_base.specs.declared.kept.Kept.{Kept}
 use Rattle.stream_base.specs.Model.Changes.{are_same_tuples, emission, emitted, former_of, is_same, retraction, row_of, Moment, emissions, retractions}
 use Rattle.stream_base.specs.Model.Journal.{put_in_order}
-use Rattle.stream_base.specs.Model.Windows.{Instance, interval, is_complete, is_within, spans, starts_holding, starts_of, within, instances_of, standing_of}
+use Rattle.stream_base.specs.Model.Windows.{Instance, interval, is_complete, is_within, spans, starts_holding, starts_of, within}
 use Rattle.stream_base.proofs.Distinct.{less_from_lt, All_from_members}
 use Rattle.stream_base.proofs.ChangeFacts.{any_from_member}
+use Rattle.stream_base.proofs.KindFacts.{timed_instances, timed_within}
 use Rattle.stream_base.proofs.Members.{filter_has, range_members, filter_map_of, filter_members, map_has, map_members}
 use Rattle.stream_base.proofs.Rising.{none_in_nil, sorted_cons, sorted_nil, Contains-head, Contains-tail, Contains-cons_cases, same_members_same_list}
 use Rattle.stream_base.proofs.Spans.{starts_of_has, starts_holding_members, starts_holding_has, starts_of_is_sorted, starts_of_members, starts_of_put_cases, starts_of_put_new, starts_of_put_old, within_put}
 use Rattle.stream_base.specs.declared.def.Def.{Def}
-use Rattle.stream_base.specs.declared.kind.Kind.{Kind}
-use Rattle.stream_base.specs.declared.kind.Kind.TheVariants.{Tumbling, Sliding, Session, Marks, Events}
 use Rattle.stream_base.specs.Kinds.{IsKindWithin, is_timed, length_of, slide_of}
 use Rattle.window_laws.specs.After.{with_tuple}
 use Rattle.window_laws.specs.Late.{changes_of_late, late_change, late_changes}
@@ -255,29 +254,13 @@ late_emissions window key func length slide water kept x moves overlaps = late_h
 
 -- by the kind of the window
 pub timed_none_gone : (window : ℕ) (key : List ℕ) (def : Def) (m : Moment) (x : Kept) → is_timed def.kind ≡ true → IsKindWithin def.kind → retractions key m (with_tuple m x) (window, def) ≡ []
-unfolding instances_of
-timed_none_gone window key def m x t k = by def.kind refl t k
-  where
-    by : (kind : Kind) → def.kind ≡ kind → is_timed kind ≡ true → IsKindWithin kind → filter_map (retraction window key def.func (standing_of def.kind (put_in_order m.kept x) m.marks m.water)) (standing_of def.kind m.kept m.marks m.water) ≡ []
-    by (Tumbling length) e t k = (λ i. filter_map (retraction window key def.func (standing_of (e i) (put_in_order m.kept x) m.marks m.water)) (standing_of (e i) m.kept m.marks m.water)) ∙ none_gone window key def.func length length m.water m.kept x k.0 (omega arith)
-    by (Sliding length slide) e t k = (λ i. filter_map (retraction window key def.func (standing_of (e i) (put_in_order m.kept x) m.marks m.water)) (standing_of (e i) m.kept m.marks m.water)) ∙ none_gone window key def.func length slide m.water m.kept x k.2 k.3
-    by (Session gap) e t k = absurd (false≢true t)
-    by Marks e t k = absurd (false≢true t)
-    by (Events count) e t k = absurd (false≢true t)
+timed_none_gone window key def m x t k =
+    let w = timed_within def.kind t k in
+    (λ i. filter_map (retraction window key def.func (filter (is_complete m.water) (timed_instances def.kind (put_in_order m.kept x) m.marks t i))) (filter (is_complete m.water) (timed_instances def.kind m.kept m.marks t i)))
+    ∙ none_gone window key def.func (length_of def.kind) (slide_of def.kind) m.water m.kept x w.0 w.1
 
 pub timed_late_emissions : (window : ℕ) (key : List ℕ) (def : Def) (m : Moment) (x : Kept) → is_timed def.kind ≡ true → IsKindWithin def.kind → emissions key m (with_tuple m x) (window, def) ≡ changes_of_late window key def m x
-unfolding instances_of
-timed_late_emissions window key def m x t k = by def.kind refl t k
-  where
-    by : (kind : Kind) → def.kind ≡ kind → is_timed kind ≡ true → IsKindWithin kind → filter_map (emission window key def.func (standing_of def.kind m.kept m.marks m.water)) (standing_of def.kind (put_in_order m.kept x) m.marks m.water) ≡ late_changes window key def.func (length_of def.kind) (slide_of def.kind) m.water m.kept x
-    by (Tumbling length) e t k =
-        (λ i. filter_map (emission window key def.func (standing_of (e i) m.kept m.marks m.water)) (standing_of (e i) (put_in_order m.kept x) m.marks m.water))
-        ∙ late_emissions window key def.func length length m.water m.kept x k.0 (omega arith)
-        ∙ (λ i. late_changes window key def.func (length_of (sym e i)) (slide_of (sym e i)) m.water m.kept x)
-    by (Sliding length slide) e t k =
-        (λ i. filter_map (emission window key def.func (standing_of (e i) m.kept m.marks m.water)) (standing_of (e i) (put_in_order m.kept x) m.marks m.water))
-        ∙ late_emissions window key def.func length slide m.water m.kept x k.2 k.3
-        ∙ (λ i. late_changes window key def.func (length_of (sym e i)) (slide_of (sym e i)) m.water m.kept x)
-    by (Session gap) e t k = absurd (false≢true t)
-    by Marks e t k = absurd (false≢true t)
-    by (Events count) e t k = absurd (false≢true t)
+timed_late_emissions window key def m x t k =
+    let w = timed_within def.kind t k in
+    (λ i. filter_map (emission window key def.func (filter (is_complete m.water) (timed_instances def.kind m.kept m.marks t i))) (filter (is_complete m.water) (timed_instances def.kind (put_in_order m.kept x) m.marks t i)))
+    ∙ late_emissions window key def.func (length_of def.kind) (slide_of def.kind) m.water m.kept x w.0 w.1

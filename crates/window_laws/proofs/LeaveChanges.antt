@@ -1,5 +1,5 @@
 -- What leaves changes no result to come.
-use Rattle.std.proofs.Common.{◌≡◌, ◌∙◌, ℕ, ◌+◌, ◌-◌, ◌<◌, ◌≤◌, Bool, true, false, cond, List, [], ◌∷◌, ◌++◌, length, take, drop, map, ap, sym, refl, subst, arith, inl, inr}
+use Rattle.std.proofs.Common.{◌≡◌, ◌∙◌, ℕ, ◌+◌, ◌-◌, ◌<◌, ◌≤◌, Bool, true, false, cond, List, [], ◌∷◌, ◌++◌, length, take, drop, map, ap, sym, refl, subst, arith, inl, inr, zero, suc}
 use Rattle.std.specs.Prelude.{◌⊎◌, nat_le, nat_lt}
 use Rattle.std.specs.BTreeSet.{insert_key}
 use Rattle.std.specs.List.{All, Contains, filter}
@@ -14,7 +14,7 @@ use Rattle.stream_base.specs.declared.def.Def.{Def}
 use Rattle.stream_base.specs.declared.func.Func.{Func}
 use Rattle.stream_base.specs.declared.kept.Kept.{Kept}
 use Rattle.stream_base.specs.declared.kind.Kind.{Kind}
-use Rattle.stream_base.specs.declared.kind.Kind.TheVariants.{Tumbling, Sliding, Session, Marks, Events}
+use Rattle.stream_base.specs.declared.kind.Kind.TheVariants.{Marks}
 use Rattle.stream_base.specs.declared.limits.TheConstants.{FINAL}
 use Rattle.stream_base.specs.Laws.{RiseByStart, TimesDoNotFall, becomes_complete, completions}
 use Rattle.stream_base.specs.Limits.{Definitions}
@@ -24,23 +24,39 @@ use Rattle.stream_base.specs.Model.Journal.{put_in_order}
 use Rattle.stream_base.specs.Model.Slices.{is_settled, is_settled_in, unsettled}
 use Rattle.stream_base.specs.Model.Windows.{Instance, instances_of, interval, is_selecting, is_within, stretches, within}
 use Rattle.stream_base.proofs.ChangeFacts.{none_emitted, none_retracted}
-use Rattle.stream_base.proofs.Distinct.{All_from_members, instances_rise, standing_rises}
+use Rattle.stream_base.proofs.Distinct.{All_from_members}
+use Rattle.stream_base.proofs.KindFacts.{instances_rise, standing_rises}
 use Rattle.stream_base.proofs.Members.{Contains-insert_new}
 use Rattle.window_laws.specs.After.{at_water, complete_at, emissions_between, retractions_between, with_mark, with_tuple}
 use Rattle.window_laws.specs.Instances.{incomplete}
 use Rattle.window_laws.specs.Positions.{AreKept}
 use Rattle.window_laws.specs.Settled.{IsSettledAt, MayLeave, settled, without_first}
 use Rattle.window_laws.specs.Stretches.{IsMarkedInStretches, if_selecting}
-use Rattle.window_laws.proofs.AfterFacts.{tuple_at_stands}
-use Rattle.window_laws.proofs.InstanceFacts.{bounds_do_not_fall, split_at_water}
-use Rattle.window_laws.proofs.LeaveFacts.{EndBy, firsts_leave, not_within}
+use Rattle.window_laws.proofs.InstanceFacts.{split_at_water}
+use Rattle.window_laws.proofs.KindFacts.{bounds_do_not_fall, tuple_at_stands, EndBy, first_leaves, end_by_behind, stays_at_put}
+use Rattle.window_laws.proofs.LeaveFacts.{not_within}
 use Rattle.window_laws.proofs.MiddleFacts.{complete_come, complete_gone}
 use Rattle.stream_base.proofs.Filters.{filter_none}
 use Rattle.slice_lists.proofs.RunFacts.{put_behind}
 use Rattle.window_laws.proofs.SessionFacts.{put_times}
 use Rattle.window_laws.proofs.SettledFacts.{all_member, settled_by_times, settled_first}
-use Rattle.window_laws.proofs.SettledMoves.{has_interval, mark_keeps_settled, move_keeps_settled, settled_lies_before, stays_at_put, tuple_keeps_settled}
+use Rattle.window_laws.proofs.SettledMoves.{mark_keeps_settled, move_keeps_settled, settled_lies_before, tuple_keeps_settled}
+use Rattle.window_laws.proofs.HoldingFacts.{has_interval}
 use Rattle.window_laws.proofs.StretchFacts.{parted_span, stretches_after_mark}
+use Rattle.stream_base.proofs.Rising.{Contains-head, Contains-tail}
+use Rattle.slice_lists.proofs.Order.{nd_tail}
+
+-- so many tuples leave
+pub firsts_leave : (kind : Kind) (n : ℕ) (kept : List Kept) (marks : List ℕ) (end : ℕ) → IsKindWithin kind → is_events kind ≡ false → TimesDoNotFall kept → ((z : Kept) → Contains (take n kept) z → EndBy kind kept marks end z.time) → incomplete end (instances_of kind kept marks) ≡ incomplete end (instances_of kind (drop n kept) marks)
+firsts_leave kind zero kept marks end k e h ends = refl
+firsts_leave kind (suc n) [] marks end k e h ends = refl
+firsts_leave kind (suc n) (x ∷ kept) marks end k e h ends =
+    first_leaves kind x kept marks end k e h (ends x (Contains-head x (take n kept)))
+    ∙ firsts_leave kind n kept marks end k e (nd_tail (λ (z : Kept). z.time) x kept h)
+    (λ z c. end_by_behind kind x kept marks end z k e h (taken n kept z c) (ends z (Contains-tail x (take n kept) z c)))
+  where
+    taken : (n : ℕ) (kept : List Kept) (z : Kept) → Contains (take n kept) z → Contains kept z
+    taken n kept z c = subst (λ l. Contains l z) (take-append-drop n kept) (Contains-append_left (take n kept) (drop n kept) z c)
 
 -- ---- the first tuples of a list
 taken : (n : ℕ) (kept : List Kept) (z : Kept) → Contains (take n kept) z → Contains kept z
@@ -265,11 +281,8 @@ module _ (d : Definitions) (m : Moment) (n : ℕ) (may : MayLeave d m n) (w : De
     -- windows of the other kinds don't see marks
     unmarked : (kind : Kind) (kept : List Kept) → (kind ≡ Marks) ⊎ (instances_of kind kept m.marks ≡ instances_of kind kept (insert_key nat_cmp m.marks t))
     unfolding instances_of
-    unmarked (Tumbling length) kept = inr refl
-    unmarked (Sliding length slide) kept = inr refl
-    unmarked (Session gap) kept = inr refl
     unmarked Marks kept = inl refl
-    unmarked (Events count) kept = inr refl
+    unmarked kind kept = inr refl
 
     none_goes : (window : ℕ) (key : List ℕ) (kept : List Kept) → instances_of w.kind kept m.marks ≡ instances_of w.kind kept (insert_key nat_cmp m.marks t) → retractions_between window key w.func (complete_at m.water (instances_of w.kind kept m.marks)) (complete_at m.water (instances_of w.kind kept (insert_key nat_cmp m.marks t))) ≡ []
     none_goes window key kept same = none_retracted window key w.func (complete_at m.water (instances_of w.kind kept (insert_key nat_cmp m.marks t))) (complete_at m.water (instances_of w.kind kept m.marks)) (ap (complete_at m.water) same)
@@ -347,3 +360,5 @@ settled_may_leave d m within a = record {
   where
     first : m.kept ≡ settled d m ++ unsettled d m
     first = settled_first d m within a
+
+-- ---- so many tuples leave

@@ -1,34 +1,24 @@
 -- A settled tuple that leaves takes no instance along that is still to end.
-use Rattle.std.proofs.Common.{◌≡◌, ◌∙◌, ℕ, zero, suc, ◌+◌, ◌-◌, ◌*◌, ◌<◌, ◌≤◌, Bool, true, false, cond, List, [], ◌∷◌, ◌++◌, length, take, drop, map, ap, sym, refl, subst, arith, inl, inr}
+use Rattle.std.proofs.Common.{◌≡◌, ◌∙◌, ℕ, ◌+◌, ◌-◌, ◌*◌, ◌<◌, ◌≤◌, Bool, true, false, cond, List, [], ◌∷◌, ◌++◌, map, ap, sym, refl, subst, arith, inl, inr}
 use Rattle.std.specs.Prelude.{◌⊎◌, ◌&&◌, nat_le, nat_lt}
 use Rattle.std.specs.List.{Contains, filter}
 use Rattle.std.specs.Ordering.{nat_cmp}
-use Rattle.std.proofs.lemmas.Bool.{and_parts, and_right, cases_Bool, cases_lt, false≢true, le-ltb, ltb-true, leb-true}
+use Rattle.std.proofs.lemmas.Bool.{and_parts, and_right, cases_Bool, cases_lt, le-ltb, ltb-true, leb-true}
 use Rattle.std.proofs.lemmas.Cmp.{nat_cmp_total}
-use Rattle.std.proofs.lemmas.List.{take-append-drop}
-use Rattle.std.proofs.lemmas.List.Elements.{All-contains, Contains-append_left}
+use Rattle.std.proofs.lemmas.List.Elements.{All-contains}
 use Rattle.std.proofs.lemmas.List.Kept.{IsStrictlySortedBy-filter}
 use Rattle.stream_base.specs.declared.kept.Kept.{Kept}
-use Rattle.stream_base.specs.declared.kind.Kind.{Kind}
-use Rattle.stream_base.specs.declared.kind.Kind.TheVariants.{Tumbling, Sliding, Session, Marks, Events}
 use Rattle.stream_base.specs.declared.limits.TheConstants.{FINAL}
-use Rattle.stream_base.specs.Laws.{TimesDoNotFall}
-use Rattle.stream_base.specs.Kinds.{IsKindWithin, is_events}
 use Rattle.stream_base.specs.Model.Journal.{rising}
-use Rattle.stream_base.specs.Model.Windows.{Instance, between_times, glued, instances_of, interval, is_selecting, is_within, last_time, pieces_of, session, spans, starts_of, stretches, within}
+use Rattle.stream_base.specs.Model.Windows.{Instance, between_times, glued, interval, is_selecting, is_within, last_time, session, spans, starts_of, stretches, within}
 use Rattle.stream_base.proofs.Members.{filter_has, filter_map_of, filter_members, map_has, map_same}
 use Rattle.stream_base.proofs.Rising.{nat_rising_is_sorted, same_members_same_list, Contains-cons_cases, Contains-head, Contains-tail, none_in_nil}
 use Rattle.stream_base.proofs.Spans.{starts_of_has, starts_of_is_sorted, starts_of_members}
 use Rattle.window_laws.specs.Instances.{incomplete}
 use Rattle.slice_lists.specs.Runs.{AreParted}
-use Rattle.window_laws.proofs.InstanceFacts.{below_span, above_span, between_ends, gap_cut, inside_span, session_far, session_near, session_runs}
+use Rattle.window_laws.proofs.InstanceFacts.{below_span, above_span, between_ends, gap_cut, inside_span, session_far, session_near}
 use Rattle.window_laws.proofs.LateFacts.{some_of_member}
-use Rattle.slice_lists.proofs.Order.{IsApart, IsNear, nd_tail, run_spans}
-use Rattle.window_laws.proofs.SettledMoves.{span_of_other}
-
--- every instance of a window whose span holds the time ends at or before another time
-abbrev pub EndBy : Kind → List Kept → List ℕ → ℕ → ℕ → Type 0
-EndBy kind kept marks end time = (i : Instance) → Contains (instances_of kind kept marks) i → i.low ≤ time → time < i.high → i.high ≤ end
+use Rattle.slice_lists.proofs.Order.{IsApart, IsNear, run_spans}
 
 pub not_within : (low high : ℕ) (x : Kept) → (low ≤ x.time → x.time < high → ⊥) → is_within low high x ≡ false
 not_within low high x n = elim (cases_lt x.time low) [
@@ -76,7 +66,7 @@ module _ (length slide : ℕ) (moves : 1 ≤ slide) (overlaps : slide ≤ length
           (subst (Contains (starts_of length slide (x ∷ kept))) (sym s.3) (starts_of_has length slide moves overlaps (x ∷ kept) s.1 s.0 (Contains-tail x kept s.1 s.2) (omega (arith, s.3, s.4)) (omega (arith, s.3, s.5))))
           m.1
 
-  spans_leave : incomplete end (spans length slide (x ∷ kept)) ≡ incomplete end (spans length slide kept)
+  pub spans_leave : incomplete end (spans length slide (x ∷ kept)) ≡ incomplete end (spans length slide kept)
   spans_leave =
       filter_map_of (λ (i : Instance). nat_lt end i.bound) (over (x ∷ kept)) (starts_of length slide (x ∷ kept))
       ∙ ap (map (over (x ∷ kept))) starts_leave
@@ -118,7 +108,7 @@ stretch_of_other marks kept other i z c d l h =
     let there : Contains (between_times edges other) j = subst (λ l. Contains l j) (sym (between_over edges kept other)) (map_has (λ (i : Instance). interval i.low i.high other) (between_times edges kept) i m.0) in
     (j, filter_has is_selecting (between_times edges other) j there (some_of_member (is_within i.low i.high) other z d (inside_span i.low i.high z l h)), refl, refl)
 
-stretches_leave : (marks : List ℕ) (x : Kept) (kept : List Kept) (end : ℕ) → ((i : Instance) → Contains (stretches marks (x ∷ kept)) i → i.low ≤ x.time → x.time < i.high → i.high ≤ end) → incomplete end (stretches marks (x ∷ kept)) ≡ incomplete end (stretches marks kept)
+pub stretches_leave : (marks : List ℕ) (x : Kept) (kept : List Kept) (end : ℕ) → ((i : Instance) → Contains (stretches marks (x ∷ kept)) i → i.low ≤ x.time → x.time < i.high → i.high ≤ end) → incomplete end (stretches marks (x ∷ kept)) ≡ incomplete end (stretches marks kept)
 stretches_leave marks x kept end ends =
     filter_two is_selecting (λ (i : Instance). nat_lt end i.bound) (between_times edges (x ∷ kept))
     ∙ filter_alike (λ i. is_selecting i && nat_lt end i.bound) (λ i. interval i.low i.high kept) (between_times edges (x ∷ kept)) each
@@ -148,7 +138,7 @@ module _ (gap : ℕ) (some : 1 ≤ gap) (end : ℕ) (x : Kept) where
   first_ends : (run : List Kept) (runs : List (List Kept)) → AreParted (IsNear (gap_cut gap)) (IsApart (gap_cut gap)) ((x ∷ run) ∷ runs) → x.time ≤ last_time (x ∷ run)
   first_ends run runs a = (run_spans (IsNear (gap_cut gap)) (IsApart (gap_cut gap)) gap (session_near gap) (λ a b. session_far gap a b some) (x ∷ run) a.0).1
 
-  glued_leaves : (pieces : List (List Kept)) → AreParted (IsNear (gap_cut gap)) (IsApart (gap_cut gap)) pieces → AreParted (IsNear (gap_cut gap)) (IsApart (gap_cut gap)) (glued (λ a b. nat_le gap (b.time - a.time)) x pieces)
+  pub glued_leaves : (pieces : List (List Kept)) → AreParted (IsNear (gap_cut gap)) (IsApart (gap_cut gap)) pieces → AreParted (IsNear (gap_cut gap)) (IsApart (gap_cut gap)) (glued (λ a b. nat_le gap (b.time - a.time)) x pieces)
       → ((i : Instance) → Contains (map (session gap) (glued (λ a b. nat_le gap (b.time - a.time)) x pieces)) i → i.low ≤ x.time → x.time < i.high → i.high ≤ end)
       → incomplete end (map (session gap) (glued (λ a b. nat_le gap (b.time - a.time)) x pieces)) ≡ incomplete end (map (session gap) pieces)
   glued_leaves [] b a ends = alone [] (ends (session gap (x ∷ [])) (Contains-head (session gap (x ∷ [])) []) (omega arith) (omega arith))
@@ -170,7 +160,7 @@ module _ (gap : ℕ) (some : 1 ≤ gap) (end : ℕ) (x : Kept) where
           out (session gap (x ∷ y ∷ ys)) (map (session gap) pieces) l ∙ sym (out (session gap (y ∷ ys)) (map (session gap) pieces) l)
 
   -- a session behind the first tuple is one, or the last part of one, with it
-  glued_still : (pieces : List (List Kept)) → AreParted (IsNear (gap_cut gap)) (IsApart (gap_cut gap)) pieces → AreParted (IsNear (gap_cut gap)) (IsApart (gap_cut gap)) (glued (λ a b. nat_le gap (b.time - a.time)) x pieces) → (i : Instance) → Contains (map (session gap) pieces) i
+  pub glued_still : (pieces : List (List Kept)) → AreParted (IsNear (gap_cut gap)) (IsApart (gap_cut gap)) pieces → AreParted (IsNear (gap_cut gap)) (IsApart (gap_cut gap)) (glued (λ a b. nat_le gap (b.time - a.time)) x pieces) → (i : Instance) → Contains (map (session gap) pieces) i
       → (j : Instance) × Contains (map (session gap) (glued (λ a b. nat_le gap (b.time - a.time)) x pieces)) j × (j.low ≤ i.low) × (j.high ≡ i.high)
   glued_still [] b a i c = absurd (none_in_nil i c)
   glued_still ([] ∷ pieces) b a i c = absurd b.0
@@ -185,41 +175,3 @@ module _ (gap : ℕ) (some : 1 ≤ gap) (end : ℕ) (x : Kept) where
             | inl e ↦ (session gap (x ∷ y ∷ ys), Contains-head (session gap (x ∷ y ∷ ys)) (map (session gap) pieces), subst (λ (k : Instance). x.time ≤ k.low) e l, ap (λ (k : Instance). k.high) e)
             | inr d ↦ (i, Contains-tail (session gap (x ∷ y ∷ ys)) (map (session gap) pieces) i d, omega arith, refl)
           ]
-
--- ---- one tuple leaves
-pub first_leaves : (kind : Kind) (x : Kept) (kept : List Kept) (marks : List ℕ) (end : ℕ) → IsKindWithin kind → is_events kind ≡ false → TimesDoNotFall (x ∷ kept) → EndBy kind (x ∷ kept) marks end x.time → incomplete end (instances_of kind (x ∷ kept) marks) ≡ incomplete end (instances_of kind kept marks)
-unfolding instances_of
-first_leaves (Tumbling length) x kept marks end k e h ends = spans_leave length length k.0 (omega arith) x kept end ends
-first_leaves (Sliding length slide) x kept marks end k e h ends = spans_leave length slide k.2 k.3 x kept end ends
-first_leaves (Session gap) x kept marks end k e h ends = glued_leaves gap k.0 end x (pieces_of (λ x y. nat_le gap (y.time - x.time)) kept) (session_runs gap kept (nd_tail (λ (z : Kept). z.time) x kept h)) (session_runs gap (x ∷ kept) h) ends
-first_leaves Marks x kept marks end k e h ends = stretches_leave marks x kept end ends
-first_leaves (Events count) x kept marks end k e h ends = absurd (false≢true (sym e))
-
--- and what ended still does
-pub end_by_behind : (kind : Kind) (x : Kept) (kept : List Kept) (marks : List ℕ) (end : ℕ) (z : Kept) → IsKindWithin kind → is_events kind ≡ false → TimesDoNotFall (x ∷ kept) → Contains kept z → EndBy kind (x ∷ kept) marks end z.time → EndBy kind kept marks end z.time
-unfolding instances_of
-end_by_behind (Tumbling length) x kept marks end z k e h c ends i d l r =
-    let j = span_of_other length length kept (x ∷ kept) i z k.0 (omega arith) d (Contains-tail x kept z c) l r in
-    omega (arith, j.3, ends j.0 j.1 (omega (arith, j.2)) (omega (arith, j.3)))
-end_by_behind (Sliding length slide) x kept marks end z k e h c ends i d l r =
-    let j = span_of_other length slide kept (x ∷ kept) i z k.2 k.3 d (Contains-tail x kept z c) l r in
-    omega (arith, j.3, ends j.0 j.1 (omega (arith, j.2)) (omega (arith, j.3)))
-end_by_behind (Session gap) x kept marks end z k e h c ends i d l r =
-    let j = glued_still gap k.0 end x (pieces_of (λ x y. nat_le gap (y.time - x.time)) kept) (session_runs gap kept (nd_tail (λ (z : Kept). z.time) x kept h)) (session_runs gap (x ∷ kept) h) i d in
-    omega (arith, j.3, ends j.0 j.1 (omega (arith, j.2)) (omega (arith, j.3)))
-end_by_behind Marks x kept marks end z k e h c ends i d l r =
-    let j = stretch_of_other marks kept (x ∷ kept) i z d (Contains-tail x kept z c) l r in
-    omega (arith, j.3, ends j.0 j.1 (omega (arith, j.2)) (omega (arith, j.3)))
-end_by_behind (Events count) x kept marks end z k e h c ends i d l r = absurd (false≢true (sym e))
-
--- ---- so many tuples leave
-pub firsts_leave : (kind : Kind) (n : ℕ) (kept : List Kept) (marks : List ℕ) (end : ℕ) → IsKindWithin kind → is_events kind ≡ false → TimesDoNotFall kept → ((z : Kept) → Contains (take n kept) z → EndBy kind kept marks end z.time) → incomplete end (instances_of kind kept marks) ≡ incomplete end (instances_of kind (drop n kept) marks)
-firsts_leave kind zero kept marks end k e h ends = refl
-firsts_leave kind (suc n) [] marks end k e h ends = refl
-firsts_leave kind (suc n) (x ∷ kept) marks end k e h ends =
-    first_leaves kind x kept marks end k e h (ends x (Contains-head x (take n kept)))
-    ∙ firsts_leave kind n kept marks end k e (nd_tail (λ (z : Kept). z.time) x kept h)
-    (λ z c. end_by_behind kind x kept marks end z k e h (taken n kept z c) (ends z (Contains-tail x (take n kept) z c)))
-  where
-    taken : (n : ℕ) (kept : List Kept) (z : Kept) → Contains (take n kept) z → Contains kept z
-    taken n kept z c = subst (λ l. Contains l z) (take-append-drop n kept) (Contains-append_left (take n kept) (drop n kept) z c)

@@ -7,12 +7,16 @@ pub mod TimesFacts
 pub mod SessionFacts
 pub mod StretchFacts
 pub mod CountFacts
+pub mod HoldingFacts
+pub mod StandFacts
+pub mod SettlingFacts
+pub mod LeaveFacts
+pub mod KindFacts
 pub mod AfterFacts
 pub mod PartFacts
 pub mod EdgeFacts
 pub mod SettledFacts
 pub mod SettledMoves
-pub mod LeaveFacts
 pub mod LeaveChanges
 pub mod KeptFacts
 pub mod NextFacts

@@ -6,21 +6,21 @@ use Rattle.std.specs.List.Sorted.{IsStrictlySortedBy}
 use Rattle.std.specs.Option.{option_map_or}
 use Rattle.std.specs.Ordering.{nat_cmp}
 use Rattle.std.proofs.Math.Nat.{le-div_iff_mul-le}
-use Rattle.std.proofs.lemmas.Bool.{and_from, and_parts, cases_lt, false≢true, le-leb, leb-true, le-ltb, lt-ltb}
+use Rattle.std.proofs.lemmas.Bool.{and_from, and_parts, cases_lt, le-leb, leb-true, le-ltb, lt-ltb}
 use Rattle.std.proofs.lemmas.Bool.Decides.{nat_tests}
 use Rattle.std.proofs.lemmas.Cmp.{nat_cmp_total}
 use Rattle.std.proofs.lemmas.Map.Keys.{sorted_tail}
 use Rattle.std.proofs.lemmas.Option.{slice_get-get_or, slice_get_past}
 use Rattle.stream_base.specs.declared.def.Def.{Def}
 use Rattle.stream_base.specs.declared.kept.Kept.{Kept}
-use Rattle.stream_base.specs.declared.kind.Kind.{Kind}
-use Rattle.stream_base.specs.declared.kind.Kind.TheVariants.{Tumbling, Sliding, Session, Marks, Events}
+use Rattle.stream_base.specs.declared.kind.Kind.TheVariants.{Events}
 use Rattle.stream_base.specs.declared.limits.TheConstants.{FINAL}
 use Rattle.stream_base.specs.Laws.{TimesDoNotFall}
-use Rattle.stream_base.specs.Kinds.{IsKindWithin, is_timed, length_of}
+use Rattle.stream_base.specs.Kinds.{length_of, slide_of, IsKindWithin, is_timed}
 use Rattle.stream_base.specs.Model.Changes.{Moment}
 use Rattle.stream_base.specs.Model.Windows.{Instance, counted, instances_of, interval, ranks, spans, starts_of}
 use Rattle.stream_base.proofs.Distinct.{lt_from_less}
+use Rattle.stream_base.proofs.KindFacts.{timed_instances, timed_within}
 use Rattle.stream_base.proofs.Members.{filter_has, filter_members, map_members, range_members}
 use Rattle.stream_base.proofs.Rising.{below_tail, Contains-cons_cases, Contains-head, Contains-tail, none_in_nil}
 use Rattle.stream_base.proofs.Spans.{starts_of_is_sorted, starts_of_members}
@@ -136,24 +136,15 @@ module _ (length slide : ℕ) (moves : 1 ≤ slide) (overlaps : slide ≤ length
   pub no_next_span : All (λ x. x.time < next_start length slide water) kept → find (λ (i : Instance). nat_lt water i.bound) (spans length slide kept) ≡ None
   no_next_span = not_found
 
+first_open_of_timed : (w : Def) (m : Moment) → is_timed w.kind ≡ true → first_open m w ≡ option_map_or (λ (i : Instance). i.bound) (find (λ (i : Instance). nat_lt m.water i.bound) (spans (length_of w.kind) (slide_of w.kind) m.kept)) FINAL
+first_open_of_timed w m t = ap (λ is. option_map_or (λ (i : Instance). i.bound) (find (λ (i : Instance). nat_lt m.water i.bound) is) FINAL) (timed_instances w.kind m.kept m.marks t)
+
 pub next_of_timed : (w : Def) (m : Moment) (x : Kept) → is_timed w.kind ≡ true → IsKindWithin w.kind → IsFirstFrom m.kept (next_start_of w.kind m.water) x → first_open m w ≡ max (next_start_of w.kind m.water) (next_start_of w.kind x.time) + length_of w.kind
-unfolding instances_of
-next_of_timed w m x t k first = by w.kind t k first
-  where
-    by : (kind : Kind) → is_timed kind ≡ true → IsKindWithin kind → IsFirstFrom m.kept (next_start_of kind m.water) x → option_map_or (λ (i : Instance). i.bound) (find (λ (i : Instance). nat_lt m.water i.bound) (instances_of kind m.kept m.marks)) FINAL ≡ max (next_start_of kind m.water) (next_start_of kind x.time) + length_of kind
-    by (Tumbling length) t k first = ap (λ (o : Option Instance). option_map_or (λ (i : Instance). i.bound) o FINAL) (next_span length length k.0 (omega arith) m.kept m.water x first)
-    by (Sliding length slide) t k first = ap (λ (o : Option Instance). option_map_or (λ (i : Instance). i.bound) o FINAL) (next_span length slide k.2 k.3 m.kept m.water x first)
-    by (Session gap) t k first = absurd (false≢true t)
-    by Marks t k first = absurd (false≢true t)
-    by (Events count) t k first = absurd (false≢true t)
+next_of_timed w m x t k first =
+    let s = timed_within w.kind t k in
+    first_open_of_timed w m t ∙ ap (λ (o : Option Instance). option_map_or (λ (i : Instance). i.bound) o FINAL) (next_span (length_of w.kind) (slide_of w.kind) s.0 s.1 m.kept m.water x first)
 
 pub none_next_of_timed : (w : Def) (m : Moment) → is_timed w.kind ≡ true → IsKindWithin w.kind → All (λ x. x.time < next_start_of w.kind m.water) m.kept → first_open m w ≡ FINAL
-unfolding instances_of
-none_next_of_timed w m t k early = by w.kind t k early
-  where
-    by : (kind : Kind) → is_timed kind ≡ true → IsKindWithin kind → All (λ x. x.time < next_start_of kind m.water) m.kept → option_map_or (λ (i : Instance). i.bound) (find (λ (i : Instance). nat_lt m.water i.bound) (instances_of kind m.kept m.marks)) FINAL ≡ FINAL
-    by (Tumbling length) t k early = ap (λ (o : Option Instance). option_map_or (λ (i : Instance). i.bound) o FINAL) (no_next_span length length k.0 (omega arith) m.kept m.water early)
-    by (Sliding length slide) t k early = ap (λ (o : Option Instance). option_map_or (λ (i : Instance). i.bound) o FINAL) (no_next_span length slide k.2 k.3 m.kept m.water early)
-    by (Session gap) t k early = absurd (false≢true t)
-    by Marks t k early = absurd (false≢true t)
-    by (Events count) t k early = absurd (false≢true t)
+none_next_of_timed w m t k early =
+    let s = timed_within w.kind t k in
+    first_open_of_timed w m t ∙ ap (λ (o : Option Instance). option_map_or (λ (i : Instance). i.bound) o FINAL) (no_next_span (length_of w.kind) (slide_of w.kind) s.0 s.1 m.kept m.water early)

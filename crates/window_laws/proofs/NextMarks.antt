@@ -16,17 +16,18 @@ use Rattle.stream_base.specs.Model.Windows.{Instance, instances_of, interval, is
 use Rattle.stream_base.proofs.Distinct.{All_from_members}
 use Rattle.stream_base.proofs.Members.{filter_has, filter_members}
 use Rattle.stream_base.proofs.Rising.{Contains-head, Contains-tail}
-use Rattle.model_laws.proofs.Selecting.{instances_select}
+use Rattle.stream_base.proofs.KindFacts.{instances_select}
 use Rattle.window_laws.specs.Due.{first_open}
 use Rattle.window_laws.specs.Positions.{AreKept}
 use Rattle.window_laws.specs.Stretches.{IsPutInStretches, if_selecting, last_mark, next_mark}
 use Rattle.window_laws.specs.Walk.{IsFirstFrom}
-use Rattle.window_laws.proofs.DueFacts.{least_of}
-use Rattle.window_laws.proofs.EdgeFacts.{session_sides}
-use Rattle.window_laws.proofs.InstanceFacts.{bounds_are_ends, inside_span, session_runs, sessions_select, spans_hold_selections}
+use Rattle.window_laws.proofs.WalkFacts.{least_of}
+use Rattle.window_laws.proofs.SessionFacts.{session_sides}
+use Rattle.window_laws.proofs.InstanceFacts.{inside_span, session_runs, sessions_select}
+use Rattle.window_laws.proofs.KindFacts.{bounds_are_ends, spans_hold_selections}
 use Rattle.window_laws.proofs.LateFacts.{find_none, some_of_member}
 use Rattle.slice_lists.proofs.Order.{All-map_of, amid}
-use Rattle.window_laws.proofs.SettledMoves.{only_interval, session_last, sessions_apart}
+use Rattle.window_laws.proofs.HoldingFacts.{only_interval, session_last, sessions_apart}
 use Rattle.window_laws.proofs.StretchFacts.{most_of, span_of_holder, stretches_after_put}
 
 find_behind : (q : Instance → Bool) (front : List Instance) (i : Instance) (back : List Instance) → All (λ j. q j ≡ false) front → q i ≡ true → find q (front ++ i ∷ back) ≡ Some i

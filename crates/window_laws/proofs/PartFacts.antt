@@ -19,7 +19,8 @@ use Rattle.stream_base.specs.Model.Changes.{Moment, are_same_tuples, emission, e
 use Rattle.stream_base.specs.Model.Journal.{put_in_order}
 use Rattle.stream_base.specs.Model.Windows.{Instance, instances_of, interval, is_complete, is_selecting, is_within, sessions, standing_of, stretches, within}
 use Rattle.stream_base.proofs.ChangeFacts.{none_emitted, none_retracted}
-use Rattle.stream_base.proofs.Distinct.{instances_rise, is_same_itself}
+use Rattle.stream_base.proofs.Distinct.{is_same_itself}
+use Rattle.stream_base.proofs.KindFacts.{instances_rise}
 use Rattle.window_laws.specs.After.{complete_at, emissions_between, retractions_between, with_mark, with_tuple}
 use Rattle.window_laws.specs.Late.{interval_change}
 use Rattle.window_laws.specs.Sessions.{AreChangesOfNear, IsPutInSessions, joined_session}

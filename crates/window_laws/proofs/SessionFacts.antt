@@ -1,22 +1,24 @@
 -- Sessions after one tuple more.
-use Rattle.std.proofs.Common.{◌≡◌, ◌∙◌, ℕ, suc, ◌+◌, ◌-◌, ◌<◌, ◌≤◌, true, false, List, [], ◌∷◌, ◌++◌, length, map, ap, sym, refl, subst, arith, inl, inr}
+use Rattle.std.proofs.Common.{◌≡◌, ◌∙◌, ℕ, suc, ◌+◌, ◌-◌, ◌<◌, ◌≤◌, true, false, List, [], ◌∷◌, ◌++◌, length, map, ap, sym, refl, subst, arith, inl, inr, get_or}
 use Rattle.std.specs.Prelude.{◌⊎◌, nat_le, nat_lt}
 use Rattle.std.specs.List.{All, Contains, flat_map}
 use Rattle.std.proofs.lemmas.Bool.{leb-true, leb-false, le-leb, ltb-true, ltb-false, lt-ltb, le-ltb}
 use Rattle.std.proofs.lemmas.List.{append-nil, map-append}
-use Rattle.std.proofs.lemmas.List.Elements.{All-cons, All-nil, All-head, All-tail, All-weaker, All-contains}
+use Rattle.std.proofs.lemmas.List.Elements.{All-cons, All-nil, All-head, All-tail, All-weaker, All-contains, Contains-append_cases}
 use Rattle.stream_base.specs.declared.kept.Kept.{Kept}
 use Rattle.stream_base.specs.Laws.{TimesDoNotFall}
 use Rattle.stream_base.specs.Model.Journal.{put_in_order}
 use Rattle.stream_base.specs.Model.Windows.{Instance, first_time, last_time, pieces_of, session, sessions}
 use Rattle.stream_base.proofs.EventOrder.{All_put}
-use Rattle.stream_base.proofs.Members.{Contains-insert_new}
+use Rattle.stream_base.proofs.Members.{Contains-insert_new, map_members}
 use Rattle.slice_lists.specs.Runs.{AreParted, IsPutInRuns, IsRun}
 use Rattle.window_laws.specs.Sessions.{IsPutInSessions, joined_session}
-use Rattle.window_laws.proofs.InstanceFacts.{gap_cut, session_far, session_near, session_runs}
-use Rattle.slice_lists.proofs.Order.{All-map_of, IsApart, IsNear, nd_cons, nd_head, nd_nil, nd_tail, run_spans, runs_before, runs_behind}
+use Rattle.window_laws.proofs.InstanceFacts.{gap_cut, session_far, session_near, session_runs, All-joined}
+use Rattle.slice_lists.proofs.Order.{All-map_of, IsApart, IsNear, nd_cons, nd_head, nd_nil, nd_tail, run_spans, runs_before, runs_behind, All-split, amid, runs_are_runs}
 use Rattle.stream_base.proofs.Filters.{cases_of}
 use Rattle.slice_lists.proofs.RunFacts.{pieces_after_put, put_behind, put_first}
+use Rattle.std.proofs.lemmas.Grind.{flat_map-append}
+use Rattle.stream_base.proofs.Pieces.{pieces_joined}
 
 -- times don't fall with one tuple more
 pub put_times : (kept : List Kept) (x : Kept) → TimesDoNotFall kept → TimesDoNotFall (put_in_order kept x)
@@ -199,3 +201,49 @@ sessions_after_put gap kept x some h =
     (λ a b c l r e. let g : gap ≤ b.time - a.time = leb-true gap (b.time - a.time) e in le-leb gap (c.time - a.time) (omega arith))
     (λ a b c l r e. let g : gap ≤ c.time - b.time = leb-true gap (c.time - b.time) e in le-leb gap (c.time - a.time) (omega arith))
     kept x)
+
+-- ---- the sides of a session
+-- a tuple lies at least the gap in front of a session, in it, or at or behind its end
+module _ (gap : ℕ) (some : 1 ≤ gap) where
+  abbrev pub Sided : List Kept → Kept → Type 0
+  Sided run z = (z.time + gap ≤ first_time run) ⊎ (((first_time run ≤ z.time) × (z.time ≤ last_time run)) ⊎ (last_time run + gap ≤ z.time))
+
+  pub sides : (front : List (List Kept)) (run : List Kept) (back : List (List Kept)) → AreParted (IsNear (gap_cut gap)) (IsApart (gap_cut gap)) (front ++ run ∷ back) → (z : Kept) → Contains (flat_map (λ r. r) (front ++ run ∷ back)) z → (z.time + gap ≤ first_time run) ⊎ (((first_time run ≤ z.time) × (z.time ≤ last_time run)) ⊎ (last_time run + gap ≤ z.time))
+  sides front run back a z c =
+      elim (Contains-append_cases (flat_map (λ r. r) front) (run ++ flat_map (λ r. r) back) z (subst (λ l. Contains l z) (flat_map-append (λ r. r) front (run ∷ back)) c)) [
+        | inl f ↦ inl (All-contains (λ (z : Kept). z.time + gap ≤ first_time run) (flat_map (λ r. r) front) z fronts f)
+        | inr g ↦ elim (Contains-append_cases run (flat_map (λ r. r) back) z g) [
+          | inl h ↦ inr (inl (All-contains (λ (z : Kept). (first_time run ≤ z.time) × (z.time ≤ last_time run)) run z (spans_of run (behind_of gap some z front run back a).0).0 h))
+          | inr h ↦ inr (inr (All-contains (λ (z : Kept). last_time run + gap ≤ z.time) (flat_map (λ r. r) back) z backs h))
+        ]
+      ]
+    where
+      spans_of : (run : List Kept) → IsRun (IsNear (gap_cut gap)) run → All (λ z. (first_time run ≤ z.time) × (z.time ≤ last_time run)) run × (first_time run ≤ last_time run)
+      spans_of = run_spans (IsNear (gap_cut gap)) (IsApart (gap_cut gap)) gap (session_near gap) (far gap some z)
+
+      all : All (IsRun (IsNear (gap_cut gap))) front × All (IsRun (IsNear (gap_cut gap))) (run ∷ back)
+      all = All-split (IsRun (IsNear (gap_cut gap))) front (run ∷ back) (runs_are_runs (IsNear (gap_cut gap)) (IsApart (gap_cut gap)) gap (session_near gap) (far gap some z) (front ++ run ∷ back) a)
+
+      fronts : All (λ (z : Kept). z.time + gap ≤ first_time run) (flat_map (λ r. r) front)
+      fronts =
+          All-joined (λ (z : Kept). z.time + gap ≤ first_time run) front
+          (λ k d l. let b = runs_before (IsNear (gap_cut gap)) (IsApart (gap_cut gap)) gap (session_near gap) (far gap some z) front run back a k d l in
+          let r = (spans_of (get_or front k d) (all.0 k d l)).0 in
+          λ j e m. omega (arith, b.0, (r j e m).1))
+
+      backs : All (λ (z : Kept). last_time run + gap ≤ z.time) (flat_map (λ r. r) back)
+      backs =
+          All-joined (λ (z : Kept). last_time run + gap ≤ z.time) back
+          (λ k d l. let b = runs_behind (IsNear (gap_cut gap)) (IsApart (gap_cut gap)) gap (session_near gap) (far gap some z) run back (behind_of gap some z front run back a) k d l in
+          let r = (spans_of (get_or back k d) (All-tail (IsRun (IsNear (gap_cut gap))) run back all.1 k d l)).0 in
+          λ j e m. omega (arith, b.0, (r j e m).0))
+
+pub session_sides : (gap : ℕ) (kept : List Kept) (i : Instance) → 1 ≤ gap → TimesDoNotFall kept → Contains (sessions gap kept) i → (z : Kept) → Contains kept z
+    → (z.time + gap ≤ i.low) ⊎ (((i.low ≤ z.time) × (z.time + gap ≤ i.high)) ⊎ (i.high ≤ z.time))
+session_sides gap kept i some h c z d =
+    let runs : List (List Kept) = pieces_of (λ x y. nat_le gap (y.time - x.time)) kept in
+    let m : (run : List Kept) × Contains runs run × (session gap run ≡ i) = map_members (session gap) runs i c in
+    let a = amid runs m.0 m.1 in
+    let s = sides gap some a.front m.0 a.back (subst (AreParted (IsNear (gap_cut gap)) (IsApart (gap_cut gap))) a.is (session_runs gap kept h)) z (subst (λ l. Contains l z) (sym (pieces_joined (λ x y. nat_le gap (y.time - x.time)) kept) ∙ ap (flat_map (λ r. r)) a.is) d) in
+    subst (λ (j : Instance). (z.time + gap ≤ j.low) ⊎ (((j.low ≤ z.time) × (z.time + gap ≤ j.high)) ⊎ (j.high ≤ z.time))) m.2
+    (elim s [ inl e ↦ inl e | inr e ↦ inr (elim e [ inl f ↦ inl (f.0, omega (arith, f.1)) | inr f ↦ inr f ]) ])

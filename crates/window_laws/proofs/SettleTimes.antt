@@ -1,40 +1,33 @@
 -- When a tuple settles in a window, by its kind.
-use Rattle.std.proofs.Common.{◌≡◌, ◌∙◌, ℕ, ◌+◌, ◌-◌, ◌*◌, ◌/◌, ◌<◌, ◌≤◌, true, false, List, ◌∷◌, ◌++◌, ap, sym, refl, subst, arith, inl, inr, append_assoc}
+use Rattle.std.proofs.Common.{◌≡◌, ◌∙◌, ℕ, ◌+◌, ◌-◌, ◌*◌, ◌/◌, ◌<◌, ◌≤◌, true, false, List, ◌∷◌, ◌++◌, ap, sym, subst, arith, inl, inr, append_assoc}
 use Rattle.std.specs.Prelude.{◌↔◌, nat_le}
 use Rattle.std.specs.List.{All, Contains}
-use Rattle.std.proofs.lemmas.Bool.{false≢true}
 use Rattle.std.proofs.lemmas.List.Elements.{All-contains, Contains-append_cases, Contains-append_right}
 use Rattle.std.proofs.lemmas.Nat.{le-div}
 use Rattle.stream_base.specs.declared.def.Def.{Def}
 use Rattle.stream_base.specs.declared.kept.Kept.{Kept}
 use Rattle.stream_base.specs.declared.kind.Kind.{Kind}
-use Rattle.stream_base.specs.declared.kind.Kind.TheVariants.{Tumbling, Sliding, Session, Marks, Events}
+use Rattle.stream_base.specs.declared.kind.Kind.TheVariants.{Session, Marks}
 use Rattle.stream_base.specs.declared.limits.TheConstants.{FINAL}
 use Rattle.stream_base.specs.Laws.{TimesDoNotFall}
-use Rattle.stream_base.specs.Kinds.{IsKindWithin, is_events, is_timed}
+use Rattle.stream_base.specs.Kinds.{length_of, slide_of, IsKindWithin, is_events, is_timed}
 use Rattle.stream_base.specs.Model.Changes.{Moment}
 use Rattle.stream_base.specs.Model.Slices.{is_settled_in}
 use Rattle.stream_base.specs.Model.Windows.{Instance, instances_of, pieces_of, sessions, spans}
 use Rattle.stream_base.proofs.Rising.{Contains-cons_cases, Contains-head}
 use Rattle.window_laws.specs.Positions.{AreKept}
-use Rattle.window_laws.specs.Settled.{IsSettledAt, last_end_of}
+use Rattle.stream_base.proofs.KindFacts.{timed_counts_not, timed_instances, timed_within}
+use Rattle.window_laws.specs.Settled.{last_end_of}
 use Rattle.window_laws.specs.Stretches.{next_mark}
 use Rattle.window_laws.proofs.InstanceFacts.{session_runs}
 use Rattle.window_laws.proofs.NextMarks.{stretch_span}
 use Rattle.slice_lists.proofs.Order.{amid}
-use Rattle.window_laws.proofs.SettledFacts.{settled_by_times, span_at, times_settle}
-use Rattle.window_laws.proofs.SettledMoves.{sessions_apart, span_low}
+use Rattle.window_laws.proofs.SettledFacts.{settled_by_times, times_settle}
+use Rattle.window_laws.proofs.HoldingFacts.{span_at, sessions_apart, span_low}
 use Rattle.window_laws.proofs.StretchFacts.{stretch_holding}
 
 times_mono : (a b c : ℕ) → a ≤ b → a * c ≤ b * c
 times_mono a b c h = grind arith
-
-timed_isnt_events : (kind : Kind) → is_timed kind ≡ true → is_events kind ≡ false
-timed_isnt_events (Tumbling length) t = refl
-timed_isnt_events (Sliding length slide) t = refl
-timed_isnt_events (Session gap) t = absurd (false≢true t)
-timed_isnt_events Marks t = absurd (false≢true t)
-timed_isnt_events (Events count) t = absurd (false≢true t)
 
 -- ---- tumbling and sliding
 module _ (length slide : ℕ) (moves : 1 ≤ slide) (overlaps : slide ≤ length) (kept : List Kept) (x : Kept) (lateness water : ℕ) where
@@ -48,25 +41,17 @@ module _ (length slide : ℕ) (moves : 1 ≤ slide) (overlaps : slide ≤ length
       omega (arith, s.2, times_mono s.0 (x.time / slide) slide k)
 
 pub timed_settles : (lateness : ℕ) (m : Moment) (x : Kept) (w : Def) → AreKept m.kept → IsKindWithin w.kind → is_timed w.kind ≡ true → Contains m.kept x → (is_settled_in lateness m x w ≡ true) ↔ (last_end_of w.kind x.time + lateness ≤ m.water)
-unfolding instances_of
-timed_settles lateness m x w a k t c = (
-  λ s. there w.kind t k (settled_by_times lateness m x w a k (timed_isnt_events w.kind t) c s),
-  λ l. times_settle lateness m x w a k (timed_isnt_events w.kind t) c (back w.kind t k l),
-)
+timed_settles lateness m x w a k t c =
+    let s = timed_within w.kind t k in
+    let e = timed_counts_not w.kind t in (
+      λ settled. last_span (length_of w.kind) (slide_of w.kind) s.0 s.1 m.kept x lateness m.water c
+          (subst Ended (timed_instances w.kind m.kept m.marks t) (settled_by_times lateness m x w a k e c settled)),
+      λ over. times_settle lateness m x w a k e c
+          (subst Ended (sym (timed_instances w.kind m.kept m.marks t)) (each_span (length_of w.kind) (slide_of w.kind) s.0 s.1 m.kept x lateness m.water over)),
+    )
   where
-    there : (kind : Kind) → is_timed kind ≡ true → IsKindWithin kind → IsSettledAt lateness kind m x.time → last_end_of kind x.time + lateness ≤ m.water
-    there (Tumbling length) t k s = last_span length length k.0 (omega arith) m.kept x lateness m.water c s
-    there (Sliding length slide) t k s = last_span length slide k.2 k.3 m.kept x lateness m.water c s
-    there (Session gap) t k s = absurd (false≢true t)
-    there Marks t k s = absurd (false≢true t)
-    there (Events count) t k s = absurd (false≢true t)
-
-    back : (kind : Kind) → is_timed kind ≡ true → IsKindWithin kind → last_end_of kind x.time + lateness ≤ m.water → IsSettledAt lateness kind m x.time
-    back (Tumbling length) t k l = each_span length length k.0 (omega arith) m.kept x lateness m.water l
-    back (Sliding length slide) t k l = each_span length slide k.2 k.3 m.kept x lateness m.water l
-    back (Session gap) t k l = absurd (false≢true t)
-    back Marks t k l = absurd (false≢true t)
-    back (Events count) t k l = absurd (false≢true t)
+    Ended : List Instance → Type 0
+    Ended is = (i : Instance) → Contains is i → i.low ≤ x.time → x.time < i.high → i.high + lateness ≤ m.water
 
 -- ---- sessions
 -- of two sessions that hold a time there is but one

@@ -1,16 +1,13 @@
 -- Settled tuples: a prefix of what is kept, with a cut behind it.
-use Rattle.std.proofs.Common.{◌≡◌, ◌∙◌, ℕ, suc, ◌+◌, ◌-◌, ◌*◌, ◌/◌, ◌%◌, ◌<◌, ◌≤◌, Bool, true, false, cond, not, List, [], ◌∷◌, ◌++◌, length, get_or, drop, ap, sym, refl, subst, arith, inl, inr}
+use Rattle.std.proofs.Common.{◌≡◌, ◌∙◌, ℕ, suc, ◌+◌, ◌<◌, ◌≤◌, Bool, true, false, cond, not, List, [], ◌∷◌, ◌++◌, length, get_or, drop, ap, sym, refl, subst, arith, inl, inr}
 use Rattle.std.specs.Prelude.{◌⊎◌, ◌↔◌, ◌≢◌, ◌||◌, ◌&&◌, ◌==◌, nat_le, nat_lt}
 use Rattle.std.specs.List.{All, Contains, filter, list_all, list_any}
 use Rattle.std.proofs.Math.Seq.{drop-append_seam}
 use Rattle.std.proofs.lemmas.Bool.{and_from, and_parts, cases_Bool, cases_lt, eqb-true, eq-eqb, false≢true, false_from_ne_true, le-leb, leb-true, leb-false, ltb-true, or_left, or_right}
 use Rattle.std.proofs.lemmas.List.Elements.{All-contains, Contains-append_right, Contains-get_or}
-use Rattle.std.proofs.lemmas.Nat.{div-add-mod'}
-use Rattle.std.proofs.Math.Nat.{mod-lt}
 use Rattle.stream_base.specs.declared.def.Def.{Def}
 use Rattle.stream_base.specs.declared.kept.Kept.{Kept}
 use Rattle.stream_base.specs.declared.kind.Kind.{Kind}
-use Rattle.stream_base.specs.declared.kind.Kind.TheVariants.{Tumbling, Sliding, Session, Marks, Events}
 use Rattle.stream_base.specs.declared.limits.TheConstants.{FINAL}
 use Rattle.stream_base.specs.Laws.{TimesDoNotFall}
 use Rattle.stream_base.specs.Limits.{Definitions}
@@ -18,20 +15,17 @@ use Rattle.stream_base.specs.Kinds.{IsKindWithin, is_events}
 use Rattle.stream_base.specs.Model.Changes.{Moment}
 use Rattle.stream_base.specs.Model.Cuts.{has_cut}
 use Rattle.stream_base.specs.Model.Slices.{is_settled, is_settled_in, selects, unsettled}
-use Rattle.stream_base.specs.Model.Windows.{Instance, first_time, instances_of, interval, is_within, last_time, pieces_of, session, sessions, spans, starts_of, within}
+use Rattle.stream_base.specs.Model.Windows.{Instance, instances_of, is_within, within}
 use Rattle.stream_base.proofs.ChangeFacts.{any_from_member}
-use Rattle.stream_base.proofs.Members.{filter_has, filter_members, flat_map_members, map_has}
-use Rattle.stream_base.proofs.Pieces.{pieces_joined}
+use Rattle.stream_base.proofs.Members.{filter_has, filter_members}
 use Rattle.stream_base.proofs.Rising.{Contains-cons_cases, Contains-head, Contains-tail, none_in_nil}
-use Rattle.stream_base.proofs.Spans.{starts_of_has}
 use Rattle.window_laws.specs.Positions.{AreKept, HaveDistinctPositions}
-use Rattle.slice_lists.specs.Runs.{IsRun}
 use Rattle.window_laws.specs.Settled.{IsSettledAt, settled}
 use Rattle.window_laws.proofs.EdgeFacts.{edge_is_cut}
-use Rattle.window_laws.proofs.InstanceFacts.{gap_cut, inside_span, session_far, session_near, session_runs, spans_hold_selections}
+use Rattle.window_laws.proofs.InstanceFacts.{inside_span}
+use Rattle.window_laws.proofs.KindFacts.{spans_hold_selections, holding}
 use Rattle.stream_base.proofs.Filters.{filter_all, filter_none}
-use Rattle.slice_lists.proofs.Order.{IsApart, IsNear, nd_head, nd_tail, run_spans, runs_are_runs}
-use Rattle.window_laws.proofs.StretchFacts.{stretch_holding}
+use Rattle.slice_lists.proofs.Order.{nd_head, nd_tail}
 
 -- ---- members and tests
 any_member : {X : Type 0} (p : X → Bool) (xs : List X) → list_any p xs ≡ true → (x : X) × Contains xs x × (p x ≡ true)
@@ -108,37 +102,6 @@ times_settle lateness m x def a k e d s =
       | inl u ↦ or_right (not (selects x i)) (nat_le (i.high + lateness) m.water) (let g = held_selected m.kept m.marks a def.kind k e i x c d u in le-leb (i.high + lateness) m.water (s i c g.0 g.1))
       | inr u ↦ or_left (not (selects x i)) (nat_le (i.high + lateness) m.water) (ap not u)
     ])
-
--- ---- each kept tuple is held by an instance
--- the last interval of a tumbling or sliding window that holds a kept tuple
-pub span_at : (length slide : ℕ) (moves : 1 ≤ slide) (overlaps : slide ≤ length) (kept : List Kept) (x : Kept) → Contains kept x
-    → (i : Instance) × Contains (spans length slide kept) i × (i.low ≤ x.time) × (x.time < i.high) × (i.high ≡ x.time / slide * slide + length)
-span_at length slide moves overlaps kept x c =
-    let k = x.time / slide in
-    let whole : k * slide + x.time % slide ≡ x.time = div-add-mod' x.time slide in
-    let part : x.time % slide < slide = mod-lt x.time moves in
-    let low : k * slide ≤ x.time = omega (arith, whole) in
-    let high : x.time < k * slide + length = omega (arith, whole, part) in
-    (interval (k * slide) (k * slide + length) kept, map_has (λ low. interval low (low + length) kept) (starts_of length slide kept) (k * slide) (starts_of_has length slide moves overlaps kept x k c low high), low, high, refl)
-
-span_holding : (length slide : ℕ) → 1 ≤ slide → slide ≤ length → (kept : List Kept) (x : Kept) → Contains kept x → (i : Instance) × Contains (spans length slide kept) i × (i.low ≤ x.time) × (x.time < i.high)
-span_holding length slide moves overlaps kept x c = let s = span_at length slide moves overlaps kept x c in (s.0, s.1, s.2, s.3)
-
-session_holding : (gap : ℕ) (kept : List Kept) (x : Kept) → 1 ≤ gap → TimesDoNotFall kept → Contains kept x → (i : Instance) × Contains (sessions gap kept) i × (i.low ≤ x.time) × (x.time < i.high)
-session_holding gap kept x some h c =
-    let runs : List (List Kept) = pieces_of (λ x y. nat_le gap (y.time - x.time)) kept in
-    let m : (run : List Kept) × Contains runs run × Contains run x = flat_map_members (λ run. run) runs x (subst (λ l. Contains l x) (sym (pieces_joined (λ x y. nat_le gap (y.time - x.time)) kept)) c) in
-    let r : IsRun (IsNear (gap_cut gap)) m.0 = All-contains (IsRun (IsNear (gap_cut gap))) runs m.0 (runs_are_runs (IsNear (gap_cut gap)) (IsApart (gap_cut gap)) gap (session_near gap) (λ a b. session_far gap a b some) runs (session_runs gap kept h)) m.1 in
-    let s = All-contains (λ (z : Kept). (first_time m.0 ≤ z.time) × (z.time ≤ last_time m.0)) m.0 x (run_spans (IsNear (gap_cut gap)) (IsApart (gap_cut gap)) gap (session_near gap) (λ a b. session_far gap a b some) m.0 r).0 m.2 in
-    (session gap m.0, map_has (session gap) runs m.0 m.1, s.0, omega (arith, s.1))
-
-pub holding : (kind : Kind) (kept : List Kept) (marks : List ℕ) (x : Kept) → IsKindWithin kind → is_events kind ≡ false → TimesDoNotFall kept → x.time < FINAL → Contains kept x → (i : Instance) × Contains (instances_of kind kept marks) i × (i.low ≤ x.time) × (x.time < i.high)
-unfolding instances_of
-holding (Tumbling length) kept marks x k e h f c = span_holding length length k.0 (omega arith) kept x c
-holding (Sliding length slide) kept marks x k e h f c = span_holding length slide k.2 k.3 kept x c
-holding (Session gap) kept marks x k e h f c = session_holding gap kept x k.0 h c
-holding Marks kept marks x k e h f c = stretch_holding marks kept x f c
-holding (Events count) kept marks x k e h f c = absurd (false≢true (sym e))
 
 -- ---- one window: earlier tuples are settled first, with a cut behind
 module _ (lateness : ℕ) (m : Moment) (a : AreKept m.kept) (def : Def) (k : IsKindWithin def.kind) where

@@ -21,7 +21,7 @@ use Rattle.stream_base.proofs.Members.{filter_has, filter_members, Contains-inse
 use Rattle.stream_base.proofs.Rising.{below_tail, nat_rising_is_sorted, same_members_same_list, sorted_insert_key, Contains-cons_cases, Contains-from_rising, Contains-head, Contains-insert_key, Contains-insert_key_cases, Contains-insert_key_self, Contains-rising, Contains-tail, none_in_nil}
 use Rattle.stream_base.proofs.Spans.{within_put}
 use Rattle.window_laws.specs.Stretches.{IsMarkedInStretches, IsPutInStretches, if_selecting, last_mark, next_mark}
-use Rattle.window_laws.proofs.DueFacts.{least_below, least_of}
+use Rattle.window_laws.proofs.WalkFacts.{least_below, least_of}
 use Rattle.window_laws.proofs.InstanceFacts.{inside_span}
 use Rattle.window_laws.proofs.LateFacts.{some_of_member}
 use Rattle.stream_base.proofs.Filters.{filter_none}

@@ -6,12 +6,10 @@ use Rattle.std.specs.Ordering.{nat_cmp}
 use Rattle.std.proofs.lemmas.List.{drop-map, length-map, take-map}
 use Rattle.stream_base.specs.declared.limits.TheConstants.{FINAL}
 use Rattle.stream_base.specs.declared.kept.Kept.{Kept}
-use Rattle.stream_base.specs.declared.kind.Kind.{Kind}
-use Rattle.stream_base.specs.declared.kind.Kind.TheVariants.{Tumbling, Sliding, Session, Marks, Events}
 use Rattle.stream_base.specs.Model.Journal.{rising}
-use Rattle.stream_base.specs.Model.Windows.{Instance, between_times, counted, first_time, glued, instances_of, interval, is_selecting, is_within, last_time, pieces_of, ranks, session, sessions, spans, starts_holding, starts_of, stretches, within}
+use Rattle.stream_base.specs.Model.Windows.{Instance, between_times, counted, first_time, glued, interval, is_selecting, is_within, last_time, pieces_of, ranks, session, sessions, spans, starts_holding, starts_of, stretches, within}
 use Rattle.stream_base.proofs.Members.{filter_map_of, filter_same, map_same}
-use Rattle.window_laws.specs.Instances.{KeepsTimes, with_each}
+use Rattle.window_laws.specs.Instances.{with_each}
 
 pub map_map : {X Y Z : Type 0} (g : Y → Z) (f : X → Y) (xs : List X) → map g (map f xs) ≡ map (λ x. g (f x)) xs
 map_map g f [] = refl
@@ -30,7 +28,7 @@ module _ (r : Kept → Kept) (keeps : (x : Kept) → (r x).time ≡ x.time) wher
   interval_each : (low high : ℕ) (kept : List Kept) → interval low high (map r kept) ≡ with_each r (interval low high kept)
   interval_each low high kept = λ i. record { low = low; high = high; bound = high; chosen = within_each low high kept i }
 
-  spans_each : (length slide : ℕ) (kept : List Kept) → spans length slide (map r kept) ≡ map (with_each r) (spans length slide kept)
+  pub spans_each : (length slide : ℕ) (kept : List Kept) → spans length slide (map r kept) ≡ map (with_each r) (spans length slide kept)
   spans_each length slide kept =
       ap (map (λ low. interval low (low + length) (map r kept))) (ap (rising nat_cmp) (flat_times (starts_holding length slide) kept))
       ∙ map_same (λ low. interval low (low + length) (map r kept)) (λ low. with_each r (interval low (low + length) kept)) (starts_of length slide kept) (λ low c. interval_each low (low + length) kept)
@@ -67,7 +65,7 @@ module _ (r : Kept → Kept) (keeps : (x : Kept) → (r x).time ≡ x.time) wher
     pieces_each [] = refl
     pieces_each (x ∷ xs) = ap (glued by_cut (r x)) (pieces_each xs) ∙ glued_each x (pieces_of by_cut xs)
 
-  sessions_each : (gap : ℕ) (kept : List Kept) → sessions gap (map r kept) ≡ map (with_each r) (sessions gap kept)
+  pub sessions_each : (gap : ℕ) (kept : List Kept) → sessions gap (map r kept) ≡ map (with_each r) (sessions gap kept)
   sessions_each gap kept =
       ap (map (session gap)) (pieces_each (λ a b. nat_le gap (b - a)) kept)
       ∙ map_map (session gap) (map r) runs
@@ -82,7 +80,7 @@ module _ (r : Kept → Kept) (keeps : (x : Kept) → (r x).time ≡ x.time) wher
   between_each (a ∷ []) kept = refl
   between_each (a ∷ b ∷ times) kept = λ i. interval_each a b kept i ∷ between_each (b ∷ times) kept i
 
-  stretches_each : (marks : List ℕ) (kept : List Kept) → stretches marks (map r kept) ≡ map (with_each r) (stretches marks kept)
+  pub stretches_each : (marks : List ℕ) (kept : List Kept) → stretches marks (map r kept) ≡ map (with_each r) (stretches marks kept)
   stretches_each marks kept =
       ap (filter is_selecting) (between_each (rising nat_cmp (0 ∷ marks ++ FINAL ∷ [])) kept)
       ∙ filter_map_of is_selecting (with_each r) all
@@ -97,16 +95,8 @@ module _ (r : Kept → Kept) (keeps : (x : Kept) → (r x).time ≡ x.time) wher
       let l : last_time (take count (drop (n * count) (map r kept))) ≡ last_time (take count (drop (n * count) kept)) = ap last_time e ∙ last_each (take count (drop (n * count) kept)) in
       λ i. record { low = n * count; high = (n + 1) * count; bound = l i; chosen = e i }
 
-  counted_each : (count : ℕ) (kept : List Kept) → counted count (map r kept) ≡ map (with_each r) (counted count kept)
+  pub counted_each : (count : ℕ) (kept : List Kept) → counted count (map r kept) ≡ map (with_each r) (counted count kept)
   counted_each count kept =
       ap (λ n. map (ranks count (map r kept)) (range_with_len 0 (n / count))) (length-map kept r)
       ∙ map_same (ranks count (map r kept)) (λ n. with_each r (ranks count kept n)) (range_with_len 0 (length kept / count)) (λ n c. ranks_each count kept n)
       ∙ sym (map_map (with_each r) (ranks count kept) (range_with_len 0 (length kept / count)))
-
-pub instances_each : (r : Kept → Kept) (kind : Kind) (kept : List Kept) (marks : List ℕ) → KeepsTimes r → instances_of kind (map r kept) marks ≡ map (with_each r) (instances_of kind kept marks)
-unfolding instances_of
-instances_each r (Tumbling length) kept marks keeps = spans_each r keeps length length kept
-instances_each r (Sliding length slide) kept marks keeps = spans_each r keeps length slide kept
-instances_each r (Session gap) kept marks keeps = sessions_each r keeps gap kept
-instances_each r Marks kept marks keeps = stretches_each r keeps marks kept
-instances_each r (Events count) kept marks keeps = counted_each r keeps count kept

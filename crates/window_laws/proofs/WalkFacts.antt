@@ -1,5 +1,5 @@
 -- The walk over the intervals that a move of the watermark completes.
-use Rattle.std.proofs.Common.{◌≡◌, ◌∙◌, ℕ, ◌+◌, ◌-◌, ◌*◌, ◌/◌, ◌%◌, ◌<◌, ◌≤◌, max, Bool, true, false, List, [], ◌∷◌, map, ap, sym, refl, subst, inl, inr, ⊎_elim, arith}
+use Rattle.std.proofs.Common.{◌≡◌, ◌∙◌, ℕ, ◌+◌, ◌-◌, ◌*◌, ◌/◌, ◌%◌, ◌<◌, ◌≤◌, max, Bool, true, false, List, [], ◌∷◌, map, ap, sym, refl, subst, inl, inr, ⊎_elim, arith, min, fold}
 use Rattle.std.specs.Prelude.{◌⊎◌, ◌&&◌, nat_le, nat_lt}
 use Rattle.std.specs.List.{All, Contains, filter}
 use Rattle.std.specs.List.Sorted.{IsStrictlySortedBy}
@@ -15,7 +15,7 @@ use Rattle.stream_base.specs.Laws.{becomes_complete}
 use Rattle.stream_base.specs.Model.Windows.{interval, spans, starts_of}
 use Rattle.stream_base.proofs.Distinct.{less_from_lt, All_from_members}
 use Rattle.stream_base.proofs.Members.{filter_members, filter_has, filter_map_of, filter_same}
-use Rattle.stream_base.proofs.Rising.{sorted_cons, same_members_same_list, Contains-head, Contains-at_head, Contains-tail, Contains-cons_cases}
+use Rattle.stream_base.proofs.Rising.{sorted_cons, same_members_same_list, Contains-head, Contains-at_head, Contains-tail, Contains-cons_cases, none_in_nil}
 use Rattle.stream_base.proofs.Spans.{starts_of_members, starts_of_has, starts_of_is_sorted}
 use Rattle.window_laws.specs.Walk.{due_from, next_start, IsFirstFrom, WalksOn}
 
@@ -166,3 +166,15 @@ completed_from length slide kept old new moves overlaps = completed length slide
 
 pub none_due : (length slide : ℕ) (kept : List Kept) (from new : ℕ) → 1 ≤ slide → slide ≤ length → All (λ x. x.time < from) kept → due_from length slide kept from new ≡ []
 none_due length slide kept from new moves overlaps early = no_due length slide moves overlaps kept from new early
+
+pub least_below : (start : ℕ) (xs : List ℕ) → fold min start xs ≤ start
+least_below start [] = omega arith
+least_below start (x ∷ xs) = omega (arith, least_below (min start x) xs)
+
+pub least_of : (start : ℕ) (xs : List ℕ) (x : ℕ) → Contains xs x → fold min start xs ≤ x
+least_of start [] x c = absurd (none_in_nil x c)
+least_of start (y ∷ ys) x c =
+    ⊎_elim
+    (λ e. omega (arith, least_below (min start y) ys, e))
+    (λ d. least_of (min start y) ys x d)
+    (Contains-cons_cases y ys x c)

@@ -1,5 +1,5 @@
 -- What a late tuple changes of a tumbling or sliding window.
-use Rattle.std.specs.Prelude.{◌+◌, ℕ, List, filter, map, length, nat_le, if◌then◌else◌}
+use Rattle.std.specs.Prelude.{◌+◌, ℕ, List, filter, map, nat_le, if◌then◌else◌}
 use Rattle.stream_base.specs.Kinds.{length_of, slide_of}
 use Rattle.stream_base.specs.declared.change.Change.{Change}
 use Rattle.stream_base.specs.declared.change.Change.TheVariants.{New, Again}

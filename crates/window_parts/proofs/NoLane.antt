@@ -3,7 +3,7 @@ use Rattle.std.proofs.Common.{◌≡◌, ◌∙◌, ℕ, ◌+◌, ◌-◌, ◌*�
 use Rattle.std.proofs.lemmas.Bool.{false≢true, le-ltb}
 use Rattle.stream_base.specs.declared.kept.Kept.{Kept}
 use Rattle.stream_base.specs.declared.kind.Kind.{Kind}
-use Rattle.stream_base.specs.declared.kind.Kind.TheVariants.{Tumbling, Sliding, Session, Marks, Events}
+use Rattle.stream_base.specs.declared.kind.Kind.TheVariants.{Tumbling, Sliding}
 use Rattle.stream_base.specs.Kinds.{is_timed, length_of}
 use Rattle.stream_base.specs.Model.Windows.{first_time}
 use Rattle.slice_lists.specs.Runs.{runs_within}
@@ -22,9 +22,7 @@ ends_nowhere water = ap (λ b. cond b 0 ((water - 0) / 0 * 0 + 0)) (le-ltb water
 pub no_end : (kind : Kind) (water : ℕ) → is_timed kind ≡ false → last_end_by kind water ≡ 0
 no_end (Tumbling length) water t = absurd (false≢true (sym t))
 no_end (Sliding length slide) water t = absurd (false≢true (sym t))
-no_end (Session gap) water t = ends_nowhere water
-no_end Marks water t = ends_nowhere water
-no_end (Events count) water t = ends_nowhere water
+no_end kind water t = ends_nowhere water
 
 -- no slice begins before 0
 none_before : (low : ℕ) (runs : List (List Kept)) → runs_within low 0 runs ≡ []

@@ -1,2 +1,2 @@
-pub mod Any
-pub mod Untold
+pub mod Either
+pub mod Kinds

@@ -10,7 +10,7 @@ use Rattle.stream_base.specs.declared.limits.TheConstants.{FINAL}
 use Rattle.stream_base.proofs.Members.{filter_has}
 use Rattle.stream_base.specs.Places.{IsPlaceOf}
 use Rattle.window_laws.specs.Stretches.{last_mark, next_mark}
-use Rattle.window_laws.proofs.DueFacts.{least_below, least_of}
+use Rattle.window_laws.proofs.WalkFacts.{least_below, least_of}
 use Rattle.window_laws.proofs.StretchFacts.{most_of}
 use Rattle.slice_lists.proofs.PlaceFacts.{marks_do_not_fall}
 use Rattle.window_spans.proofs.Apart.{All_filtered}

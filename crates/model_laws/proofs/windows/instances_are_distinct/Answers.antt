@@ -1,5 +1,6 @@
 use Rattle.stream_base.specs.Model.Windows.{instances_of}
-use Rattle.stream_base.proofs.Distinct.{instances_rise, one_of_a_start, find_same}
+use Rattle.stream_base.proofs.Distinct.{one_of_a_start, find_same}
+use Rattle.stream_base.proofs.KindFacts.{instances_rise}
 use Rattle.model_laws.proofs.windows.instances_are_distinct.Goals as goal
 
 pub returns-clause-rise : goal.returns-clause-rise

@@ -1,4 +1,4 @@
-use Rattle.model_laws.proofs.Selecting.{instances_select}
+use Rattle.stream_base.proofs.KindFacts.{instances_select}
 use Rattle.model_laws.proofs.windows.instances_select_tuples.Goals as goal
 
 pub returns : goal.returns

@@ -1,6 +1,6 @@
--- Kind by kind.
-use Rattle.plain_windows.proofs.BoundFacts.{instances_bounds}
+-- As a law below has it.
 use Rattle.plain_windows.proofs.laws.bounds_do_not_fall.Goals as goal
+use Rattle.window_laws.proofs.KindFacts.{bounds_do_not_fall}
 
 pub returns : goal.returns
-returns c kind kept marks within times = instances_bounds kind kept marks within times
+returns c = bounds_do_not_fall

@@ -1,4 +1,4 @@
-use Rattle.window_laws.proofs.AfterFacts.{mark_after_stands, tuple_after_stands, tuple_at_stands}
+use Rattle.window_laws.proofs.KindFacts.{mark_after_stands, tuple_after_stands, tuple_at_stands}
 use Rattle.window_laws.proofs.after.what_comes_after_the_watermark_leaves_what_stands.Goals as goal
 
 pub returns-clause-tuple : goal.returns-clause-tuple

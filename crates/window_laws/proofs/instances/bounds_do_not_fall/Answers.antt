@@ -1,4 +1,4 @@
-use Rattle.window_laws.proofs.InstanceFacts.{bounds_do_not_fall, move_adds_behind, standing_comes_first}
+use Rattle.window_laws.proofs.KindFacts.{bounds_do_not_fall, move_adds_behind, standing_comes_first}
 use Rattle.window_laws.proofs.instances.bounds_do_not_fall.Goals as goal
 
 pub returns-clause-along : goal.returns-clause-along

@@ -1,4 +1,4 @@
-use Rattle.window_laws.proofs.InstanceFacts.{bounds_are_ends, spans_hold_selections}
+use Rattle.window_laws.proofs.KindFacts.{bounds_are_ends, spans_hold_selections}
 use Rattle.window_laws.proofs.instances.instances_select_what_their_spans_hold.Goals as goal
 
 pub returns-clause-selection : goal.returns-clause-selection

@@ -1,4 +1,4 @@
-use Rattle.window_laws.proofs.TimesFacts.{instances_each}
+use Rattle.window_laws.proofs.KindFacts.{instances_each}
 use Rattle.window_laws.proofs.instances.times_alone_make_instances.Goals as goal
 
 pub returns : goal.returns

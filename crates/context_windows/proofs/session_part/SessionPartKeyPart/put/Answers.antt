@@ -6,7 +6,8 @@ use Rattle.window_spans.specs.Spans.{told_at}
 use Rattle.context_windows.specs.Spanned.{FollowsSessions, Remembers, gap_at}
 use Rattle.context_windows.proofs.Aligning.{told_aligned}
 use Rattle.window_laws.specs.After.{with_tuple}
-use Rattle.context_windows.proofs.OfSessions.{no_events, of_sessions, session_work, sessions_held, told_once}
+use Rattle.context_windows.proofs.Following.{no_events}
+use Rattle.context_windows.proofs.OfSessions.{of_sessions, session_work, sessions_held, told_once}
 use Rattle.context_windows.proofs.Rest.{is_window, left_with, rest_with}
 use Rattle.context_windows.proofs.session_part.SessionPartKeyPart.put.Goals as goal
 

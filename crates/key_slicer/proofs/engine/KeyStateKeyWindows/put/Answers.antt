@@ -156,7 +156,7 @@ returns-then-needs_no_part-clause-taken g c = record {
       let more = (c.put_in-entered.ensures.comes f.without).0 in
       let step = put_step g.P.KeyPart.stands d m s.next s.store s.parts.list.items x more c.put_in-entered.new.store f c.requires.position c.requires.few c.requires.comes.in_time.within c.requires.comes.in_time.accepted (c.put_in-entered.ensures.comes f.without).1 in
       (fits_put g.P.KeyPart.stands d kept marks c.args.water f.without s.store x more c.put_in-entered.new.store s.parts.list.items c.requires.comes.ready.water_is fits.none_settled step (search rules)
-      (all_untold g.P.KeyPart.stands d m f.without s.store x more c.put_in-entered.new.store s.parts.list.items (c.needs_no_part.ensures.timed c.if-needs_no_part.true) (c.needs_no_part.ensures.behind c.if-needs_no_part.true) step f.stood (g.met.P.AnyPart.stands_with_tuple d)) c.put_in-entered.ensures.bare);
+      (all_untold g.P.KeyPart.stands d m f.without s.store x more c.put_in-entered.new.store s.parts.list.items (c.needs_no_part.ensures.timed c.if-needs_no_part.true) (c.needs_no_part.ensures.behind c.if-needs_no_part.true) step f.stood (g.met.P.KeyPart.stands_with_tuple d)) c.put_in-entered.ensures.bare);
 }
 
 pub returns-then-needs_no_part-clause-work : goal.returns-then-needs_no_part-clause-work
@@ -217,5 +217,5 @@ returns-then-needs_no_part-clause-pace g c = record {
       let f = r.2.known in
       let more = (c.put_in-entered.ensures.comes f.without).0 in
       let step = put_step g.P.KeyPart.stands d m s.next s.store s.parts.list.items x more c.put_in-entered.new.store f c.requires.position c.requires.few c.requires.comes.in_time.within c.requires.comes.in_time.accepted (c.put_in-entered.ensures.comes f.without).1 in
-      all_untold_ahead g.P.KeyPart.stands d m f.without s.store x more c.put_in-entered.new.store s.parts.list.items (c.needs_no_part.ensures.timed c.if-needs_no_part.true) (c.needs_no_part.ensures.behind c.if-needs_no_part.true) step f.stood g.P.KeyPart.is_ahead (g.met.P.AnyPart.ahead_with_tuple d) each;
+      all_untold_ahead g.P.KeyPart.stands d m f.without s.store x more c.put_in-entered.new.store s.parts.list.items (c.needs_no_part.ensures.timed c.if-needs_no_part.true) (c.needs_no_part.ensures.behind c.if-needs_no_part.true) step f.stood g.P.KeyPart.is_ahead (g.met.P.KeyPart.ahead_with_tuple d) each;
 }

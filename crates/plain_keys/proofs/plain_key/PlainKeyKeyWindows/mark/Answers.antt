@@ -14,7 +14,7 @@ returns-then-water-time-clause-taken g c =
       changes = λ kept marks fits.
           let none : changes_by_mark d s.key kept marks c.args.water c.args.time ≡ [] =
           (λ i. changes_by_mark d s.key (sym fits.0 i) (sym fits.1 i) c.args.water c.args.time)
-          ∙ mark_nothing d s.key s.kept s.marks c.args.water c.args.time c.windows-windows.ensures.limits c.vouch.ensures.lists c.if-water-time.true in
+          ∙ mark_nothing d s.key s.kept s.marks c.args.water c.args.time c.windows-windows.ensures.limits c.vouch.ensures.lists c.requires.in_time.within c.if-water-time.true in
           sym (append-nil c.args.out.now.items) ∙ ap (λ cs. c.args.out.now.items ++ cs) (sym none);
       capacity = refl;
       fits = λ kept marks fits. fits_mark d kept marks c.args.water c.args.time s c.mark_ahead.new.self c.look_ahead.new.self fits c.mark_ahead.ensures c.look_ahead.ensures.same c.look_ahead.ensures.ahead;

@@ -31,7 +31,7 @@ returns-then-water-x-clause-taken g c =
       changes = λ kept marks fits.
           let none : changes_by_put d s.key kept marks c.args.water x ≡ [] =
           (λ i. changes_by_put d s.key (sym fits.0 i) (sym fits.1 i) c.args.water x)
-          ∙ put_nothing d s.key s.kept s.marks c.args.water x c.windows-windows.ensures.limits c.vouch.ensures.lists c.if-water-x.true in
+          ∙ put_nothing d s.key s.kept s.marks c.args.water x c.windows-windows.ensures.limits c.vouch.ensures.lists c.requires.comes.in_time.within c.if-water-x.true in
           sym (append-nil c.args.out.now.items) ∙ ap (λ cs. c.args.out.now.items ++ cs) (sym none);
       capacity = refl;
       fits = λ kept marks fits.

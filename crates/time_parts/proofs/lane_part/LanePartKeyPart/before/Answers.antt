@@ -2,8 +2,9 @@
 use Rattle.std.proofs.Common.{take, arith}
 use Rattle.agg_store.specs.Stored.{tuples_of}
 use Rattle.key_parts.specs.Calls.{window_at}
+use Rattle.time_parts.specs.Places.{stands_at}
 use Rattle.time_parts.proofs.LaneFacts.{told_of_all}
-use Rattle.time_parts.proofs.WindowFacts.{apart_at, stands_at}
+use Rattle.time_parts.proofs.WindowFacts.{apart_at}
 use Rattle.time_parts.proofs.lane_part.LanePartKeyPart.before.Goals as goal
 
 pub returns-clause-asked : goal.returns-clause-asked

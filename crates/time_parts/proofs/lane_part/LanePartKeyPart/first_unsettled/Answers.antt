@@ -5,7 +5,8 @@ use Rattle.window_laws.specs.Settled.{without_first}
 use Rattle.window_laws.specs.Walk.{next_start_of}
 use Rattle.key_parts.specs.Calls.{window_at, window_kind}
 use Rattle.key_parts.specs.Moves.{SettlesUpTo}
-use Rattle.time_parts.proofs.WindowFacts.{rest_settles, stands_at}
+use Rattle.time_parts.specs.Places.{stands_at}
+use Rattle.time_parts.proofs.WindowFacts.{rest_settles}
 use Rattle.time_parts.proofs.lane_part.LanePartKeyPart.first_unsettled.Goals as goal
 
 pub returns-clause-settles : goal.returns-clause-settles

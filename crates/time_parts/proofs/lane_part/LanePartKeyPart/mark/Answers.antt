@@ -3,9 +3,10 @@ use Rattle.std.proofs.Common.{◌≡◌, ◌∙◌, ◌++◌, ap, sym, subst, ap
 use Rattle.time_lanes.specs.Lane.{Knows, MissesNoSlice, Laned}
 use Rattle.time_lanes.proofs.StayFacts.{mark_stays}
 use Rattle.key_parts.specs.Calls.{window_at, window_kind}
+use Rattle.time_parts.specs.Places.{stands_at, timed_at}
 use Rattle.time_parts.specs.Lanes.{Timed}
 use Rattle.time_parts.proofs.LaneFacts.{mark_changes_nothing}
-use Rattle.time_parts.proofs.WindowFacts.{stands_at, timed_at, within_at}
+use Rattle.time_parts.proofs.WindowFacts.{within_at}
 use Rattle.time_parts.proofs.lane_part.LanePartKeyPart.mark.Goals as goal
 
 pub returns-clause-stands : goal.returns-clause-stands

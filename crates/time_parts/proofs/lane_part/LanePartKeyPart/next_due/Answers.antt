@@ -10,9 +10,11 @@ use Rattle.window_laws.specs.Due.{first_open}
 use Rattle.window_laws.specs.Settled.{without_first}
 use Rattle.window_laws.proofs.LeaveChanges.{leaves_at_move}
 use Rattle.key_parts.specs.Calls.{window_at}
+use Rattle.time_parts.specs.Places.{member_at, stands_at, timed_at}
+use Rattle.time_parts.specs.Untold.{counts_not}
 use Rattle.time_parts.proofs.DueFacts.{due_at, none_ever, timed_early}
-use Rattle.time_parts.proofs.LaneFacts.{counts_not, none_due}
-use Rattle.time_parts.proofs.WindowFacts.{kept_without, member_at, stands_at, timed_at, within_at}
+use Rattle.time_parts.proofs.LaneFacts.{none_due}
+use Rattle.time_parts.proofs.WindowFacts.{kept_without, within_at}
 use Rattle.time_parts.proofs.lane_part.LanePartKeyPart.next_due.Goals as goal
 
 pub returns-clause-none_before : goal.returns-clause-none_before

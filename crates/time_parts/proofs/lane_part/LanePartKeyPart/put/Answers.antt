@@ -8,9 +8,11 @@ use Rattle.time_lanes.specs.Late.{complete_holding}
 use Rattle.time_lanes.proofs.ServedFacts.{same_window}
 use Rattle.time_lanes.proofs.StayFacts.{tuple_stays}
 use Rattle.key_parts.specs.Calls.{window_at, window_kind}
+use Rattle.time_parts.specs.Places.{stands_at, timed_at}
+use Rattle.time_parts.specs.Untold.{taken_in}
 use Rattle.time_parts.specs.Lanes.{Timed, late_room}
-use Rattle.time_parts.proofs.LaneFacts.{changed_of_all, is_late, taken_in, timed_work, told_number}
-use Rattle.time_parts.proofs.WindowFacts.{stands_at, timed_at, within_at}
+use Rattle.time_parts.proofs.LaneFacts.{changed_of_all, is_late, timed_work, told_number}
+use Rattle.time_parts.proofs.WindowFacts.{within_at}
 use Rattle.time_parts.proofs.lane_part.LanePartKeyPart.put.Goals as goal
 
 pub late-requires-clause-sliced : goal.late-requires-clause-sliced

@@ -1,7 +1,7 @@
 -- The lane makes room for the slices that it takes up, and stays as it was.
 use Rattle.std.proofs.Common.{rules}
 use Rattle.key_parts.specs.Calls.{window_at}
-use Rattle.time_parts.proofs.WindowFacts.{stands_at}
+use Rattle.time_parts.specs.Places.{stands_at}
 use Rattle.time_parts.proofs.lane_part.LanePartKeyPart.reserve_water.Goals as goal
 
 pub returns : goal.returns

@@ -3,8 +3,9 @@ use Rattle.std.proofs.Common.{arith, inl, inr}
 use Rattle.std.proofs.lemmas.Bool.{cases_lt}
 use Rattle.stream_base.specs.Kinds.{length_of, slide_of}
 use Rattle.key_parts.specs.Calls.{window_at, window_kind}
+use Rattle.time_parts.specs.Places.{stands_at}
 use Rattle.time_parts.specs.Lanes.{open_from}
-use Rattle.time_parts.proofs.WindowFacts.{before_is_settled, rest_settles, settled_is_before, span_at, stands_at}
+use Rattle.time_parts.proofs.WindowFacts.{before_is_settled, rest_settles, settled_is_before, span_at}
 use Rattle.time_parts.proofs.lane_part.LanePartKeyPart.settled_by.Goals as goal
 
 pub returns-clause-before : goal.returns-clause-before

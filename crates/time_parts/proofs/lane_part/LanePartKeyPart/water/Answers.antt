@@ -8,9 +8,10 @@ use Rattle.time_lanes.specs.Lane.{Knows, MissesNoSlice, Laned}
 use Rattle.time_lanes.specs.Moves.{MayMove}
 use Rattle.key_parts.specs.Calls.{window_at, window_kind}
 use Rattle.key_parts.specs.Work.{row_work}
+use Rattle.time_parts.specs.Places.{stands_at, timed_at}
 use Rattle.time_parts.specs.Lanes.{Timed, slices_completed, slices_of_last}
 use Rattle.time_parts.proofs.LaneFacts.{completed_of_all, timed_row, timed_slice}
-use Rattle.time_parts.proofs.WindowFacts.{apart_above, stands_at, timed_at}
+use Rattle.time_parts.proofs.WindowFacts.{apart_above}
 use Rattle.time_parts.proofs.lane_part.LanePartKeyPart.water.Goals as goal
 
 pub returns-clause-changes : goal.returns-clause-changes
